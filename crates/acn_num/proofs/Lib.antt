@@ -1,0 +1,6 @@
+pub mod Members
+pub mod Order
+pub mod Turns
+pub mod Nth
+pub mod Halves
+pub mod Octets

@@ -1,0 +1,4 @@
+pub mod formers
+pub mod Bits
+pub mod Ranges
+pub mod Widths

@@ -1,0 +1,276 @@
+ghost use Rattle.std.specs.Prelude.{◌≡◌, ◌↔◌, ℤ, ◌≤ℤ◌, [], ◌∷◌, IfOk, ◌||◌, ◌&&◌, not, ◌++◌, ◌<◌, ◌^◌, ◌-ℤ◌, pos, OnOk, MatchOption, ℕ, true, false};
+ghost use Rattle.std.specs.Int.{int_max, int_min};
+ghost use Rattle.acn_num.specs.Ranges as spec;
+ghost use Rattle.acn_num.specs.Ranges.{has, AreRanges, IsRange, some_range, clip, outside_from, size_of, count, nth, among, IsUnion, IsMeet, IsExcept, IsLeastExcept, SameNumbersSameSet, EachHasAPlace, NumbersRise, bottom, top, outside, meet, union, except, least, greatest};
+
+use crate::NoMemory;
+use std::alloc::Global;
+use std::marker::Model;
+
+const BOTTOM: i128 = -9223372036854775809;
+
+const TOP: i128 = 18446744073709551616;
+
+/// A set of whole numbers from `-2^63 - 1` to `2^64`, which contracts see as its ranges in ascending order.
+#[derive(Debug, Drop)]
+pub struct RangeSet {
+    ranges: Vec<(i128, i128)>,
+}
+
+impl Model for RangeSet {
+    ghost use Rattle.std.specs.Prelude.{List, ℤ};
+    ghost use Rattle.acn_num.specs.Ranges.{AreRanges};
+
+    ghost Value = { List (ℤ × ℤ) };
+
+    ghost view = { λ set. set.ranges.items };
+
+    ghost invariant = { λ set. AreRanges set.ranges.items };
+}
+
+// Whether the number lies between the two ends.
+fn is_in(x: &i128, range: &(i128, i128)) -> bool
+    ensures { result ≡ spec.is_in x.now range.now }
+{
+    range.0 <= *x && *x <= range.1
+}
+
+impl RangeSet {
+    /// The set without numbers. It takes no memory.
+    pub fn empty(alloc: Global) -> RangeSet
+        ensures { result ≡ [] }
+    {
+        RangeSet {
+            ranges: Vec::new(alloc),
+        }
+    }
+
+    /// The numbers from `low` to `high`.
+    pub fn one(alloc: Global, low: i128, high: i128) -> Result<RangeSet, NoMemory>
+        requires order { low ≤ℤ high }
+        requires above { bottom ≤ℤ low }
+        requires below { high ≤ℤ top }
+        ensures { IfOk result (λ s. s ≡ (low, high) ∷ []) }
+    {
+        let mut ranges = Vec::new(alloc);
+        ranges.push((low, high))?;
+        Ok(RangeSet { ranges })
+    }
+
+    /// The least number, where there is one.
+    pub fn least(&self) -> Option<i128>
+        ensures { result ≡ least self.now }
+    {
+        match self.ranges.first() {
+            Some(range) => Some(range.0),
+            None => None,
+        }
+    }
+
+    /// The greatest number, where there is one.
+    pub fn greatest(&self) -> Option<i128>
+        ensures { result ≡ greatest self.now }
+    {
+        match self.ranges.last() {
+            Some(range) => Some(range.1),
+            None => None,
+        }
+    }
+
+    /// Whether the number is in the set.
+    pub fn holds(&self, x: i128) -> bool
+        ensures { result ≡ has self.now x }
+    {
+        for r in &self.ranges {
+            if is_in(&x, r) {
+                return true;
+            }
+        }
+        false
+    }
+
+    // The numbers between the ends that aren't in the set.
+    fn outside(&self, alloc: Global) -> Result<RangeSet, NoMemory>
+        ensures ranges { IfOk result (λ s. s ≡ outside self.now) }
+        ensures ordered { AreRanges self.now }
+    {
+        let mut ranges = Vec::new(alloc);
+        let mut below = BOTTOM - 1;
+        for r in &self.ranges {
+            add_gap(&mut ranges, &below, &r.0)?;
+            below = r.1;
+        }
+        add_gap(&mut ranges, &below, &(TOP + 1))?;
+        Ok(RangeSet { ranges })
+    }
+
+    /// The numbers that both sets hold.
+    pub fn meet(&self, alloc: Global, other: &RangeSet) -> Result<RangeSet, NoMemory>
+        ensures ranges { IfOk result (λ s. s ≡ meet self.now other.now) }
+        ensures numbers { IfOk result (λ s. IsMeet self.now other.now s) }
+        ensures ordered { AreRanges self.now × AreRanges other.now }
+    {
+        let mut ranges = Vec::new(alloc);
+        for r in &self.ranges {
+            clip_into(&mut ranges, r, &other.ranges)?;
+        }
+        Ok(RangeSet { ranges })
+    }
+
+    /// The numbers of this set that the other doesn't hold.
+    pub fn except(&self, alloc: Global, other: &RangeSet) -> Result<RangeSet, NoMemory>
+        ensures ranges { IfOk result (λ s. s ≡ except self.now other.now) }
+        ensures numbers { IfOk result (λ s. IsExcept self.now other.now s) }
+    {
+        let rest = other.outside(alloc)?;
+        self.meet(alloc, &rest)
+    }
+
+    /// The numbers that one of the sets holds, or both.
+    pub fn union(&self, alloc: Global, other: &RangeSet) -> Result<RangeSet, NoMemory>
+        ensures ranges { IfOk result (λ s. s ≡ union self.now other.now) }
+        ensures numbers { IfOk result (λ s. IsUnion self.now other.now s) }
+    {
+        let left = self.outside(alloc)?;
+        let right = other.outside(alloc)?;
+        let neither = left.meet(alloc, &right)?;
+        neither.outside(alloc)
+    }
+
+    /// The same set again.
+    pub fn copy(&self, alloc: Global) -> Result<RangeSet, NoMemory>
+        ensures { IfOk result (λ set. set ≡ self.now) }
+    {
+        let ranges = Vec::from_slice(alloc, &self.ranges)?;
+        Ok(RangeSet { ranges })
+    }
+
+    /// How many numbers there are.
+    pub fn count(&self) -> u128
+        ensures { result ≡ count self.now }
+    {
+        let mut total = 0u128;
+        for r in &self.ranges {
+            total += size(r);
+        }
+        total
+    }
+
+    /// The number at a place from the least one on.
+    pub fn nth(&self, n: u128) -> Option<i128>
+        ensures { result ≡ nth self.now n }
+    {
+        let mut left = n;
+        for r in &self.ranges {
+            let size = size(r);
+            if left < size {
+                return Some(r.0 + left as i128);
+            }
+            left -= size;
+        }
+        None
+    }
+
+    /// The least number that isn't among the avoided ones.
+    pub fn least_except(&self, avoided: &[i128]) -> Option<i128>
+        ensures { MatchOption result ((x : ℤ) → has self.now x ≡ true → among avoided.now x ≡ true) (λ x. IsLeastExcept self.now avoided.now x) }
+    {
+        let _ranges = &self.ranges;
+        let count = self.count();
+        let mut place = 0u128;
+        while place < count {
+            match self.nth(place) {
+                None => return None,
+                Some(x) => {
+                    if !is_among(&x, avoided) {
+                        return Some(x);
+                    }
+                    place += 1;
+                }
+            }
+        }
+        None
+    }
+}
+
+// Whether the number is among these.
+fn is_among(x: &i128, others: &[i128]) -> bool
+    ensures { result ≡ among others.now x.now }
+{
+    for other in others {
+        if *other <= *x && *x <= *other {
+            return true;
+        }
+    }
+    false
+}
+
+// How many numbers a range has.
+fn size(range: &(i128, i128)) -> u128
+    requires { IsRange range.now }
+    ensures value { result ≡ size_of range.now }
+    ensures small { result < 2 ^ 66 }
+{
+    (range.1 - range.0 + 1) as u128
+}
+
+// Adds a range, if it isn't empty.
+fn add(ranges: &mut Vec<(i128, i128)>, low: &i128, high: &i128) -> Result<(), NoMemory>
+    ensures { OnOk result (ranges.new.items ≡ ranges.old.items ++ some_range low.now high.now) }
+{
+    if *low <= *high {
+        ranges.push((*low, *high))?;
+    }
+    Ok(())
+}
+
+// Adds the numbers between these two.
+fn add_gap(ranges: &mut Vec<(i128, i128)>, below: &i128, above: &i128) -> Result<(), NoMemory>
+    requires low { (bottom -ℤ pos 1) ≤ℤ below.now }
+    requires high { below.now ≤ℤ top }
+    requires second_low { bottom ≤ℤ above.now }
+    ensures { OnOk result (ranges.new.items ≡ ranges.old.items ++ spec.gap below.now above.now) }
+{
+    add(ranges, &(*below + 1), &(*above - 1))
+}
+
+fn greater<'a>(a: &'a i128, b: &'a i128) -> &'a i128
+    ensures { result.now ≡ int_max a.now b.now }
+{
+    if *b < *a { a } else { b }
+}
+
+fn less<'a>(a: &'a i128, b: &'a i128) -> &'a i128
+    ensures { result.now ≡ int_min a.now b.now }
+{
+    if *b < *a { b } else { a }
+}
+
+// Adds what a range shares with each of the others.
+fn clip_into(
+    ranges: &mut Vec<(i128, i128)>,
+    range: &(i128, i128),
+    others: &[(i128, i128)],
+) -> Result<(), NoMemory>
+    ensures { OnOk result (ranges.new.items ≡ ranges.old.items ++ clip range.now others.now) }
+{
+    for other in others {
+        add(
+            ranges,
+            greater(&range.0, &other.0),
+            less(&range.1, &other.1),
+        )?;
+    }
+    Ok(())
+}
+
+/// Two sets with the same numbers are the same.
+pub fn same_numbers_same_set()
+    ensures { SameNumbersSameSet }
+{}
+
+/// Each number of a set stands at a place, and the numbers rise with their places.
+pub fn places_name_each_number_once()
+    ensures each { EachHasAPlace }
+    ensures rises { NumbersRise }
+{}
