@@ -1,0 +1,124 @@
+-- The steps that every parser is made of. What a parser reads is a list of tokens.
+use Rattle.std.specs.Prelude.{◌≡◌, ℕ, zero, suc, Bool, true, false, ◌&&◌, if◌then◌else◌, List, [], ◌∷◌, ◌++◌, length, Option, Some, None, option_and_then, Result, Ok, Err}
+use Rattle.std.specs.Str.{bytes_eq}
+use Rattle.acn_lex.specs.declared.Kind.{Kind}
+use Rattle.acn_lex.specs.declared.Kind.TheVariants.{Word, Number}
+use Rattle.acn_lex.specs.Number.{number_in}
+use Rattle.acn_lex.specs.Lexeme.{Lexeme, same_kind}
+use Rattle.acn_cursor.specs.declared.fault.ParseFault.{ParseFault}
+use Rattle.acn_cursor.specs.declared.fault.ParseFault.TheVariants.{Syntax, TooDeep, LeftOut, NoMemory}
+
+abbrev pub Parser : Type 0 → Type 0
+Parser A = List Lexeme → Option (A × List Lexeme)
+
+abbrev pub and_then : {A B : Type 0} → Option (A × List Lexeme) → (A → Parser B) → Option (B × List Lexeme)
+and_then None f = None
+and_then (Some p) f = f p.0 p.1
+
+infixl 10 ◌>>=◌
+abbrev pub ◌>>=◌ : {A B : Type 0} → Parser A → (A → Parser B) → Parser B
+p >>= f = λ ts. and_then (p ts) f
+
+infixl 10 ◌>>◌
+abbrev pub ◌>>◌ : {A B : Type 0} → Parser A → Parser B → Parser B
+p >> q = p >>= (λ _. q)
+
+abbrev pub pure : {A : Type 0} → A → Parser A
+pure a = λ ts. Some (a, ts)
+
+abbrev pub refuse : {A : Type 0} → Parser A
+refuse = λ _. None
+
+abbrev pub token : Kind → List ℕ → Lexeme
+token k text = record { kind = k; text = text }
+
+-- a token that may be written
+abbrev pub given : Bool → Lexeme → List Lexeme
+given true t = t ∷ []
+given false t = []
+
+-- a token of this kind and text comes next
+unfoldable pub sees : Kind → List ℕ → List Lexeme → Bool
+sees k text [] = false
+sees k text (t ∷ ts) = same_kind t.kind k && bytes_eq t.text text
+
+-- the tokens behind the next
+abbrev pub behind : List Lexeme → List Lexeme
+behind [] = []
+behind (t ∷ ts) = ts
+
+unfoldable pub after : Kind → List ℕ → List Lexeme → List Lexeme
+after k text ts = if sees k text ts then behind ts else ts
+
+-- takes that token, if it comes next
+unfoldable pub eat : Kind → List ℕ → Parser Bool
+eat k text = λ ts. Some (sees k text ts, after k text ts)
+
+unfoldable pub expect : Kind → List ℕ → Parser (Unit {0})
+expect k text = λ ts. if sees k text ts then Some (tt, behind ts) else None
+
+-- the text of the next token, if it is of this kind
+unfoldable pub text_of : Kind → List Lexeme → Option (List ℕ)
+text_of k [] = None
+text_of k (t ∷ ts) = if same_kind t.kind k then Some t.text else None
+
+-- takes a word with a text that passes
+abbrev pub taken_if : {A : Type 0} → Option A → Parser A
+taken_if None = refuse
+taken_if (Some a) = λ ts. Some (a, behind ts)
+
+abbrev pub passing : (List ℕ → Bool) → List ℕ → Option (List ℕ)
+passing test text = if test text then Some text else None
+
+unfoldable pub word : (List ℕ → Bool) → Parser (List ℕ)
+word test = λ ts. taken_if (option_and_then (passing test) (text_of Word ts)) ts
+
+unfoldable pub number : Parser ℕ
+number = λ ts. taken_if (option_and_then number_in (text_of Number ts)) ts
+
+-- Items while a test of what is left says so. The number bounds the turns.
+abbrev pub repeat : {A : Type 0} → (List Lexeme → Bool) → Parser A → ℕ → Parser (List A)
+repeat goes item zero ts = Some ([], ts)
+repeat goes item (suc n) ts = if goes ts then and_then (item ts) (λ x. repeat goes item n >>= (λ xs. pure (x ∷ xs))) else Some ([], ts)
+
+-- what was read before, and then this
+abbrev pub with_front : {A : Type 0} → List A → Option (List A × List Lexeme) → Option (List A × List Lexeme)
+with_front front None = None
+with_front front (Some p) = Some (front ++ p.0, p.1)
+
+-- each turn takes a token, so that the count of tokens is enough
+abbrev pub many : {A : Type 0} → (List Lexeme → Bool) → Parser A → Parser (List A)
+many goes item = λ ts. repeat goes item (length ts) ts
+
+abbrev pub IsSyntax : ParseFault → Type 0
+IsSyntax (Syntax _) = Unit {0}
+IsSyntax (TooDeep _) = ⊥
+IsSyntax (LeftOut _) = ⊥
+IsSyntax NoMemory = ⊥
+
+-- what a function that parses ensures: the parser's outcome, unless memory fails
+abbrev pub Fails : {A : Type 0} → Option (A × List Lexeme) → ParseFault → Type 0
+Fails outcome (Syntax _) = outcome ≡ None
+Fails outcome (TooDeep _) = ⊥
+Fails outcome (LeftOut _) = ⊥
+Fails outcome NoMemory = Unit {0}
+
+abbrev pub Reads : {A : Type 0} → Option (A × List Lexeme) → Result A ParseFault → List Lexeme → Type 0
+Reads outcome (Ok a) new = outcome ≡ Some (a, new)
+Reads outcome (Err e) new = Fails outcome e
+
+-- the answer of a parser that has to take all tokens
+abbrev pub is_whole : {A : Type 0} → Option (A × List Lexeme) → Option A
+is_whole None = None
+is_whole (Some (a, [])) = Some a
+is_whole (Some (a, t ∷ ts)) = None
+
+abbrev pub Refused : {A : Type 0} → Option A → ParseFault → Type 0
+Refused outcome (Syntax _) = outcome ≡ None
+Refused outcome (TooDeep _) = ⊥
+Refused outcome (LeftOut _) = ⊥
+Refused outcome NoMemory = Unit {0}
+
+abbrev pub Whole : {A : Type 0} → Option (A × List Lexeme) → Result A ParseFault → Type 0
+Whole outcome (Ok a) = is_whole outcome ≡ Some a
+Whole outcome (Err e) = Refused (is_whole outcome) e
