@@ -1,3 +1,4 @@
+use acn_num::NoMemory;
 use std::alloc::{AllocError, AllocFailed};
 
 /// Why there is no tree.
@@ -27,6 +28,17 @@ impl<T: Drop> From<AllocFailed<T>> for ParseFault {
     ghost from_gives = { λ _ e. e ≡ NoMemory };
 
     fn from(_: AllocFailed<T>) -> ParseFault {
+        ParseFault::NoMemory
+    }
+}
+
+impl From<NoMemory> for ParseFault {
+    ghost use Rattle.std.specs.Prelude.{◌≡◌};
+    ghost use Rattle.acn_cursor.specs.declared.fault.ParseFault.TheVariants as fault;
+
+    ghost from_gives = { λ _ e. e ≡ fault.NoMemory };
+
+    fn from(_: NoMemory) -> ParseFault {
         ParseFault::NoMemory
     }
 }
