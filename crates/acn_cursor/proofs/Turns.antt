@@ -1,10 +1,10 @@
 -- A loop that reads items, beside `many`.
-use Rattle.std.proofs.Common.{◌≡◌, ℕ, zero, suc, ◌+◌, ◌-◌, ◌<◌, ◌≤◌, Bool, true, false, cond, List, [], ◌∷◌, ◌++◌, length, Option, Some, None, refl, sym, ap, subst, ◌∙◌, append_assoc, arith}
+use Rattle.std.proofs.Common.{◌≡◌, ℕ, zero, suc, ◌+◌, ◌-◌, ◌<◌, ◌≤◌, Bool, true, false, List, [], ◌∷◌, ◌++◌, Option, Some, None, refl, sym, ap, ◌∙◌, append_assoc, arith}
 use Rattle.std.proofs.lemmas.List.{append-nil}
 use Rattle.acn_lex.specs.Lexeme.{Lexeme}
 use Rattle.acn_cursor.specs.declared.fault.ParseFault.{ParseFault}
 use Rattle.acn_cursor.specs.declared.fault.ParseFault.TheVariants.{Syntax, TooDeep, LeftOut, NoMemory}
-use Rattle.acn_cursor.specs.Steps.{Parser, and_then, ◌>>=◌, pure, repeat, with_front, Fails, Reads}
+use Rattle.acn_cursor.specs.Steps.{Parser, and_then, pure, repeat, with_front, Fails}
 
 module _ {A : Type 0} (goes : List Lexeme → Bool) (item : Parser A) where
   abbrev pub left_of : ℕ → ℕ → List Lexeme → Option (List A × List Lexeme)

@@ -1,12 +1,16 @@
 use acn_num::NoMemory;
 use std::alloc::{AllocError, AllocFailed};
 
-/// Why there is no tree.
+/// Why there is no tree. `at` is the number of a token, from 0.
 #[derive(Clone, Copy, Debug, PartialEq, Eq)]
 pub enum ParseFault {
+    /// No tree has these tokens. Reading stopped at this token, or behind the last.
     Syntax { at: u32 },
+    /// This token is the first whose level is over 64.
     TooDeep { at: u32 },
+    /// This token is the first of the words that this profile leaves out.
     LeftOut { at: u32 },
+    /// Memory ran out.
     NoMemory,
 }
 

@@ -2,38 +2,44 @@
 #![tactic(auto)]
 
 mod fault;
+mod screens;
 
-pub use fault::ParseFault;
-
-ghost use Rattle.std.specs.Prelude.{◌≡◌, [], ◌∷◌, length, MatchOption, Some};
+ghost use Rattle.std.specs.Prelude.{◌≡◌, ◌^◌, ◌<◌, [], ◌∷◌, length, MatchOption, Some};
 ghost use Rattle.std.specs.Option.{option_copied};
 ghost use Rattle.acn_lex.specs.Lexeme.{lexemes, lexeme};
 ghost use Rattle.acn_cursor.specs.Steps as spec;
 ghost use Rattle.acn_cursor.specs.Steps.{Reads, IsSyntax};
 
 use acn_lex::{Kind, Token, number_of, same_kind};
+pub use fault::ParseFault;
+pub use screens::{Level, Written, left_out, screened, too_deep};
 use std::marker::Model;
 
-/// The tokens that are left to read.
+/// The tokens that are left to read, and the number of the next one.
 #[derive(Drop)]
 pub struct Cursor<'a> {
     tokens: &'a [Token<'a>],
+    at: u32,
 }
 
 impl<'a> Model for Cursor<'a> {
-    ghost use Rattle.std.specs.Prelude.{List};
+    ghost use Rattle.std.specs.Prelude.{List, ◌+◌, ◌^◌, ◌<◌, length};
     ghost use Rattle.acn_lex.specs.Lexeme.{Lexeme, lexemes};
 
     ghost Value = { List Lexeme };
 
     ghost view = { λ c. lexemes c.tokens.now };
+
+    ghost invariant = { λ c. c.at + length c.tokens.now < 2 ^ 32 };
 }
 
 impl<'a> Cursor<'a> {
+    /// A cursor before the first of these tokens.
     pub fn new(tokens: &'a [Token<'a>]) -> Cursor<'a>
+        requires { length tokens.now < 2 ^ 32 }
         ensures { result ≡ lexemes tokens.now }
     {
-        Cursor { tokens }
+        Cursor { tokens, at: 0 }
     }
 
     /// Takes the next token, if there is one.
@@ -44,6 +50,7 @@ impl<'a> Cursor<'a> {
             [] => None,
             [first, rest @ ..] => {
                 self.tokens = rest;
+                self.at += 1;
                 Some(*first)
             }
         }
@@ -72,6 +79,7 @@ impl<'a> Cursor<'a> {
         found
     }
 
+    /// Takes the next token, which has to be of this kind and text.
     #[tactic(auto, unfolding(crate::specs::Steps::expect))]
     pub fn expect(&mut self, kind: Kind, text: &[u8]) -> Result<(), ParseFault>
         ensures { Reads (spec.expect kind text.now self.old) result self.new }
@@ -115,6 +123,7 @@ impl<'a> Cursor<'a> {
         self.take();
     }
 
+    /// Takes the next token, which has to be a number.
     #[tactic(auto, unfolding(crate::specs::Steps::number))]
     pub fn number(&mut self) -> Result<u64, ParseFault>
         ensures { Reads (spec.number self.old) result self.new }
@@ -131,14 +140,10 @@ impl<'a> Cursor<'a> {
         }
     }
 
-    /// That no rule reads the next token.
+    /// That no rule reads the next token. It keeps the token's number, which behind the last is the count of tokens.
     pub fn refuse(&self) -> ParseFault
         ensures { IsSyntax result }
     {
-        let at = match self.tokens {
-            [] => 0,
-            [first, ..] => first.at,
-        };
-        ParseFault::Syntax { at }
+        ParseFault::Syntax { at: self.at }
     }
 }
