@@ -14,7 +14,7 @@ use Rattle.acn_acn_syntax.specs.declared.maps.Signed.{Signed}
 use Rattle.acn_acn_syntax.specs.declared.maps.MapLine.{MapLine}
 use Rattle.acn_acn_syntax.specs.declared.maps.MapTable.{MapTable}
 use Rattle.acn_acn_syntax.specs.declared.maps.MapTables.{MapTables}
-use Rattle.acn_acn_syntax.specs.MapTokens.{signed_tokens, last_tokens, line_tokens, table_tokens, tokens_of, is_identifier, IsSigned, IsLine, IsTable, IsProper, IsOnly}
+use Rattle.acn_acn_syntax.specs.MapTokens.{signed_tokens, last_tokens, line_tokens, table_tokens, tokens_of, is_identifier, IsSigned, IsLine, IsTable, IsProper}
 use Rattle.acn_acn_parse.specs.MapReading.{signed, last_if, last, line, has_line, table, has_more, tables}
 
 -- ---- numbers
@@ -160,32 +160,3 @@ tables_from (t ∷ ts) some fits =
 -- each proper tree is read from its tokens
 pub tables_again : (t : MapTables) → IsProper t → tables (tokens_of t) ≡ Some (t, [])
 tables_again t fits = tables_from t.tables fits.some fits.tables
-
--- ---- what the whole parser answers
-
-is_whole_found : (o : Option (MapTables × List Lexeme)) (t : MapTables) → is_whole o ≡ Some t → o ≡ Some (t, [])
-is_whole_found None t e = absurd cc
-is_whole_found (Some (a, [])) t e = ap (λ (o : Option MapTables). option_and_then (λ a. Some (a, [])) o) e
-is_whole_found (Some (a, x ∷ xs)) t e = absurd cc
-
-pub whole_found : (ts : List Lexeme) (r : Result MapTables ParseFault) → Whole (tables ts) r → IfOk r (λ t. IsProper t × (ts ≡ tokens_of t))
-whole_found ts (Ok t) h =
-    let k = tables_found ts t [] (is_whole_found (tables ts) t h) in
-    (k.fits, k.parts ∙ append-nil (tokens_of t))
-whole_found ts (Err e) h = tt
-
-refused_only : (e : ParseFault) (o : Option MapTables) (t : MapTables) → Refused o e → o ≡ Some t → e ≡ NoMemory
-refused_only (Syntax _) o t h p = absurd cc
-refused_only (TooDeep _) o t h p = absurd h
-refused_only (LeftOut _) o t h p = absurd h
-refused_only NoMemory o t h p = refl
-
-pub whole_only : (ts : List Lexeme) (r : Result MapTables ParseFault) → Whole (tables ts) r → (t : MapTables) → IsProper t → ts ≡ tokens_of t → IsOnly r t
-whole_only ts r h t fits e = by_result r h
-  where
-    read : is_whole (tables ts) ≡ Some t
-    read = rw e (ap is_whole (tables_again t fits))
-
-    by_result : (r : Result MapTables ParseFault) → Whole (tables ts) r → IsOnly r t
-    by_result (Ok x) h = let k : Some x ≡ Some t = sym h ∙ read in cc
-    by_result (Err f) h = refused_only f (is_whole (tables ts)) t h read

@@ -1,14 +1,15 @@
-ghost use Rattle.std.specs.Prelude.{◌≡◌, IfOk};
+ghost use Rattle.std.specs.Prelude.{◌≡◌, ◌^◌, ◌<◌, [], ◌∷◌, length, IfOk};
 ghost use Rattle.acn_cursor.specs.Steps.{Reads, Whole, many, word};
 ghost use Rattle.acn_lex.specs.Lexeme.{lexemes};
 ghost use Rattle.acn_acn_syntax.specs.declared.maps.MapTables.{MapTables};
+ghost use Rattle.acn_cursor.specs.Exact.{IsFound, IsOnly, IsLeftOut, IsTooDeep};
 ghost use Rattle.acn_acn_parse.specs.MapReading as spec;
 ghost use Rattle.acn_acn_syntax.specs.MapTokens as spelling;
 
-use crate::tree::{MapLine, MapTable, MapTables, Signed};
-use acn_cursor::{Cursor, ParseFault};
+use acn_acn_syntax::{MapLine, MapTable, MapTables, Signed};
+use acn_cursor::{Cursor, ParseFault, screened};
 use acn_lex::{Kind, Token, Tokens};
-use acn_num::{Name, Row};
+use acn_num::{Name, NoMemory, Row};
 use std::alloc::Global;
 
 #[tactic(auto, unfolding(crate::specs::MapReading::signed))]
@@ -107,19 +108,28 @@ fn all_tables(alloc: Global, cursor: &mut Cursor<'_>) -> Result<Row<MapTable>, P
     Ok(tables)
 }
 
+// The first table and those behind it.
+fn joined(alloc: Global, first: MapTable, more: Row<MapTable>) -> Result<Row<MapTable>, NoMemory>
+    ensures { IfOk result (λ all. all ≡ first ∷ more) }
+{
+    let mut all = Vec::new(alloc);
+    all.push(first)?;
+    all.append(&mut more.into_vec())?;
+    Ok(Row::from_vec(all))
+}
+
 #[tactic(auto, unfolding(crate::specs::MapReading::tables))]
 fn tables(alloc: Global, cursor: &mut Cursor<'_>) -> Result<MapTables, ParseFault>
     ensures { Reads (spec.tables cursor.old) result cursor.new }
 {
     let first = table(alloc, cursor)?;
     let more = all_tables(alloc, cursor)?;
-    let mut tables = Row::new(alloc);
-    tables.push(first)?;
-    tables.append(more)?;
+    let tables = joined(alloc, first, more)?;
     Ok(MapTables { tables })
 }
 
 fn whole(alloc: Global, tokens: &[Token<'_>]) -> Result<MapTables, ParseFault>
+    requires { length tokens.now < 2 ^ 32 }
     ensures { Whole (spec.tables (lexemes tokens.now)) result }
 {
     let mut cursor = Cursor::new(tokens);
@@ -131,10 +141,21 @@ fn whole(alloc: Global, tokens: &[Token<'_>]) -> Result<MapTables, ParseFault>
     }
 }
 
-/// The tables whose tokens these are.
+/// The tables of a mapping file, from its tokens, of which there are fewer than `2^32`.
+///
+/// `Ok` is the one proper tree that has these tokens. `TooDeep` comes exactly where the level of a token is over 64,
+/// and `Syntax` exactly where no level is and no proper tree has these tokens; each keeps its token's number. No word
+/// is left out of mapping files.
 pub fn parse_map(alloc: Global, tokens: &Tokens<'_>) -> Result<MapTables, ParseFault>
-    ensures found { IfOk result (λ t. spelling.IsProper t × (lexemes tokens.now.list.items ≡ spelling.tokens_of t)) }
-    ensures only { (t : MapTables) → spelling.IsProper t → lexemes tokens.now.list.items ≡ spelling.tokens_of t → spelling.IsOnly result t }
+    requires { length tokens.now.list < 2 ^ 32 }
+    ensures found { IsFound spelling.tokens_of spelling.IsProper (lexemes tokens.now.list) result }
+    ensures only { (t : MapTables) → spelling.IsProper t → lexemes tokens.now.list ≡ spelling.tokens_of t → IsOnly result t }
+    ensures left_out { IsLeftOut [] (lexemes tokens.now.list) result }
+    ensures too_deep { IsTooDeep [] (lexemes tokens.now.list) result }
 {
-    whole(alloc, &tokens.list)
+    let list = tokens.list.items();
+    match screened(list, &[]) {
+        Ok(()) => whole(alloc, list),
+        Err(fault) => Err(fault),
+    }
 }

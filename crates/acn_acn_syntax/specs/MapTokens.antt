@@ -1,7 +1,5 @@
--- The tokens of tables.
-use Rattle.std.specs.Prelude.{◌≡◌, ℕ, ◌^◌, ◌<◌, Bool, true, false, ◌&&◌, nat_le, if◌then◌else◌, List, [], ◌∷◌, ◌++◌, length, Option, Some, None, IfSome, codes, Result, Ok, Err}
-use Rattle.acn_cursor.specs.declared.fault.ParseFault.{ParseFault}
-use Rattle.acn_cursor.specs.declared.fault.ParseFault.TheVariants.{NoMemory}
+-- The tokens of mapping tables, and which trees of them are proper. Tables are this profile's own.
+use Rattle.std.specs.Prelude.{◌≡◌, ℕ, ◌^◌, ◌<◌, Bool, true, false, ◌&&◌, nat_le, if◌then◌else◌, List, [], ◌∷◌, ◌++◌, length, Option, Some, None, IfSome, codes}
 use Rattle.std.specs.List.{flat_map, AllByRecursion}
 use Rattle.std.specs.Fmt.{decimal}
 use Rattle.acn_lex.specs.declared.Kind.TheVariants.{Word, Number, Mark}
@@ -45,12 +43,7 @@ pub record IsTable (t : MapTable) : Type 0 where
   pub name : is_identifier t.name ≡ true
   pub lines : AllByRecursion IsLine t.lines
 
--- a proper tree
+-- A proper tree: there is a table, the names of tables begin with a lower-case letter, and numbers are below 2 ^ 64.
 pub record IsProper (t : MapTables) : Type 0 where
   pub some : 0 < length t.tables
   pub tables : AllByRecursion IsTable t.tables
-
--- the answer for tokens that are those of t
-abbrev pub IsOnly : Result MapTables ParseFault → MapTables → Type 0
-IsOnly (Ok x) t = x ≡ t
-IsOnly (Err e) t = e ≡ NoMemory
