@@ -2,7 +2,8 @@
 use Rattle.std.proofs.Common.{◌≡◌, ℕ, zero, suc, ◌+◌, ◌-◌, ◌<◌, ◌≤◌, Bool, true, false, ◌&&◌, ◌||◌, ◌==◌, cond, List, [], ◌∷◌, ◌++◌, length, take, drop, refl, sym, ap, subst, ◌∙◌, arith, ◌⊎◌, inl, inr}
 use Rattle.std.specs.Cmp.Derive.{both_true}
 use Rattle.std.specs.Char.{is_ascii_alphanumeric, is_ascii_alphabetic}
-use Rattle.acn_lex.specs.Scan.{starts_alnum, continues, word_len}
+use Rattle.acn_lex.specs.Scan.{word_len}
+use Rattle.acn_lex.specs.Bytes.{starts_alnum, continues}
 
 -- the form of a word behind its first letter: letters, digits and single hyphens, each before a letter or digit
 abbrev pub is_tail : List ℕ → Bool

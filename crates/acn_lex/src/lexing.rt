@@ -7,10 +7,13 @@ use crate::{Token, Tokens};
 use acn_num::Row;
 use std::alloc::Global;
 
+/// The most tokens that are taken.
+const MOST_TOKENS: usize = 1_000_000;
+
 /// The tokens of the bytes, in order.
 pub fn lex<'a>(alloc: Global, bytes: &'a [u8]) -> Result<Tokens<'a>, LexFault>
     requires { length bytes.now ≤ 16777216 }
-    ensures { spec.Gives (spec.lex_from (length bytes.now) 0 bytes.now) result }
+    ensures { spec.Gives (spec.lex_from (length bytes.now) 1000000 0 bytes.now) result }
 {
     let mut list = Row::new(alloc);
     let mut at = 0u32;
@@ -28,6 +31,9 @@ pub fn lex<'a>(alloc: Global, bytes: &'a [u8]) -> Result<Tokens<'a>, LexFault>
                 continue;
             }
             Step::Token(kind, k) => {
+                if list.items().len() == MOST_TOKENS {
+                    return Err(LexFault::TooManyTokens { at });
+                }
                 let (text, behind) = rest.split_at(k);
                 list.push(Token { kind, at, text })?;
                 at += k as u32;
