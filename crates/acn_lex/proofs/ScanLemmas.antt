@@ -36,7 +36,7 @@ starts_back zero bs e = absurd cc
 starts_back (suc m) [] e = absurd cc
 starts_back (suc m) (b ∷ bs) e = e
 
-continues_if : (b : ℕ) (bs cs : List ℕ) → (starts_alnum bs ≡ true → starts_alnum cs ≡ true) → continues b bs ≡ true → continues b cs ≡ true
+pub continues_if : (b : ℕ) (bs cs : List ℕ) → (starts_alnum bs ≡ true → starts_alnum cs ≡ true) → continues b bs ≡ true → continues b cs ≡ true
 continues_if b bs cs f e =
     elim (split (is_ascii_alphanumeric b) (b == 45 && starts_alnum bs) e) [
       | inl p ↦ rw p refl

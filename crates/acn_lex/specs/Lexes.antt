@@ -75,7 +75,7 @@ pub data IsLine : List ℕ → List ℕ → Type 0 where
   at_line_end : {b : ℕ} {rest : List ℕ} → is_line_end b ≡ true → IsLine (b ∷ []) rest
   at_hyphens : {rest : List ℕ} → IsLine (45 ∷ 45 ∷ []) rest
   at_end : IsLine [] []
-  passes : {b : ℕ} {bs rest : List ℕ} → is_line_end b ≡ false → starts_line_comment (b ∷ bs) ≡ false → IsLine bs rest → IsLine (b ∷ bs) rest
+  line_goes_on : {b : ℕ} {bs rest : List ℕ} → is_line_end b ≡ false → starts_line_comment (b ∷ bs) ≡ false → IsLine bs rest → IsLine (b ∷ bs) rest
 
 -- a slash and an asterisk stand in front
 abbrev pub starts_block : List ℕ → Bool
@@ -92,7 +92,7 @@ pub data IsBlock : ℕ → List ℕ → Type 0 where
   ends : IsBlock zero (42 ∷ 47 ∷ [])
   closes : {depth : ℕ} {bs : List ℕ} → IsBlock depth bs → IsBlock (suc depth) (42 ∷ 47 ∷ bs)
   opens : {depth : ℕ} {bs : List ℕ} → IsBlock (suc depth) bs → IsBlock depth (47 ∷ 42 ∷ bs)
-  passes : {depth b : ℕ} {bs : List ℕ} → starts_block (b ∷ bs) ≡ false → ends_block (b ∷ bs) ≡ false → IsBlock depth bs → IsBlock depth (b ∷ bs)
+  block_goes_on : {depth b : ℕ} {bs : List ℕ} → starts_block (b ∷ bs) ≡ false → ends_block (b ∷ bs) ≡ false → IsBlock depth bs → IsBlock depth (b ∷ bs)
 
 -- a byte of white space, or a whole comment
 pub data IsGap : List ℕ → List ℕ → Type 0 where
