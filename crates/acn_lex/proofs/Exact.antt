@@ -1,5 +1,5 @@
 -- The lexer answers the tokens of the bytes or their first fault, and each of these that holds is the one that it answers.
-use Rattle.std.proofs.Common.{◌≡◌, ℕ, zero, suc, ◌+◌, ◌-◌, ◌<◌, ◌≤◌, Bool, true, false, List, [], ◌∷◌, ◌++◌, length, take, drop, Result, Ok, Err, refl, sym, ap, subst, ◌∙◌, arith, append_assoc, length-append, ◌⊎◌, inl, inr}
+use Rattle.std.proofs.Common.{◌≡◌, ℕ, zero, suc, ◌+◌, ◌-◌, ◌<◌, ◌≤◌, Bool, true, false, List, [], ◌∷◌, ◌++◌, length, map, take, drop, Result, Ok, Err, IfOk, IfErr, ◌≢◌, refl, sym, ap, subst, ◌∙◌, arith, append_assoc, length-append, ◌⊎◌, inl, inr}
 use Rattle.std.proofs.lemmas.List.{append-nil}
 use Rattle.std.proofs.Math.Seq.{take-append_seam, drop-append_seam}
 use Rattle.acn_lex.specs.declared.Kind.{Kind}
@@ -9,9 +9,11 @@ use Rattle.acn_lex.specs.declared.scan.Step.TheVariants as step
 use Rattle.acn_lex.specs.declared.fault.LexFault.{LexFault}
 use Rattle.acn_lex.specs.declared.fault.LexFault.TheVariants as fault
 use Rattle.acn_lex.specs.Scan.{step_at}
-use Rattle.acn_lex.specs.Lexeme.{Placed}
-use Rattle.acn_lex.specs.Lexing.{Outcome, with_front, by_token, by_step, lex_from}
-use Rattle.acn_lex.specs.Lexes.{IsForm, IsToken, IsGap, white, line, block, IsMark, single, assignment, range, ellipsis, equality, Front, here, gap, token, Lexes, IsBad, IsUnclosed, IsTooWide, FaultsFrom}
+use Rattle.acn_lex.specs.declared.Token.{Token}
+use Rattle.acn_lex.specs.declared.Tokens.{Tokens}
+use Rattle.acn_lex.specs.Lexeme.{Placed, placed}
+use Rattle.acn_lex.specs.Lexing.{Outcome, FailsWith, Gives, with_front, by_token, by_step, lex_from}
+use Rattle.acn_lex.specs.Lexes.{IsForm, IsToken, IsGap, white, line, block, IsMark, single, assignment, range, ellipsis, equality, Front, here, gap, token, Lexes, IsBad, IsUnclosed, IsTooWide, FaultsFrom, Faults, AnswersTokens, AnswersFault}
 use Rattle.acn_lex.proofs.Shapes.{Found}
 use Rattle.acn_lex.proofs.Steps.{found, gap_again, wide_found_again, unclosed_again}
 use Rattle.acn_lex.proofs.Longest.{token_found, token_again, bad_found, bad_again}
@@ -196,3 +198,55 @@ faults_again n room at bytes (fault.TooManyTokens p) f le =
     let e = token_again f.1 f.2 f.3 f.6 in
     stop_at n room at bytes f.0 p left (step.Token f.1 k) (fault.TooManyTokens p) f.4 le (omega (arith, f.5)) (some_left left (step.Token f.1 k) e (λ q. cc)) e (λ m. full_turn (room - length f.0) p f.1 k m left (omega (arith, f.5)))
 faults_again n room at bytes fault.NoMemory f le = absurd f
+
+-- what the turns over all bytes give
+abbrev Turned : List ℕ → Result Tokens LexFault → Type 0
+Turned bytes r = Gives (lex_from (length bytes) 1000000 0 bytes) r
+
+ran_whole : (bytes : List ℕ) → Ran 1000000 0 bytes (lex_from (length bytes) 1000000 0 bytes)
+ran_whole bytes = ran (length bytes) 1000000 0 bytes (omega arith)
+
+failed : (o : Outcome) (e : LexFault) → FailsWith o e → (e ≡ fault.NoMemory → ⊥) → o ≡ Err e
+failed o (fault.BadByte p) h n = h
+failed o (fault.Unclosed p) h n = h
+failed o (fault.TooWide p) h n = h
+failed o (fault.TooManyTokens p) h n = h
+failed o fault.NoMemory h n = absurd (n refl)
+
+pub are_tokens : (bytes : List ℕ) (r : Result Tokens LexFault) → Turned bytes r → IfOk r (λ ts. Lexes 0 bytes (map placed ts.list))
+are_tokens bytes (Ok us) h = (subst (λ (o : Outcome). Ran 1000000 0 bytes o) h (ran_whole bytes)).0
+are_tokens bytes (Err e) h = tt
+
+map_same_length : (ts : List Token) → length (map placed ts) ≡ length ts
+map_same_length [] = refl
+map_same_length (t ∷ ts) = ap suc (map_same_length ts)
+
+pub are_few : (bytes : List ℕ) (r : Result Tokens LexFault) → Turned bytes r → IfOk r (λ ts. length ts.list ≤ 1000000)
+are_few bytes (Ok us) h = omega (arith, (subst (λ (o : Outcome). Ran 1000000 0 bytes o) h (ran_whole bytes)).1, map_same_length us.list)
+are_few bytes (Err e) h = tt
+
+pub is_fault : (bytes : List ℕ) (r : Result Tokens LexFault) → Turned bytes r → IfErr r (λ e. e ≢ fault.NoMemory → Faults bytes e)
+is_fault bytes (Ok us) h = tt
+is_fault bytes (Err e) h = λ n. subst (λ (o : Outcome). Ran 1000000 0 bytes o) (failed (lex_from (length bytes) 1000000 0 bytes) e h n) (ran_whole bytes)
+
+told : (o : Outcome) (ts : List Placed) (e : LexFault) → o ≡ Ok ts → FailsWith o e → e ≡ fault.NoMemory
+told o ts (fault.BadByte p) k h = absurd cc
+told o ts (fault.Unclosed p) k h = absurd cc
+told o ts (fault.TooWide p) k h = absurd cc
+told o ts (fault.TooManyTokens p) k h = absurd cc
+told o ts fault.NoMemory k h = refl
+
+refused : (o : Outcome) (f e : LexFault) → o ≡ Err f → FailsWith o e → (e ≡ f) ⊎ (e ≡ fault.NoMemory)
+refused o f (fault.BadByte p) k h = inl cc
+refused o f (fault.Unclosed p) k h = inl cc
+refused o f (fault.TooWide p) k h = inl cc
+refused o f (fault.TooManyTokens p) k h = inl cc
+refused o f fault.NoMemory k h = inr refl
+
+pub each_told : (bytes : List ℕ) (r : Result Tokens LexFault) → Turned bytes r → (ts : List Placed) → Lexes 0 bytes ts → length ts ≤ 1000000 → AnswersTokens ts r
+each_told bytes (Ok us) h ts l few = let k = lexes_again (length bytes) 1000000 0 bytes ts l (omega arith) few in cc
+each_told bytes (Err e) h ts l few = told (lex_from (length bytes) 1000000 0 bytes) ts e (lexes_again (length bytes) 1000000 0 bytes ts l (omega arith) few) h
+
+pub first_told : (bytes : List ℕ) (r : Result Tokens LexFault) → Turned bytes r → (f : LexFault) → Faults bytes f → AnswersFault f r
+first_told bytes (Ok us) h f l = let k = faults_again (length bytes) 1000000 0 bytes f l (omega arith) in absurd cc
+first_told bytes (Err e) h f l = refused (lex_from (length bytes) 1000000 0 bytes) f e (faults_again (length bytes) 1000000 0 bytes f l (omega arith)) h

@@ -1,14 +1,15 @@
 -- The tokens of some bytes, by rules, and the faults of bytes that have none.
-use Rattle.std.specs.Prelude.{◌≡◌, ℕ, zero, suc, ◌+◌, ◌-◌, ◌*◌, ◌<◌, ◌≤◌, ◌^◌, ◌==◌, Bool, true, false, ◌&&◌, List, [], ◌∷◌, ◌++◌, length, codes}
+use Rattle.std.specs.Prelude.{◌≡◌, ℕ, zero, suc, ◌+◌, ◌-◌, ◌*◌, ◌<◌, ◌≤◌, ◌^◌, ◌==◌, Bool, true, false, ◌&&◌, List, [], ◌∷◌, ◌++◌, length, map, Result, Ok, Err, ◌⊎◌, codes}
 use Rattle.std.specs.Char.{is_ascii_digit, is_ascii_alphabetic}
 use Rattle.std.specs.List.{list_all}
 use Rattle.acn_lex.specs.declared.Kind.{Kind}
 use Rattle.acn_lex.specs.declared.Kind.TheVariants.{Word, Number, Bits, Hex, Text, Mark}
+use Rattle.acn_lex.specs.declared.Tokens.{Tokens}
 use Rattle.acn_lex.specs.declared.fault.LexFault.{LexFault}
 use Rattle.acn_lex.specs.declared.fault.LexFault.TheVariants.{BadByte, Unclosed, TooManyTokens, TooWide, NoMemory}
 use Rattle.acn_lex.specs.Number.{is_unwritten}
 use Rattle.acn_lex.specs.Bytes.{is_white, is_line_end, starts_with, continues, is_hex_or_white, is_bit_or_white, is_text_byte, is_single}
-use Rattle.acn_lex.specs.Lexeme.{Placed}
+use Rattle.acn_lex.specs.Lexeme.{Placed, placed}
 
 -- letters, digits and single hyphens, each hyphen before a letter or digit (X.680, 12.2 and 12.3)
 abbrev pub is_tail : List ℕ → Bool
@@ -156,3 +157,13 @@ FaultsFrom most at bytes NoMemory = ⊥
 -- The first fault of a file. Want of memory is no fault of the bytes.
 abbrev pub Faults : List ℕ → LexFault → Type 0
 Faults bytes fault = FaultsFrom most_tokens 0 bytes fault
+
+-- the answer is these tokens, unless memory ran out
+abbrev pub AnswersTokens : List Placed → Result Tokens LexFault → Type 0
+AnswersTokens ts (Ok us) = map placed us.list ≡ ts
+AnswersTokens ts (Err e) = e ≡ NoMemory
+
+-- the answer is this fault, unless memory ran out
+abbrev pub AnswersFault : LexFault → Result Tokens LexFault → Type 0
+AnswersFault fault (Ok us) = ⊥
+AnswersFault fault (Err e) = (e ≡ fault) ⊎ (e ≡ NoMemory)
