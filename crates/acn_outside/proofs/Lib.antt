@@ -1,2 +1,4 @@
 pub mod Rises
 pub mod Joined
+pub mod Named
+pub mod Counting
