@@ -5,6 +5,7 @@ mod copies;
 mod entry;
 mod failing;
 mod feed;
+mod laws;
 mod mem_files;
 mod memory;
 mod room;
@@ -12,8 +13,12 @@ mod standard;
 mod traits;
 mod whole;
 
+pub use laws::sure_counts_stay_zero;
 pub use mem_files::{MemFiles, SureFiles};
 pub use memory::{MemSink, MemSource, SureSink, SureSource};
 pub use standard::{StdError, StdFiles, StdInput, StdOutput};
 pub use traits::{Failed, Files, Sink, Source};
 pub use whole::{WholeFault, read_whole, write_all};
+
+#[cfg(test)]
+mod tests;

@@ -84,7 +84,16 @@ impl Source for SureSource {
 
     ghost faults = { λ _. 0 };
 
-    fn read(&mut self, into: &mut [u8]) -> Result<usize, Failed> {
+    fn read(&mut self, into: &mut [u8]) -> Result<usize, Failed>
+        ensures within { IfOk result (λ n. n ≤ length into.old) }
+        ensures moved { IfOk result (λ n. Takes (Some self.old.feed.rest) (Some self.new.feed.rest) (take n into.new)) }
+        ensures end { IfOk result (λ n. n ≡ 0 → 0 < length into.old → IsUsedUp (Some self.new.feed.rest)) }
+        ensures count { 0 ≤ 0 }
+        ensures failed { OnErr result (Rose 0 0) }
+        ensures kept { OnErr result (Some self.new.feed.rest ≡ Some self.old.feed.rest) }
+        ensures at_most { IfOk result (λ n. n ≤ self.old.feed.piece) }
+        ensures piece { self.new.feed.piece ≡ self.old.feed.piece }
+    {
         Ok(self.feed.give(into))
     }
 }
@@ -193,6 +202,7 @@ impl Sink for SureSink {
         ensures failed { OnErr result (Rose 0 0) }
         ensures kept { OnErr result (self.new.room.taken ≡ self.old.room.taken) }
         ensures told { IfOk result (λ n. self.new.room.taken ≡ fitting self.old.room.size self.old.room.taken (take n from.now)) }
+        ensures at_most { IfOk result (λ n. n ≤ self.old.room.piece) }
         ensures piece { self.new.room.piece ≡ self.old.room.piece }
         ensures size { self.new.room.size ≡ self.old.room.size }
     {
