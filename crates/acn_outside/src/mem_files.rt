@@ -182,3 +182,24 @@ impl Files for SureFiles {
         }
     }
 }
+
+#[cfg(test)]
+mod tests {
+    use super::*;
+    use std::test::Fail;
+
+    #[test]
+    fn a_new_name_begins_with_the_count_of_the_others(rt: HostRuntime) -> Result<(), Fail> {
+        let mut files = MemFiles::new(rt.alloc(), vec![in rt.alloc(); 2]?);
+        let mut piece = [0u8; 4];
+        assert_eq!(rt; files.read_at("m.asn", 0, &mut piece), Err(Failed));
+        files.add(Name::copy(rt.alloc(), b"m.asn")?, Vec::new(rt.alloc()))?;
+        assert_eq!(rt; files.read_at("m.acn", 0, &mut piece), Err(Failed));
+        assert_eq!(rt; files.read_at("m.asn", 0, &mut piece), Err(Failed));
+        assert_eq!(rt; files.read_at("m.map", 0, &mut piece), Err(Failed));
+        assert_eq!(rt; files.others, 3);
+        assert_eq!(rt; files.entries.len(), 1);
+        assert_eq!(rt; files.entries[0].faults, 2);
+        Ok(())
+    }
+}
