@@ -1,4 +1,3 @@
-pub mod Rises
 pub mod Joined
 pub mod Named
 pub mod Counting
