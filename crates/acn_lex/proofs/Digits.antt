@@ -75,6 +75,10 @@ wide_again text rest w =
 
 pub word_found : (b : ℕ) (bs : List ℕ) → is_ascii_alphabetic b ≡ true → Found (b ∷ bs) (step.Token Word (word_len bs + 1))
 word_found b bs e =
-    let n = word_len bs in
-    (b ∷ take n bs, drop n bs, ap (λ xs. b ∷ xs) (take-append-drop n bs), omega (arith, length-take n bs, word_bound bs),
-        record { form = and_from (is_ascii_alphabetic b) (is_tail (take n bs)) e (word_is bs); written = λ k. absurd cc; small = λ k. absurd cc; closed = λ k. absurd cc })
+    let n = word_len bs in (
+      b ∷ take n bs,
+      drop n bs,
+      ap (λ xs. b ∷ xs) (take-append-drop n bs),
+      omega (arith, length-take n bs, word_bound bs),
+      record { form = and_from (is_ascii_alphabetic b) (is_tail (take n bs)) e (word_is bs); written = λ k. absurd cc; small = λ k. absurd cc; closed = λ k. absurd cc },
+    )

@@ -33,6 +33,7 @@ number_length text l n e =
   where
     no_bad : step.BadByte ≡ step.Token l n → length text ≡ n
     no_bad h = absurd cc
+
     no_wide : step.TooWide ≡ step.Token l n → length text ≡ n
     no_wide h = absurd cc
 
@@ -75,7 +76,7 @@ upper Hex front back l n form apart e =
 upper Text front back l n form apart e =
     let at : step_at (front ++ back) ≡ text_from false (length form.0) (34 ∷ back) = subst (λ (xs : List ℕ). step_at (xs ++ back) ≡ text_from false (length form.0) (34 ∷ back)) (sym form.2) (text_at form.0 back form.1) in
     let m : length form.0 + 2 ≤ n = cond_both (starts_with 34 back) (text_from true (length form.0 + 1) back) (step.Token Text (length form.0 + 2)) (λ s. s ≡ step.Token l n → length form.0 + 2 ≤ n)
-            (λ q h. omega (arith, text_least true (length form.0 + 1) back l n h)) (λ q h. omega (arith, one_length _ Text l (length form.0 + 2) n refl h)) (sym at ∙ e) in
+    (λ q h. omega (arith, text_least true (length form.0 + 1) back l n h)) (λ q h. omega (arith, one_length _ Text l (length form.0 + 2) n refl h)) (sym at ∙ e) in
     omega (arith, m, text_length form.0 front form.2)
 upper Mark front back l n form apart e =
     let m = mark_again front back form apart in
@@ -93,17 +94,22 @@ comment_free (b ∷ c ∷ cs) k n e = false_from_ne_true (b == 45 && (c == 45)) 
 pub token_found : (bytes : List ℕ) (k : Kind) (n : ℕ) → step_at bytes ≡ step.Token k n → (text rest : List ℕ) × (text ++ rest ≡ bytes) × (length text ≡ n) × IsToken k text rest
 token_found bytes k n e =
     let f : Found bytes (step.Token k n) = subst (Found bytes) e (found bytes) in
-    let apart = comment_free bytes k n e in
-    (f.0, f.1, f.2, f.3, record {
-      form = f.4.form;
-      longest = λ other front back is form.
-        let whole : front ++ back ≡ bytes = is ∙ f.2 in
-        omega (arith, upper other front back k n form (subst (λ xs. starts_line_comment xs ≡ false) (sym whole) apart) (ap step_at whole ∙ e), f.3);
-      apart = subst (λ xs. starts_line_comment xs ≡ false) (sym f.2) apart;
-      written = f.4.written;
-      small = f.4.small;
-      closed = f.4.closed;
-    })
+    let apart = comment_free bytes k n e in (
+      f.0,
+      f.1,
+      f.2,
+      f.3,
+      record {
+        form = f.4.form;
+        longest = λ other front back is form.
+            let whole : front ++ back ≡ bytes = is ∙ f.2 in
+            omega (arith, upper other front back k n form (subst (λ xs. starts_line_comment xs ≡ false) (sym whole) apart) (ap step_at whole ∙ e), f.3);
+        apart = subst (λ xs. starts_line_comment xs ≡ false) (sym f.2) apart;
+        written = f.4.written;
+        small = f.4.small;
+        closed = f.4.closed;
+      },
+    )
 
 -- a step that finds a token finds the one that stands there
 squeeze : (k : Kind) (text rest : List ℕ) (l : Kind) (n : ℕ) → IsToken k text rest → step_at (text ++ rest) ≡ step.Token l n → n ≡ length text

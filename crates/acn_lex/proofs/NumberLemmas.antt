@@ -105,4 +105,4 @@ unfolding number_in
 number_spelled text w d h = rw w (read_from_again 0 text d h)
 
 pub number_wide : (text : List ℕ) → is_unwritten text ≡ false → all_ascii_digits text ≡ true → is_some (number_in text) ≡ false → 2 ^ 64 ≤ spelled 0 text
-number_wide text w d e = elim (cases_lt (spelled 0 text) (2 ^ 64)) [ | inl lt ↦ let k = number_spelled text w d lt in absurd cc | inr ge ↦ ge ]
+number_wide text w d e = elim (cases_lt (spelled 0 text) (2 ^ 64)) [ inl lt ↦ let k = number_spelled text w d lt in absurd cc | inr ge ↦ ge ]
