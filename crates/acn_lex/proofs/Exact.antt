@@ -1,5 +1,5 @@
 -- The lexer answers the tokens of the bytes or their first fault, and each of these that holds is the one that it answers.
-use Rattle.std.proofs.Common.{◌≡◌, ℕ, zero, suc, ◌+◌, ◌-◌, ◌<◌, ◌≤◌, Bool, true, false, List, [], ◌∷◌, ◌++◌, length, map, take, drop, Result, Ok, Err, IfOk, IfErr, ◌≢◌, refl, sym, ap, subst, ◌∙◌, arith, append_assoc, length-append, ◌⊎◌, inl, inr}
+use Rattle.std.proofs.Common.{◌≡◌, ℕ, zero, suc, ◌+◌, ◌-◌, ◌<◌, ◌≤◌, List, [], ◌∷◌, ◌++◌, length, map, take, drop, Result, Ok, Err, IfOk, IfErr, ◌≢◌, refl, sym, ap, subst, ◌∙◌, arith, length-append, ◌⊎◌, inl, inr}
 use Rattle.std.proofs.lemmas.List.{append-nil}
 use Rattle.std.proofs.Math.Seq.{take-append_seam, drop-append_seam}
 use Rattle.acn_lex.specs.declared.Kind.{Kind}
@@ -13,7 +13,7 @@ use Rattle.acn_lex.specs.declared.Token.{Token}
 use Rattle.acn_lex.specs.declared.Tokens.{Tokens}
 use Rattle.acn_lex.specs.Lexeme.{Placed, placed}
 use Rattle.acn_lex.specs.Lexing.{Outcome, FailsWith, Gives, with_front, by_token, by_step, lex_from}
-use Rattle.acn_lex.specs.Lexes.{IsForm, IsToken, IsGap, white, line, block, IsMark, single, assignment, range, ellipsis, equality, Front, here, gap, token, Lexes, IsBad, IsUnclosed, IsTooWide, FaultsFrom, Faults, AnswersTokens, AnswersFault}
+use Rattle.acn_lex.specs.Lexes.{IsForm, IsToken, IsGap, white, line, block, IsMark, single, assignment, range, ellipsis, equality, Front, here, gap, token, Lexes, FaultsFrom, Faults, AnswersTokens, AnswersFault}
 use Rattle.acn_lex.proofs.Shapes.{Found}
 use Rattle.acn_lex.proofs.Steps.{found, gap_again, wide_found_again, unclosed_again}
 use Rattle.acn_lex.proofs.Longest.{token_found, token_again, bad_found, bad_again}

@@ -1,10 +1,10 @@
 -- Comments: where they end.
-use Rattle.std.proofs.Common.{◌≡◌, ℕ, zero, suc, ◌+◌, ◌-◌, ◌<◌, ◌≤◌, Bool, true, false, not, ◌&&◌, ◌||◌, ◌==◌, cond, List, [], ◌∷◌, ◌++◌, length, take, drop, Option, Some, None, refl, sym, ap, subst, ◌∙◌, arith, ◌⊎◌, inl, inr}
-use Rattle.std.proofs.lemmas.Bool.{and_parts, and_left, and_right, and_cases, cond_both, eqb-true, eqb-false}
+use Rattle.std.proofs.Common.{◌≡◌, ℕ, zero, suc, ◌+◌, ◌-◌, Bool, true, false, ◌&&◌, ◌==◌, cond, List, [], ◌∷◌, ◌++◌, length, Option, Some, None, refl, sym, ap, subst, ◌∙◌, arith, inl, inr}
+use Rattle.std.proofs.lemmas.Bool.{and_parts, and_left, and_right, and_cases, cond_both, eqb-true}
 use Rattle.std.proofs.Math.Dec.{eqb-suc-zero}
 use Rattle.acn_lex.specs.Bytes.{is_line_end, starts_with}
 use Rattle.acn_lex.specs.Scan.{comment_len, block_end, opens, closes}
-use Rattle.acn_lex.specs.Lexes.{IsLine, at_line_end, at_hyphens, at_end, line_goes_on, starts_line_comment, IsBlock, ends, closes as shuts, opens as nests, block_goes_on, starts_block, ends_block}
+use Rattle.acn_lex.specs.Lexes.{IsLine, at_line_end, at_hyphens, at_end, line_goes_on, starts_line_comment, IsBlock, ends, closes as shuts, opens as nests, block_goes_on}
 
 -- the first byte, where a test finds it
 pub first_byte : (c : ℕ) (bs : List ℕ) → starts_with c bs ≡ true → (more : List ℕ) × (bs ≡ c ∷ more)

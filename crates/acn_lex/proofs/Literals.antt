@@ -1,20 +1,20 @@
 -- Literals: where they end.
-use Rattle.std.proofs.Common.{◌≡◌, ℕ, zero, suc, ◌+◌, ◌-◌, ◌<◌, ◌≤◌, Bool, true, false, not, ◌&&◌, ◌||◌, ◌==◌, cond, List, [], ◌∷◌, ◌++◌, length, take, drop, refl, sym, ap, subst, ◌∙◌, arith, append_assoc, length-append, length-take}
+use Rattle.std.proofs.Common.{◌≡◌, ℕ, suc, ◌+◌, ◌<◌, Bool, true, false, ◌&&◌, ◌==◌, List, [], ◌∷◌, ◌++◌, length, take, drop, refl, sym, ap, subst, ◌∙◌, arith, append_assoc, length-append, length-take}
 use Rattle.std.proofs.lemmas.List.{append-nil, take-append-drop}
-use Rattle.std.proofs.lemmas.Bool.{and_parts, cond_both, eqb-true, eqb-false, eq-eqb}
+use Rattle.std.proofs.lemmas.Bool.{and_parts, cond_both, eqb-true, eq-eqb}
 use Rattle.std.proofs.lemmas.Bool.Decides.{nat_tests}
 use Rattle.std.proofs.Math.Seq.{drop-append_seam, drop-length}
 use Rattle.std.specs.Cmp.Derive.{both_true}
 use Rattle.std.specs.List.{list_all}
 use Rattle.acn_lex.specs.declared.Kind.{Kind}
-use Rattle.acn_lex.specs.declared.Kind.TheVariants.{Word, Number, Bits, Hex, Text, Mark}
+use Rattle.acn_lex.specs.declared.Kind.TheVariants.{Bits, Hex, Text}
 use Rattle.acn_lex.specs.declared.scan.Step.{Step}
 use Rattle.acn_lex.specs.declared.scan.Step.TheVariants as step
 use Rattle.acn_lex.specs.Bytes.{starts_with, is_text_byte, is_hex_or_white, is_bit_or_white}
 use Rattle.acn_lex.specs.Scan.{run_len, ended_step, digits_step, text_from}
-use Rattle.acn_lex.specs.Lexes.{IsTextBody, none, pair, byte, IsUnclosed, digits, text}
+use Rattle.acn_lex.specs.Lexes.{IsTextBody, none, pair, byte, digits, text}
 use Rattle.acn_lex.proofs.Shapes.{Shaped, Found}
-use Rattle.acn_lex.proofs.Runs.{stops, run_all, run_bound, run_exact}
+use Rattle.acn_lex.proofs.Runs.{run_all, run_bound, run_exact}
 use Rattle.acn_lex.proofs.Lines.{first_byte}
 
 -- the body of a text, where the first byte may be passed over

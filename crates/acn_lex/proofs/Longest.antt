@@ -1,5 +1,5 @@
 -- Tokens: a step finds the longest, and finds each.
-use Rattle.std.proofs.Common.{◌≡◌, ℕ, zero, suc, ◌+◌, ◌-◌, ◌<◌, ◌≤◌, ◌^◌, Bool, true, false, not, ◌&&◌, ◌||◌, ◌==◌, cond, List, [], ◌∷◌, ◌++◌, length, take, drop, Option, Some, None, is_some, refl, sym, ap, subst, ◌∙◌, arith, append_assoc, length-append, length-take, ◌⊎◌, inl, inr}
+use Rattle.std.proofs.Common.{◌≡◌, ℕ, ◌+◌, ◌<◌, ◌≤◌, true, false, ◌&&◌, ◌==◌, cond, List, [], ◌∷◌, ◌++◌, length, take, is_some, refl, sym, ap, subst, ◌∙◌, arith, append_assoc, length-append, length-take}
 use Rattle.std.proofs.lemmas.Bool.{and_parts, and_from, cond_both, eqb-true, false_from_ne_true}
 use Rattle.std.proofs.lemmas.List.Folds.{list_all-append}
 use Rattle.std.specs.List.{list_all}
@@ -10,9 +10,9 @@ use Rattle.acn_lex.specs.declared.scan.Step.{Step}
 use Rattle.acn_lex.specs.declared.scan.Step.TheVariants as step
 use Rattle.acn_lex.specs.Bytes.{starts_with, is_hex_or_white, is_bit_or_white}
 use Rattle.acn_lex.specs.Number.{is_unwritten, number_in}
-use Rattle.acn_lex.specs.Scan.{step_at, run_len, word_len, comment_len, number_step, digits_step, text_from}
-use Rattle.acn_lex.specs.Lexes.{is_digits, is_tail, is_word, starts_digit, starts_line_comment, spelled, IsForm, IsToken, IsGap, IsUnclosed, IsTooWide, IsTextBody, IsBad}
-use Rattle.acn_lex.proofs.Shapes.{Shaped, Found}
+use Rattle.acn_lex.specs.Scan.{step_at, run_len, word_len, comment_len, number_step, text_from}
+use Rattle.acn_lex.specs.Lexes.{is_digits, is_tail, starts_digit, starts_line_comment, IsForm, IsToken, IsTextBody, IsBad}
+use Rattle.acn_lex.proofs.Shapes.{Found}
 use Rattle.acn_lex.proofs.Runs.{run_within, run_bound, tail_within}
 use Rattle.acn_lex.proofs.Classes.{step_line, step_word, step_number, step_digits, step_text}
 use Rattle.acn_lex.proofs.Literals.{text_passed, text_least, hex_step, bits_step}

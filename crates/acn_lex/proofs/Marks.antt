@@ -1,14 +1,12 @@
 -- Marks: where they end.
-use Rattle.std.proofs.Common.{◌≡◌, ℕ, zero, suc, ◌+◌, ◌-◌, ◌<◌, ◌≤◌, Bool, true, false, not, ◌&&◌, ◌||◌, ◌==◌, cond, List, [], ◌∷◌, ◌++◌, length, take, drop, refl, sym, ap, subst, ◌∙◌, arith}
-use Rattle.std.proofs.lemmas.Bool.{and_parts, and_from, cond_both, eqb-true, eqb-false, eq-eqb, ne_eqb}
-use Rattle.acn_lex.specs.declared.Kind.{Kind}
-use Rattle.acn_lex.specs.declared.Kind.TheVariants.{Word, Number, Bits, Hex, Text, Mark}
-use Rattle.acn_lex.specs.declared.scan.Step.{Step}
+use Rattle.std.proofs.Common.{◌≡◌, ℕ, ◌≤◌, true, false, ◌&&◌, ◌==◌, List, [], ◌∷◌, ◌++◌, length, drop, refl, ◌∙◌, arith}
+use Rattle.std.proofs.lemmas.Bool.{and_parts, cond_both, eqb-true, ne_eqb}
+use Rattle.acn_lex.specs.declared.Kind.TheVariants.{Mark}
 use Rattle.acn_lex.specs.declared.scan.Step.TheVariants as step
 use Rattle.acn_lex.specs.Bytes.{starts_with, is_single}
 use Rattle.acn_lex.specs.Scan.{mark_len, mark_step, step_at, step_of}
 use Rattle.acn_lex.specs.Lexes.{IsMark, single, assignment, range, ellipsis, equality, starts_line_comment}
-use Rattle.acn_lex.proofs.Shapes.{Shaped, Found}
+use Rattle.acn_lex.proofs.Shapes.{Found}
 use Rattle.acn_lex.proofs.Lines.{first_byte}
 use Rattle.acn_lex.proofs.Classes.{step_mark}
 
