@@ -1,13 +1,12 @@
 -- Which classes of bytes have no byte in common, and what a step is by the first byte.
-use Rattle.std.proofs.Common.{◌≡◌, ℕ, suc, ◌+◌, ◌<◌, ◌≤◌, Bool, true, false, not, ◌&&◌, ◌||◌, ◌==◌, eqb, cond, List, [], ◌∷◌, take, codes, refl, sym, ap, subst, ◌∙◌, arith, ◌⊎◌, inl, inr}
-use Rattle.std.proofs.lemmas.Bool.{and_parts, or_cases, eqb-true, eqb-false, false_from_ne_true}
+use Rattle.std.proofs.Common.{◌≡◌, ℕ, ◌+◌, Bool, true, false, not, ◌&&◌, ◌==◌, List, [], ◌∷◌, take, codes, refl, subst, arith, inl, inr}
+use Rattle.std.proofs.lemmas.Bool.{and_parts, or_cases, eqb-true, false_from_ne_true}
 use Rattle.std.proofs.lemmas.Bool.Decides.{nat_tests}
 use Rattle.std.specs.List.{list_any, list_all}
-use Rattle.std.specs.Char.{is_ascii_digit, is_ascii_alphabetic, is_ascii_alphanumeric}
+use Rattle.std.specs.Char.{is_ascii_digit, is_ascii_alphabetic}
 use Rattle.acn_lex.specs.declared.Kind.TheVariants.{Word}
-use Rattle.acn_lex.specs.declared.scan.Step.{Step}
 use Rattle.acn_lex.specs.declared.scan.Step.TheVariants as step
-use Rattle.acn_lex.specs.Bytes.{is_white, is_single, starts_with, is_hex_or_white, is_bit_or_white}
+use Rattle.acn_lex.specs.Bytes.{is_white, is_single, starts_with}
 use Rattle.acn_lex.specs.Scan.{step_at, step_of, run_len, word_len, comment_len, block_end, block_step, number_step, digits_step, text_from, mark_len, mark_step}
 
 pub letter_not_white : (b : ℕ) → is_ascii_alphabetic b ≡ true → is_white b ≡ false

@@ -1,20 +1,18 @@
 -- Numbers and words: where they end.
-use Rattle.std.proofs.Common.{◌≡◌, ℕ, zero, suc, ◌+◌, ◌-◌, ◌*◌, ◌^◌, ◌<◌, ◌≤◌, Bool, true, false, not, ◌&&◌, ◌||◌, ◌==◌, cond, List, [], ◌∷◌, ◌++◌, length, take, drop, Option, Some, None, is_some, refl, sym, ap, subst, ◌∙◌, arith, append_assoc, length-append, length-take, add-one}
-use Rattle.std.proofs.lemmas.List.{append-nil, take-append-drop}
-use Rattle.std.proofs.lemmas.Bool.{and_parts, and_from, cond_both, eqb-true, eqb-false, eq-eqb, false_from_ne_true}
+use Rattle.std.proofs.Common.{◌≡◌, ℕ, ◌+◌, ◌^◌, ◌<◌, true, false, cond, List, [], ◌∷◌, ◌++◌, length, take, drop, Some, is_some, refl, ap, subst, ◌∙◌, arith, length-take, add-one}
+use Rattle.std.proofs.lemmas.List.{take-append-drop}
+use Rattle.std.proofs.lemmas.Bool.{and_parts, and_from, cond_both, false_from_ne_true}
 use Rattle.std.proofs.Math.Seq.{take-append_seam}
 use Rattle.std.specs.Str.{all_ascii_digits}
 use Rattle.std.specs.List.{list_all}
 use Rattle.std.specs.Char.{is_ascii_digit, is_ascii_alphabetic}
-use Rattle.acn_lex.specs.declared.Kind.{Kind}
-use Rattle.acn_lex.specs.declared.Kind.TheVariants.{Word, Number, Bits, Hex, Text, Mark}
-use Rattle.acn_lex.specs.declared.scan.Step.{Step}
+use Rattle.acn_lex.specs.declared.Kind.TheVariants.{Word, Number}
 use Rattle.acn_lex.specs.declared.scan.Step.TheVariants as step
 use Rattle.acn_lex.specs.Number.{is_unwritten, number_in}
 use Rattle.acn_lex.specs.Scan.{run_len, word_len, number_step, step_at}
-use Rattle.acn_lex.specs.Lexes.{is_digits, is_tail, is_word, spelled, starts_digit, IsWide, IsForm}
-use Rattle.acn_lex.proofs.Shapes.{Shaped, Found}
-use Rattle.acn_lex.proofs.Runs.{stops, run_all, run_bound, run_exact, run_stops, word_bound}
+use Rattle.acn_lex.specs.Lexes.{is_digits, is_tail, spelled, starts_digit, IsWide}
+use Rattle.acn_lex.proofs.Shapes.{Found}
+use Rattle.acn_lex.proofs.Runs.{stops, run_all, run_exact, run_stops, word_bound}
 use Rattle.acn_lex.proofs.ScanLemmas.{word_is}
 use Rattle.acn_lex.proofs.NumberLemmas.{number_small, number_spelled, number_wide}
 use Rattle.acn_lex.proofs.Classes.{step_number}
@@ -75,6 +73,10 @@ wide_again text rest w =
 
 pub word_found : (b : ℕ) (bs : List ℕ) → is_ascii_alphabetic b ≡ true → Found (b ∷ bs) (step.Token Word (word_len bs + 1))
 word_found b bs e =
-    let n = word_len bs in
-    (b ∷ take n bs, drop n bs, ap (λ xs. b ∷ xs) (take-append-drop n bs), omega (arith, length-take n bs, word_bound bs),
-        record { form = and_from (is_ascii_alphabetic b) (is_tail (take n bs)) e (word_is bs); written = λ k. absurd cc; small = λ k. absurd cc; closed = λ k. absurd cc })
+    let n = word_len bs in (
+      b ∷ take n bs,
+      drop n bs,
+      ap (λ xs. b ∷ xs) (take-append-drop n bs),
+      omega (arith, length-take n bs, word_bound bs),
+      record { form = and_from (is_ascii_alphabetic b) (is_tail (take n bs)) e (word_is bs); written = λ k. absurd cc; small = λ k. absurd cc; closed = λ k. absurd cc },
+    )

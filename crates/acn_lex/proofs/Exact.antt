@@ -1,5 +1,5 @@
 -- The lexer answers the tokens of the bytes or their first fault, and each of these that holds is the one that it answers.
-use Rattle.std.proofs.Common.{◌≡◌, ℕ, zero, suc, ◌+◌, ◌-◌, ◌<◌, ◌≤◌, Bool, true, false, List, [], ◌∷◌, ◌++◌, length, map, take, drop, Result, Ok, Err, IfOk, IfErr, ◌≢◌, refl, sym, ap, subst, ◌∙◌, arith, append_assoc, length-append, ◌⊎◌, inl, inr}
+use Rattle.std.proofs.Common.{◌≡◌, ℕ, zero, suc, ◌+◌, ◌-◌, ◌<◌, ◌≤◌, List, [], ◌∷◌, ◌++◌, length, map, take, drop, Result, Ok, Err, IfOk, IfErr, ◌≢◌, refl, sym, ap, subst, ◌∙◌, arith, length-append, ◌⊎◌, inl, inr}
 use Rattle.std.proofs.lemmas.List.{append-nil}
 use Rattle.std.proofs.Math.Seq.{take-append_seam, drop-append_seam}
 use Rattle.acn_lex.specs.declared.Kind.{Kind}
@@ -13,7 +13,7 @@ use Rattle.acn_lex.specs.declared.Token.{Token}
 use Rattle.acn_lex.specs.declared.Tokens.{Tokens}
 use Rattle.acn_lex.specs.Lexeme.{Placed, placed}
 use Rattle.acn_lex.specs.Lexing.{Outcome, FailsWith, Gives, with_front, by_token, by_step, lex_from}
-use Rattle.acn_lex.specs.Lexes.{IsForm, IsToken, IsGap, white, line, block, IsMark, single, assignment, range, ellipsis, equality, Front, here, gap, token, Lexes, IsBad, IsUnclosed, IsTooWide, FaultsFrom, Faults, AnswersTokens, AnswersFault}
+use Rattle.acn_lex.specs.Lexes.{IsForm, IsToken, IsGap, white, line, block, IsMark, single, assignment, range, ellipsis, equality, Front, here, gap, token, Lexes, FaultsFrom, Faults, AnswersTokens, AnswersFault}
 use Rattle.acn_lex.proofs.Shapes.{Found}
 use Rattle.acn_lex.proofs.Steps.{found, gap_again, wide_found_again, unclosed_again}
 use Rattle.acn_lex.proofs.Longest.{token_found, token_again, bad_found, bad_again}
@@ -98,7 +98,7 @@ ran (suc n) room at bytes le = by_found (step_at bytes) refl (found bytes) (λ l
         let deep = more room (at + length t.0) t.1 (shorter t.0 t.1 bytes n t.2 (form_some kind t.0 t.4.form) le) in
         let whole = token_more room at kind t.0 t.1 (lex_from n room (at + length t.0) t.1) t.4 deep in
         let same : with_front (one kind at t.0 ∷ []) (lex_from n room (at + length t.0) t.1) ≡ with_front (one kind at (take k bytes) ∷ []) (later n at bytes k room) =
-            let e = later_is n room at t.0 t.1 bytes k t.2 t.3 in let f = front_is t.0 t.1 bytes k t.2 t.3 in cc in
+        let e = later_is n room at t.0 t.1 bytes k t.2 t.3 in let f = front_is t.0 t.1 bytes k t.2 t.3 in cc in
         subst (λ xs. Ran (suc room) at xs (with_front (one kind at (take k bytes) ∷ []) (later n at bytes k room))) t.2 (subst (λ (o : Outcome). Ran (suc room) at (t.0 ++ t.1) o) same whole)
 
     by_found : (s : Step) → step_at bytes ≡ s → Found bytes s → ((left place : ℕ) (rest : List ℕ) → length rest ≤ n → Ran left place rest (lex_from n left place rest))
@@ -144,9 +144,12 @@ reach_token zero room at kind text rest ts to left t le few more = absurd (omega
 reach_token (suc n) zero at kind text rest ts to left t le few more = absurd (omega arith)
 reach_token (suc n) (suc room) at kind text rest ts to left t le few more =
     let r = more n room (shorter text rest (text ++ rest) n refl (form_some kind text t.form) le) (omega arith) in
-    let k : room - length ts ≡ suc room - suc (length ts) = omega arith in
-    (r.0, r.1, token_turn n room at kind text rest t ∙ ap (with_front (one kind at text ∷ [])) r.2 ∙ join (one kind at text) ts (lex_from r.0 (room - length ts) to left)
-        ∙ ap (λ (j : ℕ). with_front (one kind at text ∷ ts) (lex_from r.0 j to left)) k)
+    let k : room - length ts ≡ suc room - suc (length ts) = omega arith in (
+      r.0,
+      r.1,
+      token_turn n room at kind text rest t ∙ ap (with_front (one kind at text ∷ [])) r.2 ∙ join (one kind at text) ts (lex_from r.0 (room - length ts) to left)
+          ∙ ap (λ (j : ℕ). with_front (one kind at text ∷ ts) (lex_from r.0 j to left)) k,
+    )
 
 reached : (n room at : ℕ) (bytes : List ℕ) (ts : List Placed) (to : ℕ) (left : List ℕ) → Front at bytes ts to left → length bytes ≤ n → length ts ≤ room → Reached n room at bytes ts to left
 reached n room at bytes _ _ _ here le few = (n, le, none_in_front (lex_from n room at bytes) ∙ ap (λ (j : ℕ). with_front [] (lex_from n j at bytes)) (omega arith))

@@ -1,9 +1,7 @@
 -- The turns of the lexer's loop.
-use Rattle.std.proofs.Common.{◌≡◌, ℕ, zero, suc, ◌+◌, ◌-◌, ◌<◌, ◌≤◌, List, [], ◌∷◌, ◌++◌, length, take, drop, Result, Ok, Err, refl, sym, ap, ◌∙◌, append_assoc, arith}
+use Rattle.std.proofs.Common.{◌≡◌, ℕ, suc, ◌+◌, ◌-◌, ◌<◌, List, [], ◌∷◌, ◌++◌, drop, Ok, Err, refl, sym, ap, ◌∙◌, append_assoc, arith}
 use Rattle.std.proofs.lemmas.List.{append-nil}
-use Rattle.acn_lex.specs.declared.Kind.{Kind}
 use Rattle.acn_lex.specs.declared.scan.Step.{Step}
-use Rattle.acn_lex.specs.declared.scan.Step.TheVariants as step
 use Rattle.acn_lex.specs.declared.fault.LexFault.TheVariants as fault
 use Rattle.acn_lex.specs.Scan.{step_at}
 use Rattle.acn_lex.specs.Lexeme.{Placed}

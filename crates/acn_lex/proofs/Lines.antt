@@ -1,10 +1,10 @@
 -- Comments: where they end.
-use Rattle.std.proofs.Common.{◌≡◌, ℕ, zero, suc, ◌+◌, ◌-◌, ◌<◌, ◌≤◌, Bool, true, false, not, ◌&&◌, ◌||◌, ◌==◌, cond, List, [], ◌∷◌, ◌++◌, length, take, drop, Option, Some, None, refl, sym, ap, subst, ◌∙◌, arith, ◌⊎◌, inl, inr}
-use Rattle.std.proofs.lemmas.Bool.{and_parts, and_left, and_right, and_cases, cond_both, eqb-true, eqb-false}
+use Rattle.std.proofs.Common.{◌≡◌, ℕ, zero, suc, ◌+◌, ◌-◌, Bool, true, false, ◌&&◌, ◌==◌, cond, List, [], ◌∷◌, ◌++◌, length, Option, Some, None, refl, sym, ap, subst, ◌∙◌, arith, inl, inr}
+use Rattle.std.proofs.lemmas.Bool.{and_parts, and_left, and_right, and_cases, cond_both, eqb-true}
 use Rattle.std.proofs.Math.Dec.{eqb-suc-zero}
 use Rattle.acn_lex.specs.Bytes.{is_line_end, starts_with}
 use Rattle.acn_lex.specs.Scan.{comment_len, block_end, opens, closes}
-use Rattle.acn_lex.specs.Lexes.{IsLine, at_line_end, at_hyphens, at_end, line_goes_on, starts_line_comment, IsBlock, ends, closes as shuts, opens as nests, block_goes_on, starts_block, ends_block}
+use Rattle.acn_lex.specs.Lexes.{IsLine, at_line_end, at_hyphens, at_end, line_goes_on, starts_line_comment, IsBlock, ends, closes as shuts, opens as nests, block_goes_on}
 
 -- the first byte, where a test finds it
 pub first_byte : (c : ℕ) (bs : List ℕ) → starts_with c bs ≡ true → (more : List ℕ) × (bs ≡ c ∷ more)
@@ -84,7 +84,7 @@ first_kept c [] rest bs k e = refl
 first_kept c (x ∷ xs) rest bs k e = subst (λ ys. starts_with c ys ≡ false) (sym k) e
 
 pair_kept : (b c d : ℕ) (piece rest bs : List ℕ) → piece ++ rest ≡ bs → (b == c && starts_with d bs) ≡ false → (b == c && starts_with d piece) ≡ false
-pair_kept b c d piece rest bs k e = elim (and_cases (b == c) (starts_with d bs) e) [ | inl h ↦ and_left (b == c) (starts_with d piece) h | inr h ↦ and_right (b == c) (starts_with d piece) (first_kept d piece rest bs k h) ]
+pair_kept b c d piece rest bs k e = elim (and_cases (b == c) (starts_with d bs) e) [ inl h ↦ and_left (b == c) (starts_with d piece) h | inr h ↦ and_right (b == c) (starts_with d piece) (first_kept d piece rest bs k h) ]
 
 shut_here : (depth at b : ℕ) (bs : List ℕ) → b ≡ 42 → (more : List ℕ) × (bs ≡ 47 ∷ more) → depth == 0 ≡ true → BlockFront false depth at (b ∷ bs) (at + 2)
 shut_here depth at b bs k f z =
@@ -101,19 +101,19 @@ block_found true depth at (b ∷ bs) = grow false depth at bs (block_end false d
 block_found false depth at (b ∷ bs) =
     cond_both (opens b bs) _ _ (BlockFound false depth at (b ∷ bs))
     (λ e. let t = and_parts (b == 47) (starts_with 42 bs) e in
-        grow true (depth + 1) at bs (block_end true (depth + 1) (at + 1) bs) false depth b
-        (pair_in_front (depth + 1) depth b 42 bs t.1 (λ cs p. nested depth b bs cs (eqb-true b 47 t.0) (subst (λ n. IsBlock n cs) (omega arith) p)))
-        (block_found true (depth + 1) (at + 1) bs))
+    grow true (depth + 1) at bs (block_end true (depth + 1) (at + 1) bs) false depth b
+    (pair_in_front (depth + 1) depth b 42 bs t.1 (λ cs p. nested depth b bs cs (eqb-true b 47 t.0) (subst (λ n. IsBlock n cs) (omega arith) p)))
+    (block_found true (depth + 1) (at + 1) bs))
     (λ e. cond_both (closes b bs) _ _ (BlockFound false depth at (b ∷ bs))
     (λ h. let t = and_parts (b == 42) (starts_with 47 bs) h in
-        cond_both (depth == 0) _ _ (BlockFound false depth at (b ∷ bs))
-        (λ z. shut_here depth at b bs (eqb-true b 42 t.0) (first_byte 47 bs t.1) z)
-        (λ z. grow true (depth - 1) at bs (block_end true (depth - 1) (at + 1) bs) false depth b
-            (pair_in_front (depth - 1) depth b 47 bs t.1 (λ cs p. shut_one depth b bs cs (eqb-true b 42 t.0) z p))
-            (block_found true (depth - 1) (at + 1) bs)))
+    cond_both (depth == 0) _ _ (BlockFound false depth at (b ∷ bs))
+    (λ z. shut_here depth at b bs (eqb-true b 42 t.0) (first_byte 47 bs t.1) z)
+    (λ z. grow true (depth - 1) at bs (block_end true (depth - 1) (at + 1) bs) false depth b
+    (pair_in_front (depth - 1) depth b 47 bs t.1 (λ cs p. shut_one depth b bs cs (eqb-true b 42 t.0) z p))
+    (block_found true (depth - 1) (at + 1) bs)))
     (λ h. grow false depth at bs (block_end false depth (at + 1) bs) false depth b
-        (λ piece rest k p. block_goes_on (pair_kept b 47 42 piece rest bs k e) (pair_kept b 42 47 piece rest bs k h) p)
-        (block_found false depth (at + 1) bs)))
+    (λ piece rest k p. block_goes_on (pair_kept b 47 42 piece rest bs k e) (pair_kept b 42 47 piece rest bs k h) p)
+    (block_found false depth (at + 1) bs)))
 
 some_kept : (c : ℕ) (depth : ℕ) (bs rest : List ℕ) → IsBlock depth bs → starts_with c (bs ++ rest) ≡ starts_with c bs
 some_kept c depth [] rest p = elim p [ ]

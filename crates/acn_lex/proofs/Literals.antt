@@ -1,20 +1,20 @@
 -- Literals: where they end.
-use Rattle.std.proofs.Common.{◌≡◌, ℕ, zero, suc, ◌+◌, ◌-◌, ◌<◌, ◌≤◌, Bool, true, false, not, ◌&&◌, ◌||◌, ◌==◌, cond, List, [], ◌∷◌, ◌++◌, length, take, drop, refl, sym, ap, subst, ◌∙◌, arith, append_assoc, length-append, length-take}
+use Rattle.std.proofs.Common.{◌≡◌, ℕ, suc, ◌+◌, ◌<◌, Bool, true, false, ◌&&◌, ◌==◌, List, [], ◌∷◌, ◌++◌, length, take, drop, refl, sym, ap, subst, ◌∙◌, arith, append_assoc, length-append, length-take}
 use Rattle.std.proofs.lemmas.List.{append-nil, take-append-drop}
-use Rattle.std.proofs.lemmas.Bool.{and_parts, cond_both, eqb-true, eqb-false, eq-eqb}
+use Rattle.std.proofs.lemmas.Bool.{and_parts, cond_both, eqb-true, eq-eqb}
 use Rattle.std.proofs.lemmas.Bool.Decides.{nat_tests}
 use Rattle.std.proofs.Math.Seq.{drop-append_seam, drop-length}
 use Rattle.std.specs.Cmp.Derive.{both_true}
 use Rattle.std.specs.List.{list_all}
 use Rattle.acn_lex.specs.declared.Kind.{Kind}
-use Rattle.acn_lex.specs.declared.Kind.TheVariants.{Word, Number, Bits, Hex, Text, Mark}
+use Rattle.acn_lex.specs.declared.Kind.TheVariants.{Bits, Hex, Text}
 use Rattle.acn_lex.specs.declared.scan.Step.{Step}
 use Rattle.acn_lex.specs.declared.scan.Step.TheVariants as step
 use Rattle.acn_lex.specs.Bytes.{starts_with, is_text_byte, is_hex_or_white, is_bit_or_white}
 use Rattle.acn_lex.specs.Scan.{run_len, ended_step, digits_step, text_from}
-use Rattle.acn_lex.specs.Lexes.{IsTextBody, none, pair, byte, IsUnclosed, digits, text}
+use Rattle.acn_lex.specs.Lexes.{IsTextBody, none, pair, byte, digits, text}
 use Rattle.acn_lex.proofs.Shapes.{Shaped, Found}
-use Rattle.acn_lex.proofs.Runs.{stops, run_all, run_bound, run_exact}
+use Rattle.acn_lex.proofs.Runs.{run_all, run_bound, run_exact}
 use Rattle.acn_lex.proofs.Lines.{first_byte}
 
 -- the body of a text, where the first byte may be passed over
@@ -65,17 +65,21 @@ text_found false at (b ∷ bs) =
     (λ e. grow false false at b bs (text_from false (at + 1) bs) (λ body rest k p. byte e p) (λ p. byte e p) (text_found false (at + 1) bs))
     (λ e. cond_both (b == 34) _ _ (TextFound false at (b ∷ bs))
     (λ q. cond_both (starts_with 34 bs) _ _ (TextFound false at (b ∷ bs))
-        (λ s. grow true false at b bs (text_from true (at + 1) bs) (pair_body b bs (eqb-true b 34 q) s) (pair_open b bs (eqb-true b 34 q) s) (text_found true (at + 1) bs))
-        (λ s. (refl, [], bs, ap (λ x. x ∷ bs) (sym (eqb-true b 34 q)), omega arith, none, s)))
+    (λ s. grow true false at b bs (text_from true (at + 1) bs) (pair_body b bs (eqb-true b 34 q) s) (pair_open b bs (eqb-true b 34 q) s) (text_found true (at + 1) bs))
+    (λ s. (refl, [], bs, ap (λ x. x ∷ bs) (sym (eqb-true b 34 q)), omega arith, none, s)))
     (λ q. tt))
 
 text_shaped : (bs : List ℕ) (s : Step) → TextFound false 0 bs s → Found (34 ∷ bs) s
 text_shaped bs step.End h = absurd h
 text_shaped bs (step.Gap k) h = absurd h
 text_shaped bs (step.Token kind n) h =
-    let is : (34 ∷ (h.1 ++ 34 ∷ [])) ++ h.2 ≡ 34 ∷ bs = ap (λ xs. 34 ∷ xs) (append_assoc h.1 (34 ∷ []) h.2 ∙ h.3) in
-    (34 ∷ (h.1 ++ 34 ∷ []), h.2, is, omega (arith, length-append h.1 (34 ∷ []), h.4),
-        subst (λ k. Shaped k (34 ∷ (h.1 ++ 34 ∷ [])) h.2) (sym h.0) (record { form = (h.1, h.5, refl); written = λ k. absurd cc; small = λ k. absurd cc; closed = λ k. h.6 }))
+    let is : (34 ∷ (h.1 ++ 34 ∷ [])) ++ h.2 ≡ 34 ∷ bs = ap (λ xs. 34 ∷ xs) (append_assoc h.1 (34 ∷ []) h.2 ∙ h.3) in (
+      34 ∷ (h.1 ++ 34 ∷ []),
+      h.2,
+      is,
+      omega (arith, length-append h.1 (34 ∷ []), h.4),
+      subst (λ k. Shaped k (34 ∷ (h.1 ++ 34 ∷ [])) h.2) (sym h.0) (record { form = (h.1, h.5, refl); written = λ k. absurd cc; small = λ k. absurd cc; closed = λ k. h.6 }),
+    )
 text_shaped bs step.BadByte h = tt
 text_shaped bs step.Unclosed h = text h
 text_shaped bs step.TooWide h = absurd h
@@ -104,7 +108,6 @@ text_least skip at bs k n e = least skip at bs (text_from skip at bs) k n (text_
     least skip at bs step.Unclosed k n h e = absurd cc
     least skip at bs step.TooWide k n h e = absurd h
 
-
 literal_text : (l : ℕ) (body : List ℕ) (c : ℕ) (cs more bs : List ℕ) → body ++ c ∷ cs ≡ bs → c ≡ 39 → cs ≡ l ∷ more → (39 ∷ (body ++ 39 ∷ l ∷ [])) ++ more ≡ 39 ∷ bs
 literal_text l body c cs more bs is k m =
     let e : body ++ 39 ∷ l ∷ more ≡ bs = cc in
@@ -119,15 +122,23 @@ ended_found body [] bs bits is h f = digits (subst (λ xs. list_all is_hex_or_wh
 ended_found body (c ∷ cs) bs bits is h f =
     cond_both (c == 39 && starts_with 72 cs) _ _ (Found (39 ∷ bs))
     (λ e. let t = and_parts (c == 39) (starts_with 72 cs) e in
-        let m = first_byte 72 cs t.1 in
-        (39 ∷ (body ++ 39 ∷ 72 ∷ []), m.0, literal_text 72 body c cs m.0 bs is (eqb-true c 39 t.0) m.1, literal_length 72 body,
-            record { form = (body, h, refl); written = λ k. absurd cc; small = λ k. absurd cc; closed = λ k. absurd cc }))
+    let m = first_byte 72 cs t.1 in (
+      39 ∷ (body ++ 39 ∷ 72 ∷ []),
+      m.0,
+      literal_text 72 body c cs m.0 bs is (eqb-true c 39 t.0) m.1,
+      literal_length 72 body,
+      record { form = (body, h, refl); written = λ k. absurd cc; small = λ k. absurd cc; closed = λ k. absurd cc },
+    ))
     (λ n. cond_both (c == 39 && starts_with 66 cs && bits == length body) _ _ (Found (39 ∷ bs))
     (λ e. let t = and_parts (c == 39 && starts_with 66 cs) (bits == length body) e in
-        let u = and_parts (c == 39) (starts_with 66 cs) t.0 in
-        let m = first_byte 66 cs u.1 in
-        (39 ∷ (body ++ 39 ∷ 66 ∷ []), m.0, literal_text 66 body c cs m.0 bs is (eqb-true c 39 u.0) m.1, literal_length 66 body,
-            record { form = (body, f (eqb-true bits (length body) t.1), refl); written = λ k. absurd cc; small = λ k. absurd cc; closed = λ k. absurd cc }))
+    let u = and_parts (c == 39) (starts_with 66 cs) t.0 in
+    let m = first_byte 66 cs u.1 in (
+      39 ∷ (body ++ 39 ∷ 66 ∷ []),
+      m.0,
+      literal_text 66 body c cs m.0 bs is (eqb-true c 39 u.0) m.1,
+      literal_length 66 body,
+      record { form = (body, f (eqb-true bits (length body) t.1), refl); written = λ k. absurd cc; small = λ k. absurd cc; closed = λ k. absurd cc },
+    ))
     (λ e. tt))
 
 pub digits_found : (bs : List ℕ) → Found (39 ∷ bs) (digits_step bs)
@@ -137,7 +148,7 @@ digits_found bs =
     let len : length (take n bs) ≡ n = omega (arith, length-take n bs, run_bound is_hex_or_white bs) in
     subst (λ k. Found (39 ∷ bs) (ended_step k (run_len is_bit_or_white bs) (drop n bs))) len
     (ended_found (take n bs) (drop n bs) bs (run_len is_bit_or_white bs) (take-append-drop n bs) (run_all is_hex_or_white bs)
-        (λ k. subst (λ (j : ℕ). list_all is_bit_or_white (take j bs) ≡ true) (k ∙ len) (run_all is_bit_or_white bs)))
+    (λ k. subst (λ (j : ℕ). list_all is_bit_or_white (take j bs) ≡ true) (k ∙ len) (run_all is_bit_or_white bs)))
 
 bit_is_hex : (b : ℕ) → is_bit_or_white b ≡ true → is_hex_or_white b ≡ true
 bit_is_hex b e = grind (arith, nat_tests)

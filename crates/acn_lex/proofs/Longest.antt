@@ -1,5 +1,5 @@
 -- Tokens: a step finds the longest, and finds each.
-use Rattle.std.proofs.Common.{◌≡◌, ℕ, zero, suc, ◌+◌, ◌-◌, ◌<◌, ◌≤◌, ◌^◌, Bool, true, false, not, ◌&&◌, ◌||◌, ◌==◌, cond, List, [], ◌∷◌, ◌++◌, length, take, drop, Option, Some, None, is_some, refl, sym, ap, subst, ◌∙◌, arith, append_assoc, length-append, length-take, ◌⊎◌, inl, inr}
+use Rattle.std.proofs.Common.{◌≡◌, ℕ, ◌+◌, ◌<◌, ◌≤◌, true, false, ◌&&◌, ◌==◌, cond, List, [], ◌∷◌, ◌++◌, length, take, is_some, refl, sym, ap, subst, ◌∙◌, arith, append_assoc, length-append, length-take}
 use Rattle.std.proofs.lemmas.Bool.{and_parts, and_from, cond_both, eqb-true, false_from_ne_true}
 use Rattle.std.proofs.lemmas.List.Folds.{list_all-append}
 use Rattle.std.specs.List.{list_all}
@@ -10,9 +10,9 @@ use Rattle.acn_lex.specs.declared.scan.Step.{Step}
 use Rattle.acn_lex.specs.declared.scan.Step.TheVariants as step
 use Rattle.acn_lex.specs.Bytes.{starts_with, is_hex_or_white, is_bit_or_white}
 use Rattle.acn_lex.specs.Number.{is_unwritten, number_in}
-use Rattle.acn_lex.specs.Scan.{step_at, run_len, word_len, comment_len, number_step, digits_step, text_from}
-use Rattle.acn_lex.specs.Lexes.{is_digits, is_tail, is_word, starts_digit, starts_line_comment, spelled, IsForm, IsToken, IsGap, IsUnclosed, IsTooWide, IsTextBody, IsBad}
-use Rattle.acn_lex.proofs.Shapes.{Shaped, Found}
+use Rattle.acn_lex.specs.Scan.{step_at, run_len, word_len, comment_len, number_step, text_from}
+use Rattle.acn_lex.specs.Lexes.{is_digits, is_tail, starts_digit, starts_line_comment, IsForm, IsToken, IsTextBody, IsBad}
+use Rattle.acn_lex.proofs.Shapes.{Found}
 use Rattle.acn_lex.proofs.Runs.{run_within, run_bound, tail_within}
 use Rattle.acn_lex.proofs.Classes.{step_line, step_word, step_number, step_digits, step_text}
 use Rattle.acn_lex.proofs.Literals.{text_passed, text_least, hex_step, bits_step}
@@ -33,6 +33,7 @@ number_length text l n e =
   where
     no_bad : step.BadByte ≡ step.Token l n → length text ≡ n
     no_bad h = absurd cc
+
     no_wide : step.TooWide ≡ step.Token l n → length text ≡ n
     no_wide h = absurd cc
 
@@ -75,7 +76,7 @@ upper Hex front back l n form apart e =
 upper Text front back l n form apart e =
     let at : step_at (front ++ back) ≡ text_from false (length form.0) (34 ∷ back) = subst (λ (xs : List ℕ). step_at (xs ++ back) ≡ text_from false (length form.0) (34 ∷ back)) (sym form.2) (text_at form.0 back form.1) in
     let m : length form.0 + 2 ≤ n = cond_both (starts_with 34 back) (text_from true (length form.0 + 1) back) (step.Token Text (length form.0 + 2)) (λ s. s ≡ step.Token l n → length form.0 + 2 ≤ n)
-            (λ q h. omega (arith, text_least true (length form.0 + 1) back l n h)) (λ q h. omega (arith, one_length _ Text l (length form.0 + 2) n refl h)) (sym at ∙ e) in
+    (λ q h. omega (arith, text_least true (length form.0 + 1) back l n h)) (λ q h. omega (arith, one_length _ Text l (length form.0 + 2) n refl h)) (sym at ∙ e) in
     omega (arith, m, text_length form.0 front form.2)
 upper Mark front back l n form apart e =
     let m = mark_again front back form apart in
@@ -93,17 +94,22 @@ comment_free (b ∷ c ∷ cs) k n e = false_from_ne_true (b == 45 && (c == 45)) 
 pub token_found : (bytes : List ℕ) (k : Kind) (n : ℕ) → step_at bytes ≡ step.Token k n → (text rest : List ℕ) × (text ++ rest ≡ bytes) × (length text ≡ n) × IsToken k text rest
 token_found bytes k n e =
     let f : Found bytes (step.Token k n) = subst (Found bytes) e (found bytes) in
-    let apart = comment_free bytes k n e in
-    (f.0, f.1, f.2, f.3, record {
-      form = f.4.form;
-      longest = λ other front back is form.
-        let whole : front ++ back ≡ bytes = is ∙ f.2 in
-        omega (arith, upper other front back k n form (subst (λ xs. starts_line_comment xs ≡ false) (sym whole) apart) (ap step_at whole ∙ e), f.3);
-      apart = subst (λ xs. starts_line_comment xs ≡ false) (sym f.2) apart;
-      written = f.4.written;
-      small = f.4.small;
-      closed = f.4.closed;
-    })
+    let apart = comment_free bytes k n e in (
+      f.0,
+      f.1,
+      f.2,
+      f.3,
+      record {
+        form = f.4.form;
+        longest = λ other front back is form.
+            let whole : front ++ back ≡ bytes = is ∙ f.2 in
+            omega (arith, upper other front back k n form (subst (λ xs. starts_line_comment xs ≡ false) (sym whole) apart) (ap step_at whole ∙ e), f.3);
+        apart = subst (λ xs. starts_line_comment xs ≡ false) (sym f.2) apart;
+        written = f.4.written;
+        small = f.4.small;
+        closed = f.4.closed;
+      },
+    )
 
 -- a step that finds a token finds the one that stands there
 squeeze : (k : Kind) (text rest : List ℕ) (l : Kind) (n : ℕ) → IsToken k text rest → step_at (text ++ rest) ≡ step.Token l n → n ≡ length text

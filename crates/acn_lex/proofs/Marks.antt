@@ -1,14 +1,12 @@
 -- Marks: where they end.
-use Rattle.std.proofs.Common.{◌≡◌, ℕ, zero, suc, ◌+◌, ◌-◌, ◌<◌, ◌≤◌, Bool, true, false, not, ◌&&◌, ◌||◌, ◌==◌, cond, List, [], ◌∷◌, ◌++◌, length, take, drop, refl, sym, ap, subst, ◌∙◌, arith}
-use Rattle.std.proofs.lemmas.Bool.{and_parts, and_from, cond_both, eqb-true, eqb-false, eq-eqb, ne_eqb}
-use Rattle.acn_lex.specs.declared.Kind.{Kind}
-use Rattle.acn_lex.specs.declared.Kind.TheVariants.{Word, Number, Bits, Hex, Text, Mark}
-use Rattle.acn_lex.specs.declared.scan.Step.{Step}
+use Rattle.std.proofs.Common.{◌≡◌, ℕ, ◌≤◌, true, false, ◌&&◌, ◌==◌, List, [], ◌∷◌, ◌++◌, length, drop, refl, ◌∙◌, arith}
+use Rattle.std.proofs.lemmas.Bool.{and_parts, cond_both, eqb-true, ne_eqb}
+use Rattle.acn_lex.specs.declared.Kind.TheVariants.{Mark}
 use Rattle.acn_lex.specs.declared.scan.Step.TheVariants as step
 use Rattle.acn_lex.specs.Bytes.{starts_with, is_single}
 use Rattle.acn_lex.specs.Scan.{mark_len, mark_step, step_at, step_of}
 use Rattle.acn_lex.specs.Lexes.{IsMark, single, assignment, range, ellipsis, equality, starts_line_comment}
-use Rattle.acn_lex.proofs.Shapes.{Shaped, Found}
+use Rattle.acn_lex.proofs.Shapes.{Found}
 use Rattle.acn_lex.proofs.Lines.{first_byte}
 use Rattle.acn_lex.proofs.Classes.{step_mark}
 
@@ -35,12 +33,12 @@ pub mark_found : (b : ℕ) (bs : List ℕ) → Found (b ∷ bs) (mark_step (mark
 mark_found b bs =
     cond_both (b == 58 && starts_with 58 bs && starts_with 61 (drop 1 bs)) _ _ (λ n. Found (b ∷ bs) (mark_step n))
     (λ e. let t = and_parts (b == 58 && starts_with 58 bs) (starts_with 61 (drop 1 bs)) e in
-        let f = three_bytes 58 58 61 b bs t.0 t.1 in
-        mark_shape (58 ∷ 58 ∷ 61 ∷ []) f.0 (b ∷ bs) f.1 assignment)
+    let f = three_bytes 58 58 61 b bs t.0 t.1 in
+    mark_shape (58 ∷ 58 ∷ 61 ∷ []) f.0 (b ∷ bs) f.1 assignment)
     (λ n1. cond_both (b == 46 && starts_with 46 bs) _ _ (λ n. Found (b ∷ bs) (mark_step n))
     (λ e. cond_both (starts_with 46 (drop 1 bs)) _ _ (λ n. Found (b ∷ bs) (mark_step n))
-        (λ h. let f = three_bytes 46 46 46 b bs e h in mark_shape (46 ∷ 46 ∷ 46 ∷ []) f.0 (b ∷ bs) f.1 ellipsis)
-        (λ h. let f = two_bytes 46 46 b bs e in mark_shape (46 ∷ 46 ∷ []) f.0 (b ∷ bs) f.1 range))
+    (λ h. let f = three_bytes 46 46 46 b bs e h in mark_shape (46 ∷ 46 ∷ 46 ∷ []) f.0 (b ∷ bs) f.1 ellipsis)
+    (λ h. let f = two_bytes 46 46 b bs e in mark_shape (46 ∷ 46 ∷ []) f.0 (b ∷ bs) f.1 range))
     (λ n2. cond_both (b == 61 && starts_with 61 bs) _ _ (λ n. Found (b ∷ bs) (mark_step n))
     (λ e. let f = two_bytes 61 61 b bs e in mark_shape (61 ∷ 61 ∷ []) f.0 (b ∷ bs) f.1 equality)
     (λ n3. cond_both (is_single b) _ _ (λ n. Found (b ∷ bs) (mark_step n))

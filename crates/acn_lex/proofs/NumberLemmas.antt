@@ -1,5 +1,5 @@
 -- A text spells a number exactly where it is the number's decimal text.
-use Rattle.std.proofs.Common.{◌≡◌, ℕ, zero, suc, ◌+◌, ◌-◌, ◌*◌, ◌^◌, ◌<◌, ◌≤◌, Bool, true, false, ◌&&◌, cond, ltb, eqb, is_some, List, [], ◌∷◌, length, get_or, Option, Some, None, refl, sym, ap, subst, ◌∙◌, arith, rules, ◌⊎◌, inl, inr}
+use Rattle.std.proofs.Common.{◌≡◌, ℕ, zero, suc, ◌+◌, ◌-◌, ◌*◌, ◌^◌, ◌<◌, ◌≤◌, Bool, true, false, ◌&&◌, cond, ltb, is_some, List, [], ◌∷◌, length, get_or, Option, Some, None, refl, sym, ap, subst, ◌∙◌, arith, rules, inl, inr}
 use Rattle.std.specs.Prelude.{option_and_then}
 use Rattle.std.specs.Char.{is_ascii_digit}
 use Rattle.std.specs.Str.{all_ascii_digits}
@@ -8,8 +8,7 @@ use Rattle.std.proofs.lemmas.Fmt.{digits_decimal, digits_value-decimal, decimal-
 use Rattle.std.proofs.lemmas.Str.Parse.{IsNumeralModel, numerals_by_fold}
 use Rattle.std.proofs.lemmas.Option.{cond_some}
 use Rattle.std.specs.Cmp.Derive.{both_true}
-use Rattle.std.proofs.lemmas.Grind.{common_steps}
-use Rattle.std.proofs.lemmas.Bool.{ltb-false, le-ltb, lt-ltb, ltb-true, cases_lt}
+use Rattle.std.proofs.lemmas.Bool.{lt-ltb, ltb-true, cases_lt}
 use Rattle.std.proofs.lemmas.Bool.Decides.{nat_tests}
 use Rattle.acn_lex.specs.Lexes.{spelled}
 use Rattle.acn_lex.specs.Number.{with_digit, read_from, is_unwritten, number_in}
@@ -105,4 +104,4 @@ unfolding number_in
 number_spelled text w d h = rw w (read_from_again 0 text d h)
 
 pub number_wide : (text : List ℕ) → is_unwritten text ≡ false → all_ascii_digits text ≡ true → is_some (number_in text) ≡ false → 2 ^ 64 ≤ spelled 0 text
-number_wide text w d e = elim (cases_lt (spelled 0 text) (2 ^ 64)) [ | inl lt ↦ let k = number_spelled text w d lt in absurd cc | inr ge ↦ ge ]
+number_wide text w d e = elim (cases_lt (spelled 0 text) (2 ^ 64)) [ inl lt ↦ let k = number_spelled text w d lt in absurd cc | inr ge ↦ ge ]

@@ -1,7 +1,7 @@
 -- A word is the longest at its place.
-use Rattle.std.proofs.Common.{◌≡◌, ℕ, zero, suc, ◌+◌, ◌-◌, ◌<◌, ◌≤◌, Bool, true, false, ◌&&◌, ◌||◌, ◌==◌, cond, List, [], ◌∷◌, ◌++◌, length, take, drop, refl, sym, ap, subst, ◌∙◌, arith, ◌⊎◌, inl, inr}
+use Rattle.std.proofs.Common.{◌≡◌, ℕ, zero, suc, ◌<◌, ◌≤◌, Bool, true, false, ◌&&◌, ◌||◌, ◌==◌, cond, List, [], ◌∷◌, length, take, refl, arith, ◌⊎◌, inl, inr}
 use Rattle.std.specs.Cmp.Derive.{both_true}
-use Rattle.std.specs.Char.{is_ascii_alphanumeric, is_ascii_alphabetic}
+use Rattle.std.specs.Char.{is_ascii_alphanumeric}
 use Rattle.acn_lex.specs.Scan.{word_len}
 use Rattle.acn_lex.specs.Bytes.{starts_alnum, continues}
 

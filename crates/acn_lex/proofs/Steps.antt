@@ -1,23 +1,18 @@
 -- A step is what the rules say: what it finds is there, and what is there it finds.
-use Rattle.std.proofs.Common.{◌≡◌, ℕ, zero, suc, ◌+◌, ◌-◌, ◌<◌, ◌≤◌, ◌^◌, Bool, true, false, not, ◌&&◌, ◌||◌, ◌==◌, cond, List, [], ◌∷◌, ◌++◌, length, take, drop, Option, Some, None, refl, sym, ap, subst, ◌∙◌, arith, append_assoc, length-append, ◌⊎◌, inl, inr}
-use Rattle.std.proofs.lemmas.Bool.{and_parts, and_from, cond_both, eqb-true, eqb-false, false_from_ne_true, cases_Bool}
+use Rattle.std.proofs.Common.{◌≡◌, ℕ, zero, ◌+◌, true, false, ◌&&◌, ◌==◌, List, [], ◌∷◌, ◌++◌, length, drop, Option, Some, None, refl, sym, ap, subst, ◌∙◌, arith}
+use Rattle.std.proofs.lemmas.Bool.{and_parts, cond_both, eqb-true}
 use Rattle.std.proofs.lemmas.List.{append-nil}
-use Rattle.std.specs.List.{list_all}
 use Rattle.std.specs.Char.{is_ascii_digit, is_ascii_alphabetic}
-use Rattle.acn_lex.specs.declared.Kind.{Kind}
-use Rattle.acn_lex.specs.declared.Kind.TheVariants.{Word, Number, Bits, Hex, Text, Mark}
-use Rattle.acn_lex.specs.declared.scan.Step.{Step}
 use Rattle.acn_lex.specs.declared.scan.Step.TheVariants as step
-use Rattle.acn_lex.specs.Bytes.{is_white, starts_with, is_hex_or_white, is_bit_or_white}
-use Rattle.acn_lex.specs.Scan.{step_at, step_of, run_len, word_len, comment_len, block_end, block_step, opens, number_step, digits_step, text_from, mark_len, mark_step}
-use Rattle.acn_lex.specs.Lexes.{is_digits, is_tail, is_word, starts_digit, starts_line_comment, spelled, IsForm, IsToken, IsGap, white, line, block, IsUnclosed, comment, digits, text, IsTooWide, IsWide, IsBlock, IsTextBody, IsBad}
-use Rattle.acn_lex.proofs.Shapes.{Shaped, Found}
-use Rattle.acn_lex.proofs.Runs.{run_within, tail_within}
-use Rattle.acn_lex.proofs.Classes.{step_white, step_line, step_block, step_word, step_number, step_digits, step_text, step_mark}
-use Rattle.acn_lex.proofs.Lines.{first_byte, LineFront, line_found, line_again, BlockFront, BlockFound, block_found, block_again}
-use Rattle.acn_lex.proofs.Literals.{text_step_found, text_passed, text_least, digits_found, bits_are_hex, hex_step, bits_step, open_step}
-use Rattle.acn_lex.proofs.Digits.{number_found, number_again, wide_again, word_found}
-use Rattle.acn_lex.proofs.Marks.{mark_found, mark_again}
+use Rattle.acn_lex.specs.Bytes.{is_white, starts_with}
+use Rattle.acn_lex.specs.Scan.{step_at, step_of, comment_len, block_end, block_step, opens, digits_step, text_from}
+use Rattle.acn_lex.specs.Lexes.{IsGap, white, line, block, IsUnclosed, comment, digits, text, IsTooWide, IsBlock}
+use Rattle.acn_lex.proofs.Shapes.{Found}
+use Rattle.acn_lex.proofs.Classes.{step_white, step_line, step_block, step_digits, step_text}
+use Rattle.acn_lex.proofs.Lines.{line_found, line_again, BlockFront, BlockFound, block_found, block_again}
+use Rattle.acn_lex.proofs.Literals.{text_step_found, text_passed, digits_found, open_step}
+use Rattle.acn_lex.proofs.Digits.{number_found, wide_again, word_found}
+use Rattle.acn_lex.proofs.Marks.{mark_found}
 
 line_gap : (b : ℕ) (bs : List ℕ) → (b == 45 && starts_with 45 bs) ≡ true → Found (b ∷ bs) (step.Gap (comment_len (drop 1 bs) + 2))
 line_gap b [] e = let f = (and_parts (b == 45) false e).1 in absurd cc

@@ -1,5 +1,5 @@
 -- The classes of bytes that tokens are made of.
-use Rattle.std.specs.Prelude.{ℕ, Bool, true, false, not, ◌&&◌, ◌||◌, ◌==◌, nat_le, List, [], ◌∷◌, codes}
+use Rattle.std.specs.Prelude.{ℕ, Bool, false, not, ◌&&◌, ◌||◌, ◌==◌, nat_le, List, [], ◌∷◌, codes}
 use Rattle.std.specs.List.{list_any}
 use Rattle.std.specs.Char.{is_ascii_digit, is_ascii_alphanumeric}
 
@@ -41,6 +41,6 @@ is_bit_or_white b = b == 48 || b == 49 || is_white b
 abbrev pub is_text_byte : ℕ → Bool
 is_text_byte b = not (b == 34) && (nat_le 32 b && nat_le b 126)
 
--- the marks of one byte (X.680, 12.37)
+-- the marks of one byte (X.680, 12.37, and the ampersand of X.681)
 abbrev pub is_single : ℕ → Bool
 is_single b = list_any (λ c. c == b) (codes ".,;:{}()[]<>|^-=@!&")

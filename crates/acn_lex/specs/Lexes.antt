@@ -1,4 +1,5 @@
 -- The tokens of some bytes, by rules, and the faults of bytes that have none.
+-- Bytes are written as numbers: 34 is a quotation mark, 39 an apostrophe, 42 an asterisk, 45 a hyphen, 47 a slash, 48 a zero, 66 a B and 72 an H.
 use Rattle.std.specs.Prelude.{◌≡◌, ℕ, zero, suc, ◌+◌, ◌-◌, ◌*◌, ◌<◌, ◌≤◌, ◌^◌, ◌==◌, Bool, true, false, ◌&&◌, List, [], ◌∷◌, ◌++◌, length, map, Result, Ok, Err, ◌⊎◌, codes}
 use Rattle.std.specs.Char.{is_ascii_digit, is_ascii_alphabetic}
 use Rattle.std.specs.List.{list_all}
@@ -26,13 +27,13 @@ abbrev pub is_digits : List ℕ → Bool
 is_digits [] = false
 is_digits (b ∷ bs) = list_all is_ascii_digit (b ∷ bs)
 
--- what stands between the quotation marks of a text: a mark of its own is written twice (X.680, 12.14)
+-- What stands between the quotation marks of a text: one of its own is written twice (X.680, 12.14).
 pub data IsTextBody : List ℕ → Type 0 where
   none : IsTextBody []
   pair : {bs : List ℕ} → IsTextBody bs → IsTextBody (34 ∷ 34 ∷ bs)
   byte : {b : ℕ} {bs : List ℕ} → is_text_byte b ≡ true → IsTextBody bs → IsTextBody (b ∷ bs)
 
--- the marks (X.680, 12.20 to 12.22 and 12.37; the doubled equals sign is ACN's)
+-- the marks (X.680, 12.20 to 12.22 and 12.37; the doubled equals sign is ACN's, and the ampersand X.681's)
 pub data IsMark : List ℕ → Type 0 where
   single : {b : ℕ} → is_single b ≡ true → IsMark (b ∷ [])
   assignment : IsMark (codes "::=")
@@ -40,7 +41,7 @@ pub data IsMark : List ℕ → Type 0 where
   ellipsis : IsMark (codes "...")
   equality : IsMark (codes "==")
 
--- What form the tokens of a kind have. A number may be any digits here: what else it must be is said where it stands.
+-- What form the tokens of a kind have (X.680, 12.2, 12.3, 12.8, 12.10, 12.12, 12.14). A number may be any digits here: what else it must be is said of tokens.
 abbrev pub IsForm : Kind → List ℕ → Type 0
 IsForm Word text = is_word text ≡ true
 IsForm Number text = is_digits text ≡ true
@@ -59,7 +60,7 @@ abbrev pub spelled : ℕ → List ℕ → ℕ
 spelled n [] = n
 spelled n (c ∷ cs) = spelled (10 * n + (c - 48)) cs
 
--- A token of this kind and text stands before the rest: no front of these bytes that has the form of a token is longer (X.680, 12.1).
+-- A token of this kind and text stands before the rest. No front of these bytes that has the form of a token is longer, by this profile's rule.
 pub record IsToken (kind : Kind) (text rest : List ℕ) : Type 0 where
   pub form : IsForm kind text
   pub longest : (other : Kind) (front back : List ℕ) → front ++ back ≡ text ++ rest → IsForm other front → length front ≤ length text
@@ -88,14 +89,14 @@ abbrev pub ends_block : List ℕ → Bool
 ends_block [] = false
 ends_block (b ∷ bs) = b == 42 && starts_with 47 bs
 
--- From inside a comment between slashes to its end, where this many comments inside it are open (X.680, 12.6).
+-- From inside a comment between slashes to its end, where this many comments inside it are open: they nest (X.680, 12.6).
 pub data IsBlock : ℕ → List ℕ → Type 0 where
   ends : IsBlock zero (42 ∷ 47 ∷ [])
   closes : {depth : ℕ} {bs : List ℕ} → IsBlock depth bs → IsBlock (suc depth) (42 ∷ 47 ∷ bs)
   opens : {depth : ℕ} {bs : List ℕ} → IsBlock (suc depth) bs → IsBlock depth (47 ∷ 42 ∷ bs)
   block_goes_on : {depth b : ℕ} {bs : List ℕ} → starts_block (b ∷ bs) ≡ false → ends_block (b ∷ bs) ≡ false → IsBlock depth bs → IsBlock depth (b ∷ bs)
 
--- a byte of white space, or a whole comment
+-- a byte of white space, or a whole comment, before the rest (X.680, 12.1 and 12.6)
 pub data IsGap : List ℕ → List ℕ → Type 0 where
   white : {b : ℕ} {rest : List ℕ} → is_white b ≡ true → IsGap (b ∷ []) rest
   line : {bs rest : List ℕ} → IsLine bs rest → IsGap (45 ∷ 45 ∷ bs) rest
@@ -112,7 +113,7 @@ pub data Front : ℕ → List ℕ → List Placed → ℕ → List ℕ → Type 
 abbrev pub Lexes : ℕ → List ℕ → List Placed → Type 0
 Lexes at bytes ts = (to : ℕ) × Front at bytes ts to []
 
--- a comment or literal begins here that has no end
+-- A comment between slashes or a literal begins here that has no end: of digits and white space, or of the body of a text, nothing else follows.
 pub data IsUnclosed : List ℕ → Type 0 where
   comment : {rest : List ℕ} → ((front back : List ℕ) → front ++ back ≡ rest → IsBlock zero front → ⊥) → IsUnclosed (47 ∷ 42 ∷ rest)
   digits : {body : List ℕ} → list_all is_hex_or_white body ≡ true → IsUnclosed (39 ∷ body)
@@ -142,11 +143,8 @@ pub record IsBad (bytes : List ℕ) : Type 0 where
   pub ended : IsUnclosed bytes → ⊥
   pub small : IsTooWide bytes → ⊥
 
--- the most tokens of one file, in this profile
-abbrev pub most_tokens : ℕ
-most_tokens = 1000000
-
--- From a place on, the bytes have tokens up to a fault, with no more before it than there may be.
+-- From a place on, the bytes are white space, comments and tokens up to this fault, with no more tokens before it than there may be.
+-- A token too many is one that stands behind as many as there may be.
 abbrev pub FaultsFrom : ℕ → ℕ → List ℕ → LexFault → Type 0
 FaultsFrom most at bytes (BadByte p) = (ts : List Placed) × (left : List ℕ) × Front at bytes ts p left × (length ts ≤ most) × IsBad left
 FaultsFrom most at bytes (Unclosed p) = (ts : List Placed) × (left : List ℕ) × Front at bytes ts p left × (length ts ≤ most) × IsUnclosed left
@@ -154,9 +152,9 @@ FaultsFrom most at bytes (TooWide p) = (ts : List Placed) × (left : List ℕ) �
 FaultsFrom most at bytes (TooManyTokens p) = (ts : List Placed) × (kind : Kind) × (text rest : List ℕ) × Front at bytes ts p (text ++ rest) × (length ts ≡ most) × IsToken kind text rest
 FaultsFrom most at bytes NoMemory = ⊥
 
--- The first fault of a file. Want of memory is no fault of the bytes.
+-- The first fault of a file, which may have 1,000,000 tokens in this profile. Want of memory is no fault of the bytes.
 abbrev pub Faults : List ℕ → LexFault → Type 0
-Faults bytes fault = FaultsFrom most_tokens 0 bytes fault
+Faults bytes fault = FaultsFrom 1000000 0 bytes fault
 
 -- the answer is these tokens, unless memory ran out
 abbrev pub AnswersTokens : List Placed → Result Tokens LexFault → Type 0

@@ -1,13 +1,11 @@
--- How long what stands at the front of some bytes is.
-use Rattle.std.specs.Prelude.{ℕ, zero, suc, ◌+◌, ◌-◌, Bool, true, false, not, ◌&&◌, ◌||◌, ◌==◌, nat_lt, nat_le, if◌then◌else◌, List, [], ◌∷◌, length, take, drop, Option, Some, None, option_map, is_some, ◌<◌, ◌≤◌, codes}
-use Rattle.std.specs.List.{list_any}
-use Rattle.std.specs.Char.{is_ascii_digit, is_ascii_alphabetic, is_ascii_alphanumeric, is_ascii_hexdigit}
-use Rattle.acn_lex.specs.declared.Kind.{Kind}
+-- How long what stands at the front of some bytes is, for the contracts of the scanners. What tokens are is said in Lexes.
+use Rattle.std.specs.Prelude.{ℕ, suc, ◌+◌, ◌-◌, Bool, true, false, ◌&&◌, ◌==◌, if◌then◌else◌, List, [], ◌∷◌, length, take, drop, Option, Some, None, is_some, ◌<◌, ◌≤◌}
+use Rattle.std.specs.Char.{is_ascii_digit, is_ascii_alphabetic}
 use Rattle.acn_lex.specs.declared.Kind.TheVariants.{Word, Number, Bits, Hex, Text, Mark}
 use Rattle.acn_lex.specs.declared.scan.Step.{Step}
 use Rattle.acn_lex.specs.declared.scan.Step.TheVariants as step
 use Rattle.acn_lex.specs.Number.{number_in, is_unwritten}
-use Rattle.acn_lex.specs.Bytes.{is_white, is_line_end, starts_alnum, starts_with, continues, is_hex, is_hex_or_white, is_bit_or_white, is_text_byte, is_single}
+use Rattle.acn_lex.specs.Bytes.{is_white, is_line_end, starts_with, continues, is_hex_or_white, is_bit_or_white, is_text_byte, is_single}
 
 -- how many bytes continue a word
 abbrev pub word_len : List ℕ → ℕ

@@ -1,8 +1,7 @@
-use Rattle.std.proofs.Common.{◌≡◌, ◌+◌, List, [], ◌∷◌, ◌++◌, map, drop, length, length-append, ◌<◌, sym, ap, refl, ◌∙◌, arith, rules}
+use Rattle.std.proofs.Common.{◌≡◌, ◌+◌, [], ◌∷◌, ◌++◌, map, length, length-append, ◌<◌, sym, ap, ◌∙◌, arith}
 use Rattle.std.proofs.lemmas.List.{map_push}
-use Rattle.acn_lex.specs.Lexing.{with_front, lex_from}
 use Rattle.acn_lex.specs.Lexeme.{Placed, placed}
-use Rattle.acn_lex.proofs.LexTurns.{turn, ended, taken, full}
+use Rattle.acn_lex.proofs.LexTurns.{turn, ended, taken}
 use Rattle.acn_lex.proofs.lexing.by_turns.Goals as goal
 
 pub returns-in-End : goal.returns-in-End
