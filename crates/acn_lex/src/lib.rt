@@ -3,6 +3,7 @@
 
 mod fault;
 mod lexing;
+mod literal;
 mod number;
 mod scan;
 
@@ -36,10 +37,10 @@ pub struct Tokens<'a> {
     pub list: Row<Token<'a>>,
 }
 
-use acn_num::Row;
-
 ghost use Rattle.std.specs.Prelude.{◌≡◌, ◌≢◌, true, false};
 ghost use Rattle.acn_lex.specs.Lexeme.{same_kind as is_same_kind};
+
+use acn_num::Row;
 
 pub fn same_kind(a: Kind, b: Kind) -> bool
     ensures value { result ≡ is_same_kind a b }
