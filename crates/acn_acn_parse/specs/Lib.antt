@@ -1,1 +1,2 @@
 pub mod MapReading
+pub mod WordReading

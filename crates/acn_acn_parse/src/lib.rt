@@ -2,6 +2,7 @@
 #![tactic(auto)]
 
 mod maps;
+mod words;
 
 pub use maps::parse_map;
 

@@ -1,5 +1,5 @@
 -- The tokens of ACN modules, and which trees of them are proper. The notation is this profile's own.
-use Rattle.std.specs.Prelude.{ℕ, ◌^◌, Bool, true, false, not, ◌&&◌, nat_lt, List, [], ◌∷◌, ◌++◌, length, Option, Some, None, codes, map}
+use Rattle.std.specs.Prelude.{ℕ, ◌^◌, Bool, true, false, not, ◌&&◌, nat_lt, List, [], ◌∷◌, ◌++◌, length, Option, Some, None, codes}
 use Rattle.std.specs.List.{flat_map, list_all, list_any}
 use Rattle.std.specs.Fmt.{decimal}
 use Rattle.std.specs.Str.{bytes_eq}
@@ -39,10 +39,10 @@ word text = token Word text
 abbrev pub mark : List ℕ → Lexeme
 mark text = token Mark text
 
--- joined by a mark
-abbrev pub joined : List ℕ → List Tokens → Tokens
-joined text [] = []
-joined text (t ∷ ts) = t ++ flat_map (λ more. mark text ∷ more) ts
+-- the tokens of items, joined by a mark
+abbrev pub joined : {A : Type 0} → List ℕ → (A → Tokens) → List A → Tokens
+joined text tokens [] = []
+joined text tokens (x ∷ xs) = tokens x ++ flat_map (λ y. mark text ∷ tokens y) xs
 
 -- between two marks
 abbrev pub between : (opening closing : List ℕ) → Tokens → Tokens
@@ -51,7 +51,7 @@ between opening closing ts = mark opening ∷ (ts ++ mark closing ∷ [])
 -- ---- paths, conditions and attributes
 
 unfoldable pub path_tokens : AcnPath → Tokens
-path_tokens p = joined (codes ".") (map (λ name. word name ∷ []) p.names)
+path_tokens p = joined (codes ".") (λ name. word name ∷ []) p.names
 
 abbrev pub equals_tokens : Option Signed → Tokens
 equals_tokens None = []
@@ -99,7 +99,7 @@ attr_tokens (attr.Determinant p) = word (codes "determinant") ∷ path_tokens p
 attr_tokens (attr.MappingFunction name) = word (codes "mapping-function") ∷ word name ∷ []
 
 unfoldable pub bracket_tokens : List Attr → Tokens
-bracket_tokens attributes = between (codes "[") (codes "]") (joined (codes ",") (map attr_tokens attributes))
+bracket_tokens attributes = between (codes "[") (codes "]") (joined (codes ",") attr_tokens attributes)
 
 -- ---- fields
 
@@ -112,7 +112,7 @@ kind_token (field.Ref name) = word name
 -- arguments, or nothing where there are none
 unfoldable pub argument_tokens : List AcnPath → Tokens
 argument_tokens [] = []
-argument_tokens (p ∷ ps) = between (codes "<") (codes ">") (joined (codes ",") (map path_tokens (p ∷ ps)))
+argument_tokens (p ∷ ps) = between (codes "<") (codes ">") (joined (codes ",") path_tokens (p ∷ ps))
 
 abbrev mutual
   pub field_tokens : Field → Tokens
@@ -146,7 +146,7 @@ parameter_tokens_of p = parameter_kind_token p.kind ∷ mark (codes ":") ∷ wor
 -- parameters, or nothing where there are none
 unfoldable pub parameter_tokens : List Param → Tokens
 parameter_tokens [] = []
-parameter_tokens (p ∷ ps) = between (codes "<") (codes ">") (joined (codes ",") (map parameter_tokens_of (p ∷ ps)))
+parameter_tokens (p ∷ ps) = between (codes "<") (codes ">") (joined (codes ",") parameter_tokens_of (p ∷ ps))
 
 unfoldable pub entry_tokens : Entry → Tokens
 entry_tokens e = word e.name ∷ (parameter_tokens e.parameters ++ (bracket_tokens e.attributes ++ brace_tokens e.fields))
