@@ -1,6 +1,7 @@
 //! The parsers of ACN modules and of mapping tables: each answers the one proper tree whose tokens it is given.
 #![tactic(auto)]
 
+mod attributes;
 mod maps;
 mod words;
 
