@@ -1,1 +1,3 @@
+pub mod AttributeReading
 pub mod MapReading
+pub mod WordReading

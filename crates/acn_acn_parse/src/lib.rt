@@ -1,7 +1,9 @@
 //! The parsers of ACN modules and of mapping tables: each answers the one proper tree whose tokens it is given.
 #![tactic(auto)]
 
+mod attributes;
 mod maps;
+mod words;
 
 pub use maps::parse_map;
 

@@ -6,14 +6,16 @@ ghost use Rattle.acn_cursor.specs.Exact.{IsFound, IsOnly, IsLeftOut, IsTooDeep};
 ghost use Rattle.acn_acn_parse.specs.MapReading as spec;
 ghost use Rattle.acn_acn_syntax.specs.MapTokens as spelling;
 
+use crate::attributes::with_first;
 use acn_acn_syntax::{MapLine, MapTable, MapTables, Signed};
 use acn_cursor::{Cursor, ParseFault, screened};
 use acn_lex::{Kind, Token, Tokens};
-use acn_num::{Name, NoMemory, Row};
+use acn_num::{Name, Row};
 use std::alloc::Global;
 
+/// Takes a number with its sign.
 #[tactic(auto, unfolding(crate::specs::MapReading::signed))]
-fn signed(cursor: &mut Cursor<'_>) -> Result<Signed, ParseFault>
+pub fn signed(cursor: &mut Cursor<'_>) -> Result<Signed, ParseFault>
     ensures { Reads (spec.signed cursor.old) result cursor.new }
 {
     let negative = cursor.eat(Kind::Mark, b"-");
@@ -108,23 +110,13 @@ fn all_tables(alloc: Global, cursor: &mut Cursor<'_>) -> Result<Row<MapTable>, P
     Ok(tables)
 }
 
-// The first table and those behind it.
-fn joined(alloc: Global, first: MapTable, more: Row<MapTable>) -> Result<Row<MapTable>, NoMemory>
-    ensures { IfOk result (λ all. all ≡ first ∷ more) }
-{
-    let mut all = Vec::new(alloc);
-    all.push(first)?;
-    all.append(&mut more.into_vec())?;
-    Ok(Row::from_vec(all))
-}
-
 #[tactic(auto, unfolding(crate::specs::MapReading::tables))]
 fn tables(alloc: Global, cursor: &mut Cursor<'_>) -> Result<MapTables, ParseFault>
     ensures { Reads (spec.tables cursor.old) result cursor.new }
 {
     let first = table(alloc, cursor)?;
     let more = all_tables(alloc, cursor)?;
-    let tables = joined(alloc, first, more)?;
+    let tables = with_first(alloc, first, more)?;
     Ok(MapTables { tables })
 }
 
