@@ -1,5 +1,6 @@
-ghost use Rattle.std.specs.Prelude.{◌≡◌, option_map};
+ghost use Rattle.std.specs.Prelude.{◌≡◌, option_map, IfSome};
 ghost use Rattle.acn_tree.specs.NodeAt.{child as child_of, grammar_in, field_at as field_of_number, alternative_at as alternative_of_number, node_at as node_of_path};
+ghost use Rattle.acn_tree.specs.Room.{InTree};
 ghost use Rattle.acn_tree.specs.View.{grammar_of, field_of, fields_view, alternatives_view};
 
 use crate::node::{Alternative, Body, Field, Node};
@@ -52,7 +53,8 @@ fn child(node: &Node, step: u32) -> Option<&Node>
 
 /// The node of a path. None comes exactly where no node has that path.
 pub fn node_at<'t>(tree: &'t Tree, path: &Path) -> Option<&'t Node>
-    ensures { option_map (λ n. grammar_of n.now) result ≡ node_of_path (grammar_of tree.now.root) path.now }
+    ensures node { option_map (λ n. grammar_of n.now) result ≡ node_of_path (grammar_of tree.now.root) path.now }
+    ensures part { IfSome result (λ n. InTree (grammar_of n.now)) }
 {
     let mut at = tree.root();
     for step in path.steps() {
