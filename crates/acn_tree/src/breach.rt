@@ -333,3 +333,83 @@ pub fn meets(node: &Node, v: &Value) -> Result<(), Unfit>
         }),
     }
 }
+
+#[cfg(test)]
+mod tests {
+    use super::*;
+    use crate::node::SizeRule;
+    use acn_num::NoMemory;
+    use std::alloc::Global;
+
+    // Texts of 1 to 3 characters from 0 to 127, ended by a carriage return and a line feed.
+    fn ended_by_a_line(alloc: Global) -> Result<TextLeaf, NoMemory> {
+        let mut end = [false; 16];
+        for at in [4, 5, 7, 12, 14] {
+            end[at] = true;
+        }
+        Ok(TextLeaf {
+            sized: Sizing {
+                sizes: RangeSet::one(alloc, 1, 3)?,
+                rule: SizeRule::Prefix { low: 0, width: 0 },
+            },
+            ended: Some(Pattern::new(&end)),
+            alphabet: RangeSet::one(alloc, 0, 127)?,
+            width: 8,
+            indexed: false,
+        })
+    }
+
+    // Texts of 2 characters from a to c.
+    fn pairs(alloc: Global) -> Result<TextLeaf, NoMemory> {
+        Ok(TextLeaf {
+            sized: Sizing {
+                sizes: RangeSet::one(alloc, 2, 2)?,
+                rule: SizeRule::Prefix { low: 2, width: 0 },
+            },
+            ended: None,
+            alphabet: RangeSet::one(alloc, 97, 99)?,
+            width: 2,
+            indexed: true,
+        })
+    }
+
+    #[test]
+    fn a_terminator_may_begin_in_the_text_and_end_behind_it(
+        rt: HostRuntime,
+    ) -> Result<(), NoMemory> {
+        let leaf = ended_by_a_line(rt.alloc())?;
+        assert!(rt; text_meets(&leaf, b"a\r").is_ok());
+        assert!(rt;
+            matches!(
+                text_meets(&leaf, b"\r\n"),
+                Err(Breach::TerminatorInside { index: 0 })
+            )
+        );
+        assert!(rt;
+            matches!(
+                text_meets(&leaf, b"a\r\n"),
+                Err(Breach::TerminatorInside { index: 1 })
+            )
+        );
+        Ok(())
+    }
+
+    #[test]
+    fn a_size_goes_before_a_character(rt: HostRuntime) -> Result<(), NoMemory> {
+        let leaf = pairs(rt.alloc())?;
+        assert!(rt; text_meets(&leaf, b"ca").is_ok());
+        assert!(rt;
+            matches!(
+                text_meets(&leaf, b"cd"),
+                Err(Breach::BadCharacter { index: 1 })
+            )
+        );
+        assert!(rt;
+            matches!(
+                text_meets(&leaf, b"cdd"),
+                Err(Breach::SizeOutOfRange { n: 3 })
+            )
+        );
+        Ok(())
+    }
+}
