@@ -28,6 +28,14 @@ pub fn apart(low: &i128, high: &i128) -> u128
     high.abs_diff(*low)
 }
 
+/// Whether the ranges of the set are in order, as those of each set are.
+pub fn in_order(set: &RangeSet) -> bool
+    ensures { result ≡ ranges.are_ranges set.now }
+{
+    let _ranges = set.ranges();
+    true
+}
+
 /// Whether there is a number in the set, whose ranges are in order.
 pub fn holds_some(set: &RangeSet) -> bool
     ensures { result ≡ (nat_lt 0 (length set.now) && ranges.are_ranges set.now) }
