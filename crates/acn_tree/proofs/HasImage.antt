@@ -68,7 +68,7 @@ abbrev total : ℤ → ℤ → List Line → ℕ
 total a b [] = 0
 total a b (l ∷ ls) = span_of (int_max a l.0) (int_min b l.1) + total a b ls
 
-neither : (a b : Bool) → (a || b) ≡ false → (a ≡ false) × (b ≡ false)
+pub neither : (a b : Bool) → (a || b) ≡ false → (a ≡ false) × (b ≡ false)
 neither true b h = cc
 neither false b h = (refl, h)
 
@@ -77,7 +77,7 @@ not_both true b h = inr h
 not_both false b h = inl refl
 
 -- two lines that share no key
-key_sides : (l m : Line) → share l m ≡ false → (m.1 <ℤ l.0) ⊎ (l.1 <ℤ m.0)
+pub key_sides : (l m : Line) → share l m ≡ false → (m.1 <ℤ l.0) ⊎ (l.1 <ℤ m.0)
 key_sides l m h = by (not_both (int_le l.0 m.1) (int_le m.0 l.1) (neither (int_le l.0 m.1 && int_le m.0 l.1) (int_le l.2 (m.2 +ℤ (m.1 -ℤ m.0)) && int_le m.2 (l.2 +ℤ (l.1 -ℤ l.0))) h).0)
   where
     by : (int_le l.0 m.1 ≡ false) ⊎ (int_le m.0 l.1 ≡ false) → (m.1 <ℤ l.0) ⊎ (l.1 <ℤ m.0)
