@@ -23,17 +23,17 @@ pub accepted_scoped : AcceptedIsScoped
 accepted_scoped root a = root_scoped root a.formed (accepted_sound root a)
 
 -- an element of two lists in a row
-in_either : {A F : Type 0} (a b : List A) (n : ℕ) (x : A) → slice_get (a ++ b) n ≡ Some x → (slice_get a n ≡ Some x → F) → ((m : ℕ) → n ≡ length a + m → slice_get b m ≡ Some x → F) → F
+pub in_either : {A F : Type 0} (a b : List A) (n : ℕ) (x : A) → slice_get (a ++ b) n ≡ Some x → (slice_get a n ≡ Some x → F) → ((m : ℕ) → n ≡ length a + m → slice_get b m ≡ Some x → F) → F
 in_either [] b n x e f g = g n (omega arith) e
 in_either (y ∷ a) b zero x e f g = f e
 in_either {F} (y ∷ a) b (suc n) x e f g = in_either {F = F} a b n x e f (λ m k h. g m (omega arith) h)
 
-get_left : {A : Type 0} (a b : List A) (n : ℕ) (x : A) → slice_get a n ≡ Some x → slice_get (a ++ b) n ≡ Some x
+pub get_left : {A : Type 0} (a b : List A) (n : ℕ) (x : A) → slice_get a n ≡ Some x → slice_get (a ++ b) n ≡ Some x
 get_left [] b n x e = cc
 get_left (y ∷ a) b zero x e = e
 get_left (y ∷ a) b (suc n) x e = get_left a b n x e
 
-some_one : {A : Type 0} (x y : A) → Some x ≡ Some y → x ≡ y
+pub some_one : {A : Type 0} (x y : A) → Some x ≡ Some y → x ≡ y
 some_one x y e = cc
 
 used_in : (l : List Stand) (s : ℕ) → named s l ≡ true → holds (map slot_of (flat_map uses l)) s ≡ true
@@ -43,11 +43,11 @@ used_in (at ∷ l) s h = either {F = holds (map slot_of (uses at ++ flat_map use
 
 module _ (root : Grammar) (tree : IsTree root) (sound : (f : CheckFault) → Undecodable root f → ⊥) where
   -- a node with as many before it, in its place
-  record Located (at : Stand) (n : ℕ) : Type 0 where
-    before : List Stand
-    behind : List Stand
-    place : At root tree sound before at.role at.path at.around (node at.align at.form) behind
-    count : length before ≡ n
+  pub record Located (at : Stand) (n : ℕ) : Type 0 where
+    pub before : List Stand
+    pub behind : List Stand
+    pub place : At root tree sound before at.role at.path at.around (node at.align at.form) behind
+    pub count : length before ≡ n
 
   further : (at : Stand) (pre a : List Stand) (n m : ℕ) → n ≡ length a + m → Located at (length (pre ++ a) + m) → Located at (length pre + n)
   further at pre a n m e l = record { before = l.before; behind = l.behind; place = l.place; count = l.count ∙ omega (arith, length-append pre a) }
@@ -60,7 +60,7 @@ module _ (root : Grammar) (tree : IsTree root) (sound : (f : CheckFault) → Und
       subst (λ x. Located x (length pre + zero)) (some_one (here_at role path around align form) at e) (record { before = pre; behind = post; place = p; count = omega arith })
 
   mutual
-    located : (g : Grammar) (pre : List Stand) (role : Role) (path around : List ℕ) (post : List Stand) → At root tree sound pre role path around g post → (n : ℕ) (at : Stand) → slice_get (nodes role path around g) n ≡ Some at → Located at (length pre + n)
+    pub located : (g : Grammar) (pre : List Stand) (role : Role) (path around : List ℕ) (post : List Stand) → At root tree sound pre role path around g post → (n : ℕ) (at : Stand) → slice_get (nodes role path around g) n ≡ Some at → Located at (length pre + n)
     located (node align form) pre role path around post p zero at e = located_here pre role path around align form post p at e
     located (node align (seq fields home)) pre role path around post p (suc n) at e =
         one_further at (here_at role path around align (seq fields home)) pre n (located_fields fields (pre ++ here_at role path around align (seq fields home) ∷ []) path (home ++ around) 0 post (to_fields (nodes_of root) (numbers root tree sound) (rules root tree sound) pre role path around align fields home post p) n at e)
