@@ -2,6 +2,7 @@
 #![tactic(auto)]
 
 mod attributes;
+mod fields;
 mod maps;
 mod words;
 
