@@ -199,12 +199,16 @@ entry_at depth = do
 abbrev pub has_entry : List Lexeme → Bool
 has_entry ts = not (sees Word (codes "END") ts)
 
-unfoldable pub module_at : ℕ → Parser Module
-module_at depth = do
-  name ← word is_reference
+unfoldable pub heading : Parser (Unit {0})
+heading = do
   expect Word (codes "DEFINITIONS")
   expect Mark (codes "::=")
   expect Word (codes "BEGIN")
+
+unfoldable pub module_at : ℕ → Parser Module
+module_at depth = do
+  name ← word is_reference
+  heading
   entries ← many has_entry (entry_at depth)
   expect Word (codes "END")
   pure (record { name = name; entries = entries })

@@ -4,6 +4,7 @@
 mod attributes;
 mod fields;
 mod maps;
+mod modules;
 mod words;
 
 pub use maps::parse_map;
