@@ -1,1 +1,3 @@
 pub mod MapLaws
+pub mod PathLaws
+pub mod WordLaws

@@ -1,5 +1,5 @@
 -- The tokens of ACN modules, and which trees of them are proper. The notation is this profile's own.
-use Rattle.std.specs.Prelude.{ℕ, ◌^◌, Bool, true, false, not, ◌&&◌, nat_lt, List, [], ◌∷◌, ◌++◌, length, Option, Some, None, codes}
+use Rattle.std.specs.Prelude.{ℕ, ◌^◌, Bool, true, false, not, ◌&&◌, nat_lt, List, [], ◌∷◌, ◌++◌, Option, Some, None, codes}
 use Rattle.std.specs.List.{flat_map, list_all, list_any}
 use Rattle.std.specs.Fmt.{decimal}
 use Rattle.std.specs.Str.{bytes_eq}
@@ -171,12 +171,17 @@ attribute_words = codes "size" ∷ codes "encoding" ∷ codes "endianness" ∷ c
 unfoldable pub is_acn_identifier : List ℕ → Bool
 is_acn_identifier text = is_identifier text && not (list_any (bytes_eq text) attribute_words)
 
+-- at least one
+abbrev pub is_some_of : {A : Type 0} → List A → Bool
+is_some_of [] = false
+is_some_of (x ∷ xs) = true
+
 abbrev pub is_signed : Signed → Bool
 is_signed s = nat_lt s.n (2 ^ 64)
 
 -- at least one name
 abbrev pub is_path : AcnPath → Bool
-is_path p = nat_lt 0 (length p.names) && list_all is_acn_identifier p.names
+is_path p = is_some_of p.names && list_all is_acn_identifier p.names
 
 abbrev pub is_condition : Condition → Bool
 is_condition c = is_path c.path && equals_fine c.equals
@@ -193,7 +198,7 @@ is_size (size.Path p) = is_path p
 -- a present-when has at least one condition
 abbrev pub is_attr : Attr → Bool
 is_attr (attr.Size s) = is_size s
-is_attr (attr.PresentWhen conditions) = nat_lt 0 (length conditions) && list_all is_condition conditions
+is_attr (attr.PresentWhen conditions) = is_some_of conditions && list_all is_condition conditions
 is_attr (attr.Determinant p) = is_path p
 is_attr (attr.MappingFunction name) = is_acn_identifier name
 is_attr _ = true
@@ -231,4 +236,4 @@ is_module m = is_reference m.name && list_all is_entry m.entries
 
 -- There is a module; names are references and identifiers, and numbers are below 2 ^ 64.
 abbrev pub is_proper : List Module → Bool
-is_proper ms = nat_lt 0 (length ms) && list_all is_module ms
+is_proper ms = is_some_of ms && list_all is_module ms
