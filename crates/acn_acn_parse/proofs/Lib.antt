@@ -1,3 +1,4 @@
+pub mod AttributeLaws
 pub mod MapLaws
 pub mod PathLaws
 pub mod WordLaws
