@@ -1,4 +1,5 @@
 pub mod AttributeLaws
+pub mod FieldLaws
 pub mod MapLaws
 pub mod PathLaws
 pub mod WordLaws

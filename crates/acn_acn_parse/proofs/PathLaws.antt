@@ -80,7 +80,7 @@ abbrev IsEquals : Option Signed → Type 0
 IsEquals None = Unit {0}
 IsEquals (Some n) = is_signed n ≡ true
 
-below : (n m : ℕ) → n < m → nat_lt n m ≡ true
+pub below : (n m : ℕ) → n < m → nat_lt n m ≡ true
 below n m h = grind (arith, nat_tests)
 
 pub is_below : (n m : ℕ) → nat_lt n m ≡ true → n < m
