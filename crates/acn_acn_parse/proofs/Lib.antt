@@ -1,5 +1,6 @@
 pub mod AttributeLaws
 pub mod FieldLaws
 pub mod MapLaws
+pub mod ModuleLaws
 pub mod PathLaws
 pub mod WordLaws
