@@ -277,7 +277,7 @@ modules_from n (x ∷ xs) bound fits =
     let whole = length-append (module_tokens x) (flat_map module_tokens xs) in
     let less : length (flat_map module_tokens xs ++ []) ≤ n = omega (arith, length-append (flat_map module_tokens xs) []) in
     let more : many has_more (module_at n) (flat_map module_tokens xs ++ []) ≡ Some (xs, []) =
-        many_again has_more (module_at n) module_tokens IsModule (λ _. Unit {0}) n (λ m r bound fits _. module_again n m r bound fits) module_starts (λ _ _ _. tt) module_some xs [] less (all_pass is_module xs k.1) tt refl in
+    many_again has_more (module_at n) module_tokens IsModule (λ _. Unit {0}) n (λ m r bound fits _. module_again n m r bound fits) module_starts (λ _ _ _. tt) module_some xs [] less (all_pass is_module xs k.1) tt refl in
     then_again _ _ _ _ _ (module_again n x _ bound k.0)
     (then_again _ _ _ _ _ (subst (λ (z : List Lexeme). many has_more (module_at n) z ≡ outcome xs []) (append-nil (flat_map module_tokens xs)) more) refl)
 

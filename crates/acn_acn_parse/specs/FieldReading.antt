@@ -1,9 +1,9 @@
 -- What the parser of fields, entries and modules answers, step by step. A tree is answered as its plain data.
-use Rattle.std.specs.Prelude.{◌≡◌, ℕ, zero, suc, Bool, true, false, not, ◌||◌, if◌then◌else◌, List, [], ◌∷◌, Option, Some, None, Result, Ok, Err, codes}
+use Rattle.std.specs.Prelude.{◌≡◌, ℕ, zero, suc, map, Bool, true, false, not, ◌||◌, if◌then◌else◌, List, [], ◌∷◌, Option, Some, None, Result, Ok, Err, codes}
 use Rattle.acn_lex.specs.declared.Kind.TheVariants.{Word, Mark}
 use Rattle.acn_lex.specs.Lexeme.{Lexeme}
-use Rattle.acn_cursor.specs.Steps.{Parser, ◌>>=◌, ◌>>◌, pure, refuse, eat, expect, sees, word, many, Fails}
-use Rattle.acn_cursor.specs.Words.{is_reference}
+use Rattle.acn_cursor.specs.Steps.{Parser, ◌>>=◌, ◌>>◌, pure, refuse, eat, expect, sees, word, many, Fails, is_whole, Refused, token}
+use Rattle.acn_cursor.specs.Words.{is_reference, acn_left_out_words}
 use Rattle.acn_cursor.specs.declared.fault.ParseFault.{ParseFault}
 use Rattle.acn_acn_syntax.specs.Mirror.{Field, Braces, Fields, plain, inserted, number, no_braces, braces, Entry, Module}
 use Rattle.acn_acn_syntax.specs.ModuleTokens.{is_acn_identifier}
@@ -21,6 +21,15 @@ use Rattle.acn_acn_parse.specs.MapReading.{signed}
 abbrev pub ReadsAs : {A B : Type 0} → (B → A) → Option (A × List Lexeme) → Result B ParseFault → List Lexeme → Type 0
 ReadsAs view outcome (Ok b) new = outcome ≡ Some (view b, new)
 ReadsAs view outcome (Err e) new = Fails outcome e
+
+-- the same of a parser that has to take all tokens
+abbrev pub WholeAs : {A B : Type 0} → (B → A) → Option (A × List Lexeme) → Result B ParseFault → Type 0
+WholeAs view outcome (Ok b) = is_whole outcome ≡ Some (view b)
+WholeAs view outcome (Err e) = Refused (is_whole outcome) e
+
+-- the words that are left out of ACN files
+unfoldable pub left_out_tokens : List Lexeme
+left_out_tokens = map (token Word) acn_left_out_words
 
 -- ---- arguments
 

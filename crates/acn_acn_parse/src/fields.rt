@@ -126,11 +126,7 @@ fn starts_plain(cursor: &Cursor<'_>) -> bool
 }
 
 // The first field and those behind it.
-fn joined(
-    alloc: Global,
-    first: AcnField,
-    more: Row<AcnField>,
-) -> Result<Row<AcnField>, NoMemory>
+fn joined(alloc: Global, first: AcnField, more: Row<AcnField>) -> Result<Row<AcnField>, NoMemory>
     ensures { IfOk result (λ all. map field_of all ≡ field_of first ∷ map field_of more) }
 {
     with_first(alloc, first, more)
@@ -209,11 +205,7 @@ pub fn braces(
 
 #[cycle(fields)]
 #[tactic(auto, unfolding(crate::specs::FieldReading::fields))]
-fn fields(
-    alloc: Global,
-    depth: usize,
-    cursor: &mut Cursor<'_>,
-) -> Result<Row<AcnField>, ParseFault>
+fn fields(alloc: Global, depth: usize, cursor: &mut Cursor<'_>) -> Result<Row<AcnField>, ParseFault>
     ensures { ReadsAs (map field_of) (spec.fields (spec.field_at depth) cursor.old) result cursor.new }
 {
     if cursor.eat(Kind::Mark, b"}") {
@@ -246,11 +238,7 @@ fn more_fields(
 
 #[cycle(fields)]
 #[tactic(auto, unfolding(crate::specs::FieldReading::next_field))]
-fn next_field(
-    alloc: Global,
-    depth: usize,
-    cursor: &mut Cursor<'_>,
-) -> Result<AcnField, ParseFault>
+fn next_field(alloc: Global, depth: usize, cursor: &mut Cursor<'_>) -> Result<AcnField, ParseFault>
     ensures { ReadsAs field_of (spec.next_field (spec.field_at depth) cursor.old) result cursor.new }
 {
     cursor.expect(Kind::Mark, b",")?;

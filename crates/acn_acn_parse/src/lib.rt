@@ -5,9 +5,11 @@ mod attributes;
 mod fields;
 mod maps;
 mod modules;
+mod parse;
 mod words;
 
 pub use maps::parse_map;
+pub use parse::parse_acn;
 
 #[cfg(test)]
 mod tests;

@@ -127,11 +127,7 @@ fn heading(cursor: &mut Cursor<'_>) -> Result<(), ParseFault>
 }
 
 #[tactic(auto, unfolding(crate::specs::FieldReading::module_at))]
-fn module_at(
-    alloc: Global,
-    depth: usize,
-    cursor: &mut Cursor<'_>,
-) -> Result<AcnModule, ParseFault>
+fn module_at(alloc: Global, depth: usize, cursor: &mut Cursor<'_>) -> Result<AcnModule, ParseFault>
     ensures { ReadsAs module_of (spec.module_at depth cursor.old) result cursor.new }
 {
     let name = reference(alloc, cursor)?;
@@ -160,11 +156,7 @@ fn more_modules(
 }
 
 // The first module and those behind it.
-fn joined(
-    alloc: Global,
-    first: AcnModule,
-    more: Row<AcnModule>,
-) -> Result<Row<AcnModule>, NoMemory>
+fn joined(alloc: Global, first: AcnModule, more: Row<AcnModule>) -> Result<Row<AcnModule>, NoMemory>
     ensures { IfOk result (λ all. map module_of all ≡ module_of first ∷ map module_of more) }
 {
     with_first(alloc, first, more)

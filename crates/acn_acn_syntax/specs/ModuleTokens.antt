@@ -1,5 +1,5 @@
 -- The tokens of ACN modules, and which trees of them are proper. The notation is this profile's own.
-use Rattle.std.specs.Prelude.{ℕ, ◌^◌, Bool, true, false, not, ◌&&◌, nat_lt, List, [], ◌∷◌, ◌++◌, Option, Some, None, codes}
+use Rattle.std.specs.Prelude.{◌≡◌, ℕ, ◌^◌, Bool, true, false, not, ◌&&◌, nat_lt, List, [], ◌∷◌, ◌++◌, Option, Some, None, codes}
 use Rattle.std.specs.List.{flat_map, list_all, list_any}
 use Rattle.std.specs.Fmt.{decimal}
 use Rattle.std.specs.Str.{bytes_eq}
@@ -9,7 +9,9 @@ use Rattle.acn_cursor.specs.Steps.{token}
 use Rattle.acn_cursor.specs.Words.{is_identifier, is_reference}
 use Rattle.acn_acn_syntax.specs.MapTokens.{signed_tokens}
 use Rattle.acn_acn_syntax.specs.Mirror.{Field, Braces, Fields, plain, inserted, number, no_braces, braces, no_fields, and_field, Entry, Module}
+use Rattle.acn_acn_syntax.specs.View.{modules_of}
 use Rattle.acn_acn_syntax.specs.declared.maps.Signed.{Signed}
+use Rattle.acn_acn_syntax.specs.declared.modules.AcnModules.{AcnModules}
 use Rattle.acn_acn_syntax.specs.declared.modules.AcnPath.{AcnPath}
 use Rattle.acn_acn_syntax.specs.declared.modules.Alignment.{Alignment}
 use Rattle.acn_acn_syntax.specs.declared.modules.Alignment.TheVariants as align
@@ -237,3 +239,11 @@ is_module m = is_reference m.name && list_all is_entry m.entries
 -- There is a module; names are references and identifiers, and numbers are below 2 ^ 64.
 abbrev pub is_proper : List Module → Bool
 is_proper ms = is_some_of ms && list_all is_module ms
+
+-- The same of the trees of the program.
+
+abbrev pub acn_tokens : AcnModules → Tokens
+acn_tokens t = tokens_of (modules_of t)
+
+abbrev pub IsProperAcn : AcnModules → Type 0
+IsProperAcn t = is_proper (modules_of t) ≡ true
