@@ -1,3 +1,4 @@
 pub mod AttributeReading
+pub mod FieldReading
 pub mod MapReading
 pub mod WordReading

@@ -186,7 +186,8 @@ fn attribute(alloc: Global, cursor: &mut Cursor<'_>) -> Result<Attr, ParseFault>
     attribute_by(alloc, name, cursor)
 }
 
-fn has_comma(cursor: &Cursor<'_>) -> bool
+/// Whether a comma comes next.
+pub fn has_comma(cursor: &Cursor<'_>) -> bool
     ensures { result ≡ spec.has_comma cursor.now }
 {
     cursor.sees(Kind::Mark, b",")

@@ -2,10 +2,14 @@
 #![tactic(auto)]
 
 mod attributes;
+mod fields;
 mod maps;
+mod modules;
+mod parse;
 mod words;
 
 pub use maps::parse_map;
+pub use parse::parse_acn;
 
 #[cfg(test)]
 mod tests;

@@ -1,5 +1,5 @@
 -- The tokens of ACN modules, and which trees of them are proper. The notation is this profile's own.
-use Rattle.std.specs.Prelude.{ℕ, ◌^◌, Bool, true, false, not, ◌&&◌, nat_lt, List, [], ◌∷◌, ◌++◌, length, Option, Some, None, codes}
+use Rattle.std.specs.Prelude.{◌≡◌, ℕ, ◌^◌, Bool, true, false, not, ◌&&◌, nat_lt, List, [], ◌∷◌, ◌++◌, Option, Some, None, codes}
 use Rattle.std.specs.List.{flat_map, list_all, list_any}
 use Rattle.std.specs.Fmt.{decimal}
 use Rattle.std.specs.Str.{bytes_eq}
@@ -9,7 +9,9 @@ use Rattle.acn_cursor.specs.Steps.{token}
 use Rattle.acn_cursor.specs.Words.{is_identifier, is_reference}
 use Rattle.acn_acn_syntax.specs.MapTokens.{signed_tokens}
 use Rattle.acn_acn_syntax.specs.Mirror.{Field, Braces, Fields, plain, inserted, number, no_braces, braces, no_fields, and_field, Entry, Module}
+use Rattle.acn_acn_syntax.specs.View.{modules_of}
 use Rattle.acn_acn_syntax.specs.declared.maps.Signed.{Signed}
+use Rattle.acn_acn_syntax.specs.declared.modules.AcnModules.{AcnModules}
 use Rattle.acn_acn_syntax.specs.declared.modules.AcnPath.{AcnPath}
 use Rattle.acn_acn_syntax.specs.declared.modules.Alignment.{Alignment}
 use Rattle.acn_acn_syntax.specs.declared.modules.Alignment.TheVariants as align
@@ -171,12 +173,17 @@ attribute_words = codes "size" ∷ codes "encoding" ∷ codes "endianness" ∷ c
 unfoldable pub is_acn_identifier : List ℕ → Bool
 is_acn_identifier text = is_identifier text && not (list_any (bytes_eq text) attribute_words)
 
+-- at least one
+abbrev pub is_some_of : {A : Type 0} → List A → Bool
+is_some_of [] = false
+is_some_of (x ∷ xs) = true
+
 abbrev pub is_signed : Signed → Bool
 is_signed s = nat_lt s.n (2 ^ 64)
 
 -- at least one name
 abbrev pub is_path : AcnPath → Bool
-is_path p = nat_lt 0 (length p.names) && list_all is_acn_identifier p.names
+is_path p = is_some_of p.names && list_all is_acn_identifier p.names
 
 abbrev pub is_condition : Condition → Bool
 is_condition c = is_path c.path && equals_fine c.equals
@@ -193,7 +200,7 @@ is_size (size.Path p) = is_path p
 -- a present-when has at least one condition
 abbrev pub is_attr : Attr → Bool
 is_attr (attr.Size s) = is_size s
-is_attr (attr.PresentWhen conditions) = nat_lt 0 (length conditions) && list_all is_condition conditions
+is_attr (attr.PresentWhen conditions) = is_some_of conditions && list_all is_condition conditions
 is_attr (attr.Determinant p) = is_path p
 is_attr (attr.MappingFunction name) = is_acn_identifier name
 is_attr _ = true
@@ -231,4 +238,12 @@ is_module m = is_reference m.name && list_all is_entry m.entries
 
 -- There is a module; names are references and identifiers, and numbers are below 2 ^ 64.
 abbrev pub is_proper : List Module → Bool
-is_proper ms = nat_lt 0 (length ms) && list_all is_module ms
+is_proper ms = is_some_of ms && list_all is_module ms
+
+-- The same of the trees of the program.
+
+abbrev pub acn_tokens : AcnModules → Tokens
+acn_tokens t = tokens_of (modules_of t)
+
+abbrev pub IsProperAcn : AcnModules → Type 0
+IsProperAcn t = is_proper (modules_of t) ≡ true
