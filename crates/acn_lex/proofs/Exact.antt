@@ -8,6 +8,7 @@ use Rattle.acn_lex.specs.declared.scan.Step.{Step}
 use Rattle.acn_lex.specs.declared.scan.Step.TheVariants as step
 use Rattle.acn_lex.specs.declared.fault.LexFault.{LexFault}
 use Rattle.acn_lex.specs.declared.fault.LexFault.TheVariants as fault
+use Rattle.acn_lex.specs.Laws.{TokensAreDetermined, FaultsAreDetermined, FaultsHaveNoTokens}
 use Rattle.acn_lex.specs.Scan.{step_at}
 use Rattle.acn_lex.specs.declared.Token.{Token}
 use Rattle.acn_lex.specs.declared.Tokens.{Tokens}
@@ -253,3 +254,25 @@ each_told bytes (Err e) h ts l few = told (lex_from (length bytes) 1000000 0 byt
 pub first_told : (bytes : List ℕ) (r : Result Tokens LexFault) → Turned bytes r → (f : LexFault) → Faults bytes f → AnswersFault f r
 first_told bytes (Ok us) h f l = let k = faults_again (length bytes) 1000000 0 bytes f l (omega arith) in absurd cc
 first_told bytes (Err e) h f l = refused (lex_from (length bytes) 1000000 0 bytes) f e (faults_again (length bytes) 1000000 0 bytes f l (omega arith)) h
+
+one_list : (o : Outcome) (ts us : List Placed) → o ≡ Ok ts → o ≡ Ok us → ts ≡ us
+one_list o ts us h k = cc
+
+pub tokens_determined : TokensAreDetermined
+tokens_determined bytes ts us l k =
+    let n = length ts + length us in
+    one_list (lex_from (length bytes) n 0 bytes) ts us (lexes_again (length bytes) n 0 bytes ts l (omega arith) (omega arith)) (lexes_again (length bytes) n 0 bytes us k (omega arith) (omega arith))
+
+one_fault : (o : Outcome) (e f : LexFault) → o ≡ Err e → o ≡ Err f → e ≡ f
+one_fault o e f h k = cc
+
+pub faults_determined : FaultsAreDetermined
+faults_determined bytes e f l k =
+    one_fault (lex_from (length bytes) 1000000 0 bytes) e f (faults_again (length bytes) 1000000 0 bytes e l (omega arith)) (faults_again (length bytes) 1000000 0 bytes f k (omega arith))
+
+none_both : (o : Outcome) (ts : List Placed) (e : LexFault) → o ≡ Ok ts → o ≡ Err e → ⊥
+none_both o ts e h k = absurd cc
+
+pub faults_without_tokens : FaultsHaveNoTokens
+faults_without_tokens bytes e ts l k few =
+    none_both (lex_from (length bytes) 1000000 0 bytes) ts e (lexes_again (length bytes) 1000000 0 bytes ts k (omega arith) few) (faults_again (length bytes) 1000000 0 bytes e l (omega arith))

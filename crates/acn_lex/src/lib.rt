@@ -3,6 +3,7 @@
 #![tactic(auto)]
 
 mod fault;
+mod laws;
 mod lexing;
 mod literal;
 mod number;
@@ -11,6 +12,7 @@ mod scan;
 mod tests;
 
 pub use fault::LexFault;
+pub use laws::{numbers_are_decimal, one_answer_holds};
 pub use lexing::lex;
 pub use number::number_of;
 
