@@ -1,0 +1,13 @@
+pub mod CountedCodes
+pub mod DigitCodes
+pub mod DigitLemmas
+pub mod EndedCodes
+pub mod EndedLemmas
+pub mod FixedCodes
+pub mod Keys
+pub mod LeafBounds
+pub mod MostLemmas
+pub mod Orders
+pub mod PieceLemmas
+pub mod SaidLemmas
+pub mod SignedCodes

@@ -1,0 +1,7 @@
+pub mod Counts
+pub mod DigitReads
+pub mod EndedReads
+pub mod FixedReads
+pub mod Limits
+pub mod Pieces
+pub mod Reads
