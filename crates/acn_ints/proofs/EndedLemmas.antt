@@ -82,7 +82,7 @@ stays_rest size v old mid new t s = stays_twice old mid new (taken_stays size ol
 
 -- Digits in a row.
 
-reads_join : (P Q R : List Bool → Type 0) (a b c : Reading) → ((x y : List Bool) → P x → Q y → R (x ++ y)) → Reads P a b → Reads Q b c → Reads R a c
+pub reads_join : (P Q R : List Bool → Type 0) (a b c : Reading) → ((x y : List Bool) → P x → Q y → R (x ++ y)) → Reads P a b → Reads Q b c → Reads R a c
 reads_join P Q R a b c f x y = record {
   front = x.front ++ y.front;
   split = x.split ∙ ap (λ (t : List Bool). x.front ++ t) y.split ∙ sym (append_assoc x.front y.front c.rest);
@@ -94,7 +94,7 @@ reads_join P Q R a b c f x y = record {
     plus : (p q r : ℕ) → (p + q) + r ≡ p + (q + r)
     plus p q r = omega arith
 
-codes-append : (size z : ℕ) (ds es : List ℕ) → digit_codes size z (ds ++ es) ≡ digit_codes size z ds ++ digit_codes size z es
+pub codes-append : (size z : ℕ) (ds es : List ℕ) → digit_codes size z (ds ++ es) ≡ digit_codes size z ds ++ digit_codes size z es
 codes-append size z [] es = refl
 codes-append size z (d ∷ ds) es = ap (λ (t : List Bool). low_bits size (z + d) ++ t) (codes-append size z ds es) ∙ sym (append_assoc (low_bits size (z + d)) (digit_codes size z ds) (digit_codes size z es))
 

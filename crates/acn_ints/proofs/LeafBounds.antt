@@ -44,15 +44,22 @@ order_fits n little h k =
     let r = from_to_is 1 64 n h in
     (r.0, r.1, λ e. equal_numbers (n % 8) 0 (implied little (nat_eq (n % 8) 0) k e))
 
-digits_fit : (size low high n : ℕ) → (from_to low high n && nat_eq (n % size) 0) ≡ true → 0 < size → high ≤ size * 19 → DigitsFit size n
-digits_fit size low high n h p m =
+digits_fit : (size low high n : ℕ) → (from_to low high n && nat_eq (n % size) 0) ≡ true → 0 < size → size ≤ low → high ≤ size * 19 → DigitsFit size n
+digits_fit size low high n h p l m =
     let f = both_are (from_to low high n) (nat_eq (n % size) 0) h in
     let r = from_to_is low high n f.0 in
     let zero_rest = equal_numbers (n % size) 0 f.1 in
-    (n / size, whole size n p zero_rest, few size n p zero_rest (omega (arith, r.1, m)))
+    (n / size, whole size n p zero_rest, few size n p zero_rest (omega (arith, r.1, m)), some (n / size) (whole size n p zero_rest) (omega (arith, r.0, l)))
   where
     whole : (size n : ℕ) → 0 < size → n % size ≡ 0 → n ≡ size * (n / size)
     whole size n p e = let d = div-add-mod n size in omega (arith, d, e)
+
+    some : (q : ℕ) → n ≡ size * q → size ≤ n → 1 ≤ q
+    some zero e h = absurd (omega (arith, nothing size, e, h, p))
+      where
+        nothing : (s : ℕ) → s * zero ≡ 0
+        nothing s = omega arith
+    some (suc q) e h = omega arith
 
     few : (size n : ℕ) → 0 < size → n % size ≡ 0 → n ≤ size * 19 → n / size ≤ 19
     few size n p e h = below (n / size) (subst (λ (k : ℕ). k ≤ size * 19) (whole size n p e) h)
@@ -262,9 +269,9 @@ coding_fits (CountedFrom low) little kind items table set t c o s f v w few = co
 coding_fits CountedSigned little kind items table set t c o s f v w few = tt
 coding_fits (PosInt n) little kind items table set t c o s f v w few = order_fits n little c o
 coding_fits (Twos n) little kind items table set t c o s f v w few = order_fits n little c o
-coding_fits (Bcd n) little kind items table set t c o s f v w few = digits_fit 4 4 76 n c (omega arith) (omega arith)
+coding_fits (Bcd n) little kind items table set t c o s f v w few = digits_fit 4 4 76 n c (omega arith) (omega arith) (omega arith)
 coding_fits BcdEnded little kind items table set t c o s f v w few = tt
-coding_fits (Ascii n false) little kind items table set t c o s f v w few = digits_fit 8 8 152 n c (omega arith) (omega arith)
+coding_fits (Ascii n false) little kind items table set t c o s f v w few = digits_fit 8 8 152 n c (omega arith) (omega arith) (omega arith)
 coding_fits (Ascii n true) little kind items table set t c o s f v w few = signed_fit n c
 coding_fits (AsciiEnded end signed) little kind items table set t c o s f v w few = end_fits end (both_are (is_terminator end) (not (begins_number (octet_numbers end))) c).0
 coding_fits (Flag p q) little kind items table set t c o s f v w few = patterns_fit p q c

@@ -1,6 +1,8 @@
 pub mod CountedCodes
+pub mod Covered
 pub mod DigitCodes
 pub mod DigitLemmas
+pub mod DigitPuts
 pub mod EndedCodes
 pub mod EndedLemmas
 pub mod FixedCodes
@@ -8,6 +10,8 @@ pub mod Keys
 pub mod LeafBounds
 pub mod MostLemmas
 pub mod Orders
+pub mod Permitted
 pub mod PieceLemmas
 pub mod SaidLemmas
 pub mod SignedCodes
+pub mod Writings

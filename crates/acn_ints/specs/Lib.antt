@@ -1,5 +1,6 @@
 pub mod Counts
 pub mod DigitReads
+pub mod DigitWrites
 pub mod EndedReads
 pub mod FixedReads
 pub mod Limits

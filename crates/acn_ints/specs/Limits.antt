@@ -26,9 +26,9 @@ IsNearTable (Some table) = AreNear table.lines
 abbrev pub OrderFits : (little : Bool) → ℕ → Type 0
 OrderFits little n = (1 ≤ n) × (n ≤ 64) × (little ≡ true → n % 8 ≡ 0)
 
--- at most 19 digits of some bits each
+-- 1 to 19 digits of some bits each
 abbrev pub DigitsFit : (size : ℕ) → ℕ → Type 0
-DigitsFit size n = (count : ℕ) × (n ≡ size * count) × (count ≤ 19)
+DigitsFit size n = (count : ℕ) × (n ≡ size * count) × (count ≤ 19) × (1 ≤ count)
 
 abbrev pub PatternsFit : Option (List Bool) → Option (List Bool) → Type 0
 PatternsFit (Some p) (Some q) = length p ≡ length q

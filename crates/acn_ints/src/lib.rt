@@ -2,6 +2,7 @@
 #![tactic(auto)]
 
 mod counted;
+mod digit_writer;
 mod digits;
 mod ended;
 mod ended_codings;
@@ -12,5 +13,10 @@ mod ordered;
 mod piece;
 mod reader;
 mod said;
+mod writer;
 
 pub use reader::read_num;
+pub use writer::put_num;
+
+#[cfg(test)]
+mod tests;

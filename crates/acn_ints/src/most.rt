@@ -1,4 +1,4 @@
-ghost use Rattle.std.specs.Prelude.{◌≡◌, ◌≤◌, ◌<◌, max, false, nat_abs, ℕ, ℤ, length, List, Some, None};
+ghost use Rattle.std.specs.Prelude.{◌≡◌, ◌≤◌, ◌<◌, ◌^◌, ◌-◌, max, false, nat_abs, ℕ, ℤ, length, List, Some, None};
 ghost use Rattle.std.specs.List.{flat_map};
 ghost use Rattle.std.specs.Int.{int_max, int_min};
 ghost use Rattle.acn_tree.specs.Images.{clipped, images_by, images_of};
@@ -12,10 +12,12 @@ use acn_tree::NumLeaf;
 type Line = (i128, i128, i128);
 
 /// How many decimal digits the number has, 20 at most.
-fn digits_of(k: u128) -> u32
+pub fn digits_of(k: u128) -> u32
     ensures count { result ≡ digit_count k }
     ensures some { 1 ≤ result }
     ensures few { result ≤ 20 }
+    ensures holds { k < 10 ^ 20 → k < 10 ^ result }
+    ensures least { 1 < result → 10 ^ (result - 1) ≤ k }
 {
     let mut power = 10u128;
     for count in 1..20u32 {
