@@ -1,0 +1,17 @@
+pub mod CountedCodes
+pub mod Covered
+pub mod DigitCodes
+pub mod DigitLemmas
+pub mod DigitPuts
+pub mod EndedCodes
+pub mod EndedLemmas
+pub mod FixedCodes
+pub mod Keys
+pub mod LeafBounds
+pub mod MostLemmas
+pub mod Orders
+pub mod Permitted
+pub mod PieceLemmas
+pub mod SaidLemmas
+pub mod SignedCodes
+pub mod Writings
