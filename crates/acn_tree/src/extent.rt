@@ -281,3 +281,53 @@ pub fn interval(tree: &Tree) -> Bounds
 {
     node_bounds(tree.root())
 }
+
+#[cfg(test)]
+mod tests {
+    use super::*;
+    use acn_num::NoMemory;
+
+    // `IA5String (SIZE (0..3))` ended by an octet of zeros: 1 to 4 octets.
+    #[test]
+    fn an_ended_text_counts_its_terminator(rt: HostRuntime) -> Result<(), NoMemory> {
+        let alloc = rt.alloc();
+        let leaf = TextLeaf {
+            sized: Sizing {
+                sizes: RangeSet::one(alloc, 0, 3)?,
+                rule: SizeRule::Prefix { low: 0, width: 0 },
+            },
+            ended: Some(Pattern::new(&[false; 8])),
+            alphabet: RangeSet::one(alloc, 0, 127)?,
+            width: 8,
+            indexed: false,
+        };
+        assert_eq!(rt;
+            text(&leaf),
+            Bounds {
+                least: 8,
+                greatest: 32
+            }
+        );
+        Ok(())
+    }
+
+    // `a INTEGER (0..7) OPTIONAL`: its presence bit, and 0 to 3 bits.
+    #[test]
+    fn an_optional_component_counts_its_presence_bit(rt: HostRuntime) {
+        let a = exactly(3);
+        assert_eq!(rt;
+            component(&Presence::Bit, a),
+            Bounds {
+                least: 1,
+                greatest: 4
+            }
+        );
+        assert_eq!(rt;
+            component(&Presence::Always, a),
+            Bounds {
+                least: 3,
+                greatest: 3
+            }
+        );
+    }
+}

@@ -1,7 +1,7 @@
-use Rattle.std.proofs.Common.{◌≡◌, ◌+◌, ◌-◌, ◌^◌, ◌≤◌, not}
+use Rattle.std.proofs.Common.{◌≡◌, ◌+◌, ◌-◌, ◌^◌, ◌≤◌}
 use Rattle.std.specs.Prelude.{count_by, nat_le}
 use Rattle.std.specs.List.{range_with_len}
-use Rattle.acn_tree.specs.Length.{least_octets, least_signed_octets, fits_octets, digit_count}
+use Rattle.acn_tree.specs.Length.{digit_count}
 use Rattle.acn_tree.proofs.code_lengths.digit_count.Given as goal
 
 abbrev pub invariant-loop-digits : goal.invariant-loop-digits

@@ -1,6 +1,5 @@
-use Rattle.std.proofs.Common.{◌+◌, ◌^◌, not, sym, arith}
+use Rattle.std.proofs.Common.{◌^◌, arith}
 use Rattle.std.specs.Prelude.{nat_le}
-use Rattle.acn_tree.specs.Length.{fits_octets}
 use Rattle.acn_tree.proofs.CodeLengths.{counts-turn, counts-end}
 use Rattle.acn_tree.proofs.code_lengths.least_octets.Goals as goal
 

@@ -1,5 +1,4 @@
-use Rattle.std.proofs.Common.{◌+◌, ◌^◌, not, sym, arith}
-use Rattle.std.specs.Prelude.{nat_le}
+use Rattle.std.proofs.Common.{not, arith}
 use Rattle.acn_tree.specs.Length.{fits_octets}
 use Rattle.acn_tree.proofs.CodeLengths.{counts-turn, counts-end}
 use Rattle.acn_tree.proofs.code_lengths.least_signed_octets.Goals as goal

@@ -1,7 +1,7 @@
-use Rattle.std.proofs.Common.{◌≡◌, ◌+◌, ◌-◌, ◌^◌, ◌≤◌, not}
-use Rattle.std.specs.Prelude.{count_by, nat_le}
+use Rattle.std.proofs.Common.{◌≡◌, ◌+◌, ◌-◌, ◌≤◌, not}
+use Rattle.std.specs.Prelude.{count_by}
 use Rattle.std.specs.List.{range_with_len}
-use Rattle.acn_tree.specs.Length.{least_octets, least_signed_octets, fits_octets, digit_count}
+use Rattle.acn_tree.specs.Length.{least_signed_octets, fits_octets}
 use Rattle.acn_tree.proofs.code_lengths.least_signed_octets.Given as goal
 
 abbrev pub invariant-loop-octets : goal.invariant-loop-octets

@@ -1,8 +1,4 @@
-use Rattle.std.proofs.Common.{◌+◌, ℤ, drop, map, arith}
-use Rattle.std.specs.List.{flat_map}
-use Rattle.std.proofs.lemmas.List.{drop_all}
-use Rattle.acn_tree.specs.Images.{clipped}
-use Rattle.acn_tree.proofs.CodeLengths.{alone, pieces-step, ranges-step, items-step, lengths-done, pieces-end, items-end}
+use Rattle.acn_tree.proofs.CodeLengths.{items-step, lengths-done, items-end}
 use Rattle.acn_tree.proofs.code_lengths.with_items.Goals as goal
 
 pub loop-item-preserved : goal.loop-item-preserved

@@ -1,6 +1,4 @@
 use Rattle.std.proofs.Common.{◌≡◌, ◌^◌, ◌<◌, ◌≤◌, drop, map}
-use Rattle.std.specs.List.{flat_map}
-use Rattle.acn_tree.specs.Images.{clipped}
 use Rattle.acn_tree.specs.Interval.{hull, lengths_of}
 use Rattle.acn_tree.proofs.CodeLengths.{alone}
 use Rattle.acn_tree.proofs.code_lengths.with_items.Given as goal

@@ -1,8 +1,5 @@
-use Rattle.std.proofs.Common.{◌+◌, ℤ, drop, map, arith}
-use Rattle.std.specs.List.{flat_map}
-use Rattle.std.proofs.lemmas.List.{drop_all}
 use Rattle.acn_tree.specs.Images.{clipped}
-use Rattle.acn_tree.proofs.CodeLengths.{alone, pieces-step, ranges-step, items-step, lengths-done, pieces-end, items-end}
+use Rattle.acn_tree.proofs.CodeLengths.{pieces-step, lengths-done, pieces-end}
 use Rattle.acn_tree.proofs.code_lengths.with_lines.Goals as goal
 
 pub loop-line-preserved : goal.loop-line-preserved
