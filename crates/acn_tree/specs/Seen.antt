@@ -93,5 +93,5 @@ module _ (s total : ℕ) where
   alternative_seen in_home a = seen in_home false (tests_name s a.tests) a.grammar
 
 -- the home of a slot and its uses are right in a tree
-abbrev pub slot_kept : Grammar → ℕ → Bool
+unfoldable pub slot_kept : Grammar → ℕ → Bool
 slot_kept root s = (seen s (seen s 0 false false false root).about false false false root).fine
