@@ -1,5 +1,5 @@
 -- What is seen of a slot by recursion, over the nodes in preorder.
-use Rattle.std.proofs.Common.{◌≡◌, ℕ, zero, suc, ◌+◌, ◌-◌, ◌^◌, ◌≤◌, min, Bool, true, false, not, List, [], ◌∷◌, ◌++◌, length, Option, Some, None, nat_eq, ◌&&◌, ◌||◌, cond, refl, sym, ap, ◌∙◌, arith, append_assoc, append-nil}
+use Rattle.std.proofs.Common.{◌≡◌, ℕ, suc, ◌+◌, ◌-◌, ◌^◌, min, Bool, true, false, not, List, [], ◌∷◌, ◌++◌, Some, None, nat_eq, ◌&&◌, ◌||◌, cond, refl, sym, ap, ◌∙◌, arith, append_assoc, append-nil}
 use Rattle.std.specs.Prelude.{count_by, map}
 use Rattle.std.specs.List.{list_all, list_any}
 use Rattle.std.proofs.lemmas.List.Folds.{list_all-append, list_any-append}
@@ -9,7 +9,7 @@ use Rattle.acn_tree.specs.Grammar.{Grammar, Form, Fields, Alternatives, node, nu
 use Rattle.acn_tree.specs.Leaves.{implies, same_truth}
 use Rattle.acn_tree.specs.Seen.{tests_name, form_names, nothing, joined, weight, far, with_node, with_home, through, inserted_near, seen, form_seen, fields_seen, alternatives_seen}
 use Rattle.acn_tree.specs.Tree.{holds, is_seq, is_slot, is_about, near, near_node, near_form, near_if}
-use Rattle.acn_tree.specs.Walk.{Stand, Role, a_component, an_inserted, an_alternative, an_element, a_content, root_node, nodes, form_nodes, field_nodes, alternative_nodes, inside, own_tests, presence_tests, slot_here, slot_of, uses, form_uses, Use, condition}
+use Rattle.acn_tree.specs.Walk.{Stand, Role, a_component, an_inserted, an_alternative, an_element, a_content, nodes, form_nodes, field_nodes, alternative_nodes, inside, own_tests, presence_tests, slot_here, slot_of, form_uses, Use, condition}
 use Rattle.acn_tree.specs.declared.homes.Seen.{Seen}
 use Rattle.acn_tree.specs.declared.node.Presence.{Presence}
 use Rattle.acn_tree.specs.declared.node.Presence.TheVariants.{Always, Bit, When}

@@ -1,11 +1,11 @@
 -- Sets in order and least widths, as tests.
-use Rattle.std.proofs.Common.{◌≡◌, ℕ, zero, suc, ◌+◌, ◌-◌, ◌^◌, ◌<◌, ◌≤◌, ℤ, pos, Bool, true, false, List, [], ◌∷◌, length, nat_lt, nat_le, nat_eq, ◌&&◌, ◌||◌, refl, ◌∙◌, ap, arith}
-use Rattle.std.specs.Prelude.{int_le, int_lt, ◌+ℤ◌, ◌-ℤ◌, ◌≤ℤ◌, ◌<ℤ◌}
+use Rattle.std.proofs.Common.{◌≡◌, ℕ, ◌-◌, ◌^◌, ◌<◌, ◌≤◌, ℤ, pos, true, false, List, [], ◌∷◌, length, refl, arith}
+use Rattle.std.specs.Prelude.{int_le, int_lt, ◌+ℤ◌, ◌≤ℤ◌, ◌<ℤ◌}
 use Rattle.std.proofs.lemmas.Bool.Decides.{nat_tests}
 use Rattle.std.proofs.lemmas.Int.{ints}
 use Rattle.std.proofs.Math.Nat.{pow-le-pow_right}
 use Rattle.acn_num.specs.Bits.{is_least_width}
-use Rattle.acn_num.specs.Ranges.{Above, AreRanges, are_ranges, are_ranges_above, bottom, count, size_of}
+use Rattle.acn_num.specs.Ranges.{Above, AreRanges, are_ranges, are_ranges_above, count}
 use Rattle.acn_tree.specs.Leaves.{holds_characters}
 
 lt_test : (x y : ℤ) → x <ℤ y → int_lt x y ≡ true

@@ -1,5 +1,5 @@
 -- What is seen of one slot inside a node, by recursion over its nodes.
-use Rattle.std.specs.Prelude.{ℕ, ◌+◌, ◌-◌, ◌^◌, min, nat_eq, Bool, true, false, not, ◌&&◌, ◌||◌, List, Option, Some, None, if◌then◌else◌}
+use Rattle.std.specs.Prelude.{ℕ, ◌+◌, ◌-◌, ◌^◌, min, nat_eq, Bool, true, false, not, ◌&&◌, ◌||◌, List, Option}
 use Rattle.std.specs.List.{list_any}
 use Rattle.acn_tree.specs.Grammar.{Grammar, Form, Fields, Alternatives, node, seq, list, choice, contained, no_fields, component, inserted, no_alternatives, alternative}
 use Rattle.acn_tree.specs.Check.{test_slot}

@@ -1,6 +1,5 @@
 use Rattle.std.proofs.Common.{arith}
-use Rattle.std.proofs.lemmas.Grind.{common_steps}
-use Rattle.acn_tree.proofs.Sizes.{some_counted, counted_width}
+use Rattle.acn_tree.proofs.Sizes.{some_counted}
 use Rattle.acn_tree.proofs.size_rules.holds_characters.Goals as goal
 
 pub overflow_sub-count : goal.overflow_sub-count

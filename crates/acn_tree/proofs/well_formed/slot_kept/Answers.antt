@@ -1,5 +1,4 @@
-use Rattle.std.proofs.Common.{arith, ap, sym, ◌∙◌, ℕ, false}
-use Rattle.std.proofs.lemmas.Grind.{common_steps}
+use Rattle.std.proofs.Common.{ap, ◌∙◌, ℕ, false}
 use Rattle.acn_tree.specs.Seen.{seen, slot_kept}
 use Rattle.acn_tree.specs.View.{grammar_of}
 use Rattle.acn_tree.specs.declared.homes.Seen.{Seen}

@@ -1,5 +1,4 @@
-use Rattle.std.proofs.Common.{sym, ◌∙◌, true, false, arith}
-use Rattle.std.proofs.lemmas.Grind.{common_steps}
+use Rattle.std.proofs.Common.{sym, ◌∙◌}
 use Rattle.acn_tree.specs.Seen.{slot_kept}
 use Rattle.acn_tree.specs.View.{grammar_of}
 use Rattle.acn_tree.proofs.RangeSteps.{range_turn, range_stop}
