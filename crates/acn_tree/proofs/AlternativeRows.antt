@@ -1,5 +1,5 @@
 -- Alternatives as a row.
-use Rattle.std.proofs.Common.{◌≡◌, ℕ, suc, ◌+◌, List, [], ◌∷◌, length, refl, ap}
+use Rattle.std.proofs.Common.{◌≡◌, suc, List, [], ◌∷◌, length, refl, ap}
 use Rattle.acn_tree.specs.Check.{conditions_of}
 use Rattle.acn_tree.specs.View.{alternatives_view}
 use Rattle.acn_tree.specs.declared.node.Alternative.{Alternative}

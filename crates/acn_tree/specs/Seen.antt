@@ -1,5 +1,5 @@
 -- What is seen of one slot inside a node, by recursion over its nodes.
-use Rattle.std.specs.Prelude.{ℕ, ◌+◌, ◌-◌, ◌^◌, min, nat_eq, Bool, true, false, not, ◌&&◌, ◌||◌, List, Option, Some, None, if◌then◌else◌}
+use Rattle.std.specs.Prelude.{ℕ, ◌+◌, ◌-◌, ◌^◌, min, nat_eq, Bool, true, false, not, ◌&&◌, ◌||◌, List, Option}
 use Rattle.std.specs.List.{list_any}
 use Rattle.acn_tree.specs.Grammar.{Grammar, Form, Fields, Alternatives, node, seq, list, choice, contained, no_fields, component, inserted, no_alternatives, alternative}
 use Rattle.acn_tree.specs.Check.{test_slot}
@@ -93,5 +93,5 @@ module _ (s total : ℕ) where
   alternative_seen in_home a = seen in_home false (tests_name s a.tests) a.grammar
 
 -- the home of a slot and its uses are right in a tree
-abbrev pub slot_kept : Grammar → ℕ → Bool
+unfoldable pub slot_kept : Grammar → ℕ → Bool
 slot_kept root s = (seen s (seen s 0 false false false root).about false false false root).fine

@@ -1,4 +1,4 @@
-use Rattle.std.proofs.Common.{◌≡◌, drop, map}
+use Rattle.std.proofs.Common.{◌≡◌, drop}
 use Rattle.acn_tree.specs.Kept.{all_below}
 use Rattle.acn_tree.proofs.node_rules.all_below.Given as goal
 

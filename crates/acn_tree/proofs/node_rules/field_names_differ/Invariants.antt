@@ -1,4 +1,4 @@
-use Rattle.std.proofs.Common.{◌≡◌, drop, map}
+use Rattle.std.proofs.Common.{◌≡◌, drop}
 use Rattle.acn_tree.specs.Asks.{same_name}
 use Rattle.acn_tree.specs.Leaves.{all_differ}
 use Rattle.acn_tree.specs.Tree.{field_names}

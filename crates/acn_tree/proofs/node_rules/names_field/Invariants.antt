@@ -1,4 +1,4 @@
-use Rattle.std.proofs.Common.{◌≡◌, drop, map}
+use Rattle.std.proofs.Common.{◌≡◌, drop}
 use Rattle.std.specs.List.{list_any}
 use Rattle.acn_tree.specs.Asks.{same_name}
 use Rattle.acn_tree.specs.Tree.{field_names}

@@ -1,5 +1,4 @@
 use Rattle.std.proofs.Common.{arith, ◌∙◌, sym, refl, ◌+◌}
-use Rattle.std.proofs.lemmas.Grind.{common_steps}
 use Rattle.acn_tree.proofs.TableRules.{line_left, line_none, checked_left, left_none}
 use Rattle.acn_tree.proofs.table_rules.left_by_line.Goals as goal
 

@@ -1,5 +1,5 @@
-use Rattle.std.proofs.Common.{arith, ◌∙◌, sym, refl}
-use Rattle.acn_tree.proofs.TableRules.{line_image, line_none, ends_last}
+use Rattle.std.proofs.Common.{◌∙◌, sym}
+use Rattle.acn_tree.proofs.TableRules.{line_none, ends_last}
 use Rattle.acn_tree.proofs.table_rules.widen_by_line.Goals as goal
 
 pub returns-else-is_at_most : goal.returns-else-is_at_most
