@@ -2,7 +2,7 @@
 use Rattle.std.proofs.Common.{◌≡◌, ℕ, ◌+◌, ◌<◌, List, ◌∷◌, length, get_or, drop, Option, sym, ap, subst, ◌∙◌, rules}
 use Rattle.std.proofs.lemmas.List.{drop_more}
 use Rattle.acn_tree.specs.Grammar.{Grammar, Form, Fields, Alternatives, node, num, octets, bits, text, seq, list, choice, contained, no_fields, component, inserted, no_alternatives, alternative}
-use Rattle.acn_tree.specs.NumbersKept.{NumbersKept, FormKept, FieldKept, FieldsKept, AlternativesKept}
+use Rattle.acn_tree.specs.KeptLeaves.{NumbersKept, FormKept, FieldKept, FieldsKept, AlternativesKept}
 use Rattle.acn_tree.specs.Tree.{IsTree}
 use Rattle.acn_tree.specs.View.{OneField, a_component, an_inserted, with_field, grammar_of, form_of, field_of, fields_view, alternative_of, alternatives_view}
 use Rattle.acn_tree.specs.declared.node.Alternative.{Alternative}

@@ -1,6 +1,6 @@
 ghost use Rattle.std.specs.Prelude.{◌≡◌, ◌^◌, ◌<◌, ◌≤◌, IsTrue};
 ghost use Rattle.acn_tree.specs.Interval.{span, form_span, num_span, text_span, component_span, field_span, fields_span, alternatives_span, end_width, exactly as just, plus as sum_of, times as product_of, hull as hull_of, hold as held, optional as perhaps, in_octets as whole_octets, size_of, sizes_of, from_one_octet as counted_from_one, code_lengths as lengths_of_codes};
-ghost use Rattle.acn_tree.specs.NumbersKept.{NumbersKept, FormKept, FieldKept, FieldsKept, AlternativesKept};
+ghost use Rattle.acn_tree.specs.KeptLeaves.{NumbersKept, FormKept, FieldKept, FieldsKept, AlternativesKept};
 ghost use Rattle.acn_tree.specs.Leaves.{num_fine};
 ghost use Rattle.acn_tree.specs.Length.{rule_width, index_width};
 ghost use Rattle.acn_tree.specs.View.{grammar_of, form_of, field_of, fields_view, alternatives_view};
@@ -75,7 +75,8 @@ fn in_octets(b: Bounds) -> Bounds
     }
 }
 
-fn size(x: Option<i128>) -> u64
+/// A size, at most 65,536.
+pub fn size(x: Option<i128>) -> u64
     ensures { result ≡ size_of x }
 {
     match x {

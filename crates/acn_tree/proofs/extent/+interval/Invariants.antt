@@ -1,6 +1,6 @@
 use Rattle.std.proofs.Common.{◌≡◌, ◌≤◌, ◌^◌, drop}
 use Rattle.acn_tree.specs.Interval.{fields_span, alternatives_span, plus, hull}
-use Rattle.acn_tree.specs.NumbersKept.{FieldsKept, AlternativesKept}
+use Rattle.acn_tree.specs.KeptLeaves.{FieldsKept, AlternativesKept}
 use Rattle.acn_tree.specs.View.{fields_view, alternatives_view}
 use Rattle.acn_tree.proofs.extent.+interval.Given as goal
 

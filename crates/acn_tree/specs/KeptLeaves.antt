@@ -1,4 +1,4 @@
--- That every number leaf of a grammar keeps its rules.
+-- The rules of number leaves, in a whole grammar.
 use Rattle.std.specs.Prelude.{IsTrue}
 use Rattle.acn_tree.specs.Grammar.{Grammar, Form, Fields, Alternatives, node, num, seq, list, choice, contained, no_fields, component, inserted, no_alternatives, alternative}
 use Rattle.acn_tree.specs.Leaves.{num_fine}
