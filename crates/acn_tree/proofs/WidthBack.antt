@@ -236,7 +236,7 @@ lengths_one coding w r (s ∷ rs) o f small =
     let high' = rest.1 in
     (omega arith, omega arith)
 
-count-most : (p : ℕ → Bool) (a n : ℕ) → count_by p (range_with_len a n) ≤ n
+pub count-most : (p : ℕ → Bool) (a n : ℕ) → count_by p (range_with_len a n) ≤ n
 count-most p a zero = omega arith
 count-most p a (suc n) =
     let one = sum_by-cons (λ x. cond (p x) 1 0) a (range_with_len (a + 1) n) in
