@@ -8,6 +8,7 @@ pub mod EndedLemmas
 pub mod FixedCodes
 pub mod Keys
 pub mod LeafBounds
+pub mod Lists
 pub mod MostLemmas
 pub mod Orders
 pub mod Permitted

@@ -1,17 +1,15 @@
 -- A permitted number has an image that the leaf's coding can write.
-use Rattle.std.proofs.Common.{◌≡◌, ℕ, zero, suc, ◌+◌, ◌-◌, ◌*◌, ◌/◌, ◌^◌, ◌<◌, ◌≤◌, ℤ, pos, negsuc, ◌+ℤ◌, Bool, true, false, not, List, [], ◌∷◌, ◌++◌, length, map, Option, Some, None, refl, sym, ap, ◌∙◌, subst, arith, nat_eq, nat_le, ◌&&◌, ◌||◌, IsTrue, inl, inr, ◌⊎◌}
+use Rattle.std.proofs.Common.{◌≡◌, ℕ, zero, suc, ◌-◌, ◌/◌, ◌^◌, ◌<◌, ℤ, pos, negsuc, ◌+ℤ◌, Bool, true, false, not, List, [], ◌∷◌, length, Option, Some, None, refl, sym, ◌∙◌, arith, nat_eq, nat_le, ◌&&◌, ◌||◌, IsTrue, inl, inr, ◌⊎◌}
 use Rattle.std.specs.Prelude.{◌-ℤ◌, ◌≤ℤ◌, ◌<ℤ◌, neg_ℤ, nat_abs, nat_lt, int_le, int_lt, slice_get, option_map, if◌then◌else◌}
-use Rattle.std.specs.Int.{int_min, int_max}
-use Rattle.std.specs.List.{list_all, list_any, flat_map}
+use Rattle.std.specs.List.{list_all}
 use Rattle.std.specs.Ordering.{int_eq}
 use Rattle.std.proofs.lemmas.Int.{ints}
 use Rattle.std.proofs.lemmas.Bool.Decides.{nat_tests}
-use native.Mathlib.Decide.{dec_lt}
 use Rattle.acn_num.specs.Bits.{is_least_width}
-use Rattle.acn_num.specs.Ranges.{In, has, distance, count, size_of, are_ranges, bottom, top, Above, AreRanges}
-use Rattle.acn_tree.specs.Code.{image_of, image_by, image_in, item_number, on_line}
-use Rattle.acn_tree.specs.Images.{clipped, images_by, images_of, ends, written_ends}
-use Rattle.acn_tree.specs.Leaves.{num_fine, takes, set_fine, table_fine, line_fine, all_differ, share, has_size, can_write, can_write_all, is_range, no_items, items_fine, integer_set_fine}
+use Rattle.acn_num.specs.Ranges.{In, has, distance, count, are_ranges, bottom, top, Above, AreRanges}
+use Rattle.acn_tree.specs.Code.{image_of, image_by, item_number}
+use Rattle.acn_tree.specs.Images.{images_by, images_of, ends, written_ends}
+use Rattle.acn_tree.specs.Leaves.{num_fine, takes, set_fine, table_fine, line_fine, all_differ, share, has_size, can_write, is_range, no_items, items_fine, integer_set_fine}
 use Rattle.acn_tree.specs.declared.node.Items.{Items}
 use Rattle.acn_tree.specs.declared.node.NumCoding.{NumCoding}
 use Rattle.acn_tree.specs.declared.node.NumCoding.TheVariants.{Range, CountedFrom, CountedSigned, PosInt, Twos, Bcd, BcdEnded, Ascii, AsciiEnded, Flag, Fixed}

@@ -6,6 +6,7 @@ mod digit_writer;
 mod digits;
 mod ended;
 mod ended_codings;
+mod filler;
 mod fixed;
 mod known;
 mod most;
@@ -15,6 +16,7 @@ mod reader;
 mod said;
 mod writer;
 
+pub use filler::{fill_num, list_num};
 pub use reader::read_num;
 pub use writer::put_num;
 

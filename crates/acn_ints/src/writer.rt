@@ -1,7 +1,8 @@
-ghost use Rattle.std.specs.Prelude.{◌≡◌, ◌+◌, ◌*◌, ◌^◌, ◌<◌, ◌≤◌, ◌++◌, false, IsTrue, take, length};
+ghost use Rattle.std.specs.Prelude.{◌≡◌, ◌+◌, ◌*◌, ◌^◌, ◌<◌, ◌≤◌, ◌++◌, false, IsTrue, Some, ℕ};
 ghost use Rattle.acn_bits.specs.Writing.{place_of, Writes};
 ghost use Rattle.acn_num.specs.Bits.{low_bits};
 ghost use Rattle.acn_num.specs.Ranges.{In};
+ghost use Rattle.acn_tree.specs.Interval.{width_of};
 ghost use Rattle.acn_tree.specs.Leaves.{num_fine};
 ghost use Rattle.acn_tree.specs.declared.node.NumCoding.TheVariants.{CountedFrom, CountedSigned};
 ghost use Rattle.acn_tree.specs.Code.{Code, Written, CodingCode};
@@ -115,18 +116,20 @@ fn put_known<const N: usize>(cur: &mut WriteCursor<'_, N>, leaf: &NumLeaf, x: &i
 }
 
 /// What is known of a permitted number.
-fn check_permitted(leaf: &NumLeaf, x: &i128)
+pub fn check_permitted(leaf: &NumLeaf, x: &i128)
     requires fine { IsTrue (num_fine leaf.now) }
     requires permitted { In leaf.now.set x.now }
     ensures fits { LeafFits leaf.now }
     ensures can { CanCode leaf.now x.now }
+    ensures short { num_length leaf.now x.now ≤ 256 }
+    ensures one_width { (w : ℕ) → width_of leaf.now ≡ Some w → num_length leaf.now x.now ≡ w }
 {
     let _items = item_count(leaf.items.items.items());
     let _ranges = leaf.set.ranges();
     let _number = *x;
 }
 
-/// Writes the code of a permitted number in the next bits.
+/// Writes the code of a permitted number in the next bits, and changes no others. It takes no memory.
 pub fn put_num<const N: usize>(cur: &mut WriteCursor<'_, N>, leaf: &NumLeaf, x: i128)
     requires fine { IsTrue (num_fine leaf.now) }
     requires permitted { In leaf.now.set x }

@@ -1,4 +1,4 @@
-use Rattle.std.proofs.Common.{◌*◌, ◌≤◌, arith}
+use Rattle.std.proofs.Common.{arith}
 use Rattle.std.proofs.Math.Nat.{pow-le-pow_right}
 use Rattle.acn_ints.proofs.digit_writer.power_of_ten.Goals as goal
 

@@ -1,4 +1,4 @@
-use Rattle.std.proofs.Common.{◌≡◌, ◌+◌, ◌-◌, ◌*◌, ◌≤◌, ◌<◌, arith, refl}
+use Rattle.std.proofs.Common.{◌-◌, arith, refl}
 use Rattle.acn_ints.proofs.DigitPuts.{room_one, room_next, some_power, power_left, first_digit, next_digit, all_digits}
 use Rattle.acn_ints.proofs.digit_writer.put_digits.Goals as goal
 

@@ -1,4 +1,4 @@
-use Rattle.std.proofs.Common.{◌≡◌, ◌≤◌}
+use Rattle.std.proofs.Common.{◌≤◌}
 use Rattle.acn_ints.proofs.DigitPuts.{UptoDigit}
 use Rattle.acn_ints.proofs.digit_writer.put_digits.Given as goal
 

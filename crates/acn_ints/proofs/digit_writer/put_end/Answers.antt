@@ -1,6 +1,4 @@
-use Rattle.std.proofs.Common.{subst, sym, ap, ◌≤◌, ◌+◌, arith, List, Bool, length}
-use Rattle.acn_num.specs.Bits.{number}
-use Rattle.acn_bits.specs.Writing.{Writes, place_of}
+use Rattle.std.proofs.Common.{ap, arith, length}
 use Rattle.acn_ints.proofs.DigitPuts.{pattern_small, pattern_writes}
 use Rattle.acn_ints.proofs.digit_writer.put_end.Goals as goal
 
