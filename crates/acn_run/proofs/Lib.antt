@@ -6,3 +6,4 @@ pub mod Orders
 pub mod Digits
 pub mod Steps
 pub mod Faults
+pub mod Statuses

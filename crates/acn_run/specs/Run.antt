@@ -144,3 +144,19 @@ module _ (words : List (List ℕ)) (contents : List ℕ → Option (List ℕ)) (
   -- the same by the status
   abbrev pub RunEnds : ℕ → Type 0
   RunEnds status = (result : Result (Unit {0}) RunFault) × (status ≡ status_by result) × Ended result
+
+  -- the input is a recording, and the output gained its lines
+  abbrev pub Finished : Type 0
+  Finished = Decodes (λ g. IsDone g i i' o o')
+
+  -- Too many bytes came, or the input is a recording and a rest without a packet at its front. The output gained nothing, or the lines of the recording.
+  abbrev pub Refused : Type 0
+  Refused = Decodes (λ g. IsLong g i i' o o' ⊎ IsRefused g i i' o o')
+
+  -- the output gained a front of the lines of packets at the front of the input
+  abbrev pub Cut : Type 0
+  Cut = Decodes (λ g. IsCut g i i' o o')
+
+  -- the output gained nothing, or whole lines of packets at the front of the input
+  abbrev pub Stopped : Type 0
+  Stopped = (o' ≡ o) ⊎ Decodes (λ g. IsShort g i i' o o')

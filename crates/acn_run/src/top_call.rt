@@ -1,4 +1,4 @@
-ghost use Rattle.std.specs.Prelude.{◌≡◌, ◌↔◌, ◌≤◌, List, ℕ, [], true, false, length, map, string_bytes, IfOk, OnOk, IsErrOf};
+ghost use Rattle.std.specs.Prelude.{◌≡◌, ◌↔◌, ◌⊎◌, ◌≤◌, List, ℕ, [], true, false, length, map, string_bytes, IfOk, OnOk, IsErrOf};
 ghost use Rattle.std.specs.List.{AllByRecursion};
 ghost use Rattle.acn_outside.specs.Counts.{Rose};
 ghost use Rattle.acn_run.specs.Form.{IsComponent, has_bits};
@@ -232,13 +232,8 @@ fn report<E: Sink>(words: &[String], fault: RunFault, err: &mut E) -> Result<(),
     }
 }
 
-/// The top call: runs the command that the words are, and answers the status of the program.
-///
-/// The one command is `decode TYPE FILE`: it reads FILE whole, then the input whole, and writes a line for each packet.
-/// The status is 0 where that is done; 1 exactly where the words have no form; 2 where FILE has more than 16,777,216
-/// bytes or isn't in the one form that is read so far; 3 where the input has more than 16,777,216 bytes or a packet is
-/// refused; 4, 5 and 6 only where the count of faults of FILE, of the input or of the output rose; 7 for want of memory.
-pub fn run<F: Files, S: Source, O: Sink, E: Sink>(
+// Runs the command, reports why it ended, and answers the status.
+fn run_command<F: Files, S: Source, O: Sink, E: Sink>(
     alloc: Global,
     words: &Vec<String>,
     files: &mut F,
@@ -260,4 +255,40 @@ pub fn run<F: Files, S: Source, O: Sink, E: Sink>(
             status(fault)
         }
     }
+}
+
+/// The top call: runs the command that the words are, and answers the status of the program.
+///
+/// The one command is `decode TYPE FILE`: it reads FILE whole, then the input whole, and writes a line for each packet.
+/// The status is 0 where that is done; 1 exactly where the words have no form; 2 where FILE has more than 16,777,216
+/// bytes or isn't in the one form that is read so far; 3 where the input has more than 16,777,216 bytes or a packet is
+/// refused; 4, 5 and 6 only where the count of faults of FILE, of the input or of the output rose; 7 for want of memory.
+///
+/// With 1, 2, 4 and 5 the output gained nothing. With 3 and 7 it gained the whole lines of packets at the front of the
+/// input, with 3 of all of them before the refused one, and with 6 a front of such lines. Every status but 1, 2, 4 and 7
+/// says that FILE is in the form, so that 2 is answered wherever it isn't, unless a read of FILE or memory failed.
+pub fn run<F: Files, S: Source, O: Sink, E: Sink>(
+    alloc: Global,
+    words: &Vec<String>,
+    files: &mut F,
+    input: &mut S,
+    out: &mut O,
+    err: &mut E,
+) -> u8
+    ensures done { result ≡ 0 → spec.Finished (map string_bytes words.now.items) (F.contents files.old) (S.rest input.old) (S.rest input.new) (O.taken out.old) (O.taken out.new) }
+    ensures usage { (result ≡ 1) ↔ (is_decode (map string_bytes words.now.items) ≡ false) }
+    ensures source { result ≡ 2 → spec.IsNoSource (map string_bytes words.now.items) (F.contents files.old) (S.rest input.old) (S.rest input.new) (O.taken out.old) (O.taken out.new) }
+    ensures refused { result ≡ 3 → spec.Refused (map string_bytes words.now.items) (F.contents files.old) (S.rest input.old) (S.rest input.new) (O.taken out.old) (O.taken out.new) }
+    ensures file { result ≡ 4 → Rose (F.faults files.old (file_word (map string_bytes words.now.items))) (F.faults files.new (file_word (map string_bytes words.now.items))) }
+    ensures input { result ≡ 5 → Rose (S.faults input.old) (S.faults input.new) }
+    ensures output { result ≡ 6 → Rose (O.faults out.old) (O.faults out.new) }
+    ensures cut { result ≡ 6 → spec.Cut (map string_bytes words.now.items) (F.contents files.old) (S.rest input.old) (S.rest input.new) (O.taken out.old) (O.taken out.new) }
+    ensures memory { result ≡ 7 → spec.Stopped (map string_bytes words.now.items) (F.contents files.old) (S.rest input.old) (S.rest input.new) (O.taken out.old) (O.taken out.new) }
+    ensures empty { (result ≡ 1) ⊎ ((result ≡ 2) ⊎ ((result ≡ 4) ⊎ (result ≡ 5))) → O.taken out.new ≡ O.taken out.old }
+    ensures unread { (result ≡ 1) ⊎ ((result ≡ 2) ⊎ (result ≡ 4)) → S.rest input.new ≡ S.rest input.old }
+    ensures form { (result ≡ 5) → spec.Decodes (map string_bytes words.now.items) (F.contents files.old) (S.rest input.old) (S.rest input.new) (O.taken out.old) (O.taken out.new) (λ _. Unit {0}) }
+    ensures known { result ≤ 7 }
+    ensures silent { result ≡ 0 → E.taken err.new ≡ E.taken err.old }
+{
+    run_command(alloc, words, files, input, out, err)
 }
