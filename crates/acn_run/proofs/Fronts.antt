@@ -41,12 +41,16 @@ leaf_spells root c env at bs long high = record {
   back = bs;
   whole = refl;
   first = record { aligned = omega arith; fewest = omega arith; zeros = λ e. absurd cc };
-  second = (pos (c.low + number bs), refl, record {
-    permitted = in_range c.low (c.low + number bs) c.high (omega arith) high;
-    image = pos (c.low + number bs);
-    maps = refl;
-    spelled = (number bs, refl, record { width = long; value = refl });
-  });
+  second = (
+    pos (c.low + number bs),
+    refl,
+    record {
+      permitted = in_range c.low (c.low + number bs) c.high (omega arith) high;
+      image = pos (c.low + number bs);
+      maps = refl;
+      spelled = (number bs, refl, record { width = long; value = refl });
+    },
+  );
 }
 
 -- what a spelling of a component says

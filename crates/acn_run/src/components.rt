@@ -45,7 +45,12 @@ fn identifier(alloc: Global, cursor: &mut Cursor<'_>) -> Result<Name, ParseFault
 }
 
 #[tactic(auto, unfolding(crate::specs::Parsing::ordered))]
-fn ordered(cursor: &mut Cursor<'_>, name: Name, low: u64, high: u64) -> Result<Component, ParseFault>
+fn ordered(
+    cursor: &mut Cursor<'_>,
+    name: Name,
+    low: u64,
+    high: u64,
+) -> Result<Component, ParseFault>
     ensures { Reads (spec.ordered name low high cursor.old) result cursor.new }
 {
     if low <= high {
@@ -113,7 +118,11 @@ fn heading(cursor: &mut Cursor<'_>, owner: &[u8], name: &[u8]) -> Result<(), Par
     Ok(())
 }
 
-fn joined(alloc: Global, first: Component, others: Row<Component>) -> Result<Row<Component>, NoMemory>
+fn joined(
+    alloc: Global,
+    first: Component,
+    others: Row<Component>,
+) -> Result<Row<Component>, NoMemory>
     ensures { IfOk result (λ all. all ≡ first ∷ others) }
 {
     let mut all = Vec::new(alloc);
@@ -124,7 +133,12 @@ fn joined(alloc: Global, first: Component, others: Row<Component>) -> Result<Row
 }
 
 #[tactic(auto, unfolding(crate::specs::Parsing::form))]
-fn form(alloc: Global, cursor: &mut Cursor<'_>, owner: &[u8], name: &[u8]) -> Result<Row<Component>, ParseFault>
+fn form(
+    alloc: Global,
+    cursor: &mut Cursor<'_>,
+    owner: &[u8],
+    name: &[u8],
+) -> Result<Row<Component>, ParseFault>
     ensures { Reads (spec.form owner.now name.now cursor.old) result cursor.new }
 {
     heading(cursor, owner, name)?;
@@ -136,7 +150,12 @@ fn form(alloc: Global, cursor: &mut Cursor<'_>, owner: &[u8], name: &[u8]) -> Re
 }
 
 /// The components of a module in the one form, for its name and its type's name.
-pub fn read_components(alloc: Global, tokens: &[Token<'_>], owner: &[u8], name: &[u8]) -> Result<Row<Component>, ParseFault>
+pub fn read_components(
+    alloc: Global,
+    tokens: &[Token<'_>],
+    owner: &[u8],
+    name: &[u8],
+) -> Result<Row<Component>, ParseFault>
     requires { length tokens.now ≤ 1000000 }
     ensures { Whole (spec.form owner.now name.now (lexemes tokens.now)) result }
 {

@@ -115,17 +115,33 @@ fn decode_block<'a>(
                 packets = packets.wrapping_add(1);
             }
             Err(NoPacket::Refused(fault)) => {
-                return Block { rest, packets, end: BlockEnd::Refused(fault) };
+                return Block {
+                    rest,
+                    packets,
+                    end: BlockEnd::Refused(fault),
+                };
             }
             Err(NoPacket::NoMemory) => {
-                return Block { rest, packets, end: BlockEnd::NoMemory };
+                return Block {
+                    rest,
+                    packets,
+                    end: BlockEnd::NoMemory,
+                };
             }
         }
         if lines.len() >= BLOCK {
-            return Block { rest, packets, end: BlockEnd::Full };
+            return Block {
+                rest,
+                packets,
+                end: BlockEnd::Full,
+            };
         }
     }
-    Block { rest, packets, end: BlockEnd::UsedUp }
+    Block {
+        rest,
+        packets,
+        end: BlockEnd::UsedUp,
+    }
 }
 
 /// Writes a line for each packet of the bytes.

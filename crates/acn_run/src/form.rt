@@ -111,7 +111,12 @@ fn parse_fault(fault: ParseFault) -> FormFault
 }
 
 // The components that the tokens of the bytes are, whether they are fit or not.
-fn written(alloc: Global, bytes: &[u8], owner: &[u8], name: &[u8]) -> Result<Row<Component>, FormFault>
+fn written(
+    alloc: Global,
+    bytes: &[u8],
+    owner: &[u8],
+    name: &[u8],
+) -> Result<Row<Component>, FormFault>
     requires { length bytes.now ≤ 16777216 }
     ensures found { IfOk result (λ cs. spec.Written bytes.now owner.now name.now cs) }
     ensures once { IfOk result (λ cs. (other : List Component) → spec.Written bytes.now owner.now name.now other → other ≡ cs) }
@@ -130,7 +135,12 @@ fn written(alloc: Global, bytes: &[u8], owner: &[u8], name: &[u8]) -> Result<Row
 /// The components of a file in the one form, for the names of its module and its type.
 ///
 /// `OtherForm` comes exactly where the file isn't in the form for these names.
-pub fn read_form(alloc: Global, bytes: &[u8], owner: &[u8], name: &[u8]) -> Result<Row<Component>, FormFault>
+pub fn read_form(
+    alloc: Global,
+    bytes: &[u8],
+    owner: &[u8],
+    name: &[u8],
+) -> Result<Row<Component>, FormFault>
     requires { length bytes.now ≤ 16777216 }
     ensures found { IfOk result (λ cs. spec.IsForm bytes.now owner.now name.now cs) }
     ensures other { IsErrOf result FormFault.OtherForm → (cs : List Component) → spec.IsForm bytes.now owner.now name.now cs → ⊥ }

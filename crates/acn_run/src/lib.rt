@@ -10,7 +10,6 @@ mod order;
 mod packet;
 mod reserved;
 mod top_call;
-
 mod words;
 
 pub use top_call::run;

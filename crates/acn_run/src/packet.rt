@@ -73,7 +73,12 @@ fn read_number(component: &Component, cursor: &mut ReadCursor<'_>) -> Result<u64
 }
 
 // Adds the number of the component in this place.
-fn read_next(component: &Component, place: usize, cursor: &mut ReadCursor<'_>, numbers: &mut Vec<u64>) -> Result<(), NoPacket>
+fn read_next(
+    component: &Component,
+    place: usize,
+    cursor: &mut ReadCursor<'_>,
+    numbers: &mut Vec<u64>,
+) -> Result<(), NoPacket>
     requires { IsComponent component.now }
     ensures added { OnOk result (numbers.new.items ≡ numbers.old.items ++ (component.now.low + spec.offset_of component.now cursor.old.rest) ∷ []) }
     ensures fits { OnOk result (spec.fits component.now cursor.old.rest ≡ true) }
@@ -95,7 +100,11 @@ fn read_next(component: &Component, place: usize, cursor: &mut ReadCursor<'_>, n
 }
 
 // The numbers that the next bits spell, one for each component.
-fn read_numbers(components: &[Component], cursor: &mut ReadCursor<'_>, numbers: &mut Vec<u64>) -> Result<(), NoPacket>
+fn read_numbers(
+    components: &[Component],
+    cursor: &mut ReadCursor<'_>,
+    numbers: &mut Vec<u64>,
+) -> Result<(), NoPacket>
     requires fine { AllByRecursion IsComponent components.now }
     requires empty { numbers.old.items ≡ [] }
     ensures found { OnOk result (spec.numbers_of components.now cursor.old.rest ≡ Some numbers.new.items) }
@@ -112,7 +121,11 @@ fn read_numbers(components: &[Component], cursor: &mut ReadCursor<'_>, numbers: 
 }
 
 /// Reads the packet at the front of the bytes: its numbers in place of the old ones, and how many octets it takes.
-pub fn read_packet(components: &[Component], bytes: &[u8], numbers: &mut Vec<u64>) -> Result<usize, NoPacket>
+pub fn read_packet(
+    components: &[Component],
+    bytes: &[u8],
+    numbers: &mut Vec<u64>,
+) -> Result<usize, NoPacket>
     requires fine { AllByRecursion IsComponent components.now }
     requires limit { length bytes.now ≤ 16777216 }
     ensures found { OnOk result (spec.numbers_of components.now (bits bytes.now) ≡ Some numbers.new.items) }

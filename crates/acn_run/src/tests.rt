@@ -96,12 +96,22 @@ fn a_packet_that_ends_early_is_refused_at_its_component(rt: HostRuntime) -> Resu
         input: &[0x05],
         ..FIRST
     };
-    expect(&rt, rt.alloc(), &case, 3, "", "acn: packet 1: M.T.b: Short at bit 8\n")
+    expect(
+        &rt,
+        rt.alloc(),
+        &case,
+        3,
+        "",
+        "acn: packet 1: M.T.b: Short at bit 8\n",
+    )
 }
 
 #[test]
 fn nothing_gives_no_line(rt: HostRuntime) -> Result<(), Fail> {
-    let case = Case { input: &[], ..FIRST };
+    let case = Case {
+        input: &[],
+        ..FIRST
+    };
     expect(&rt, rt.alloc(), &case, 0, "", "")
 }
 

@@ -61,7 +61,11 @@ fn input_fault(fault: InputFault) -> RunFault
 }
 
 // The components of the file, which is read whole.
-fn open<F: Files>(alloc: Global, command: &Command<'_>, files: &mut F) -> Result<Row<Component>, RunFault>
+fn open<F: Files>(
+    alloc: Global,
+    command: &Command<'_>,
+    files: &mut F,
+) -> Result<Row<Component>, RunFault>
     ensures opens { spec.Opens (F.contents files.old command.now.file.now) command.now.module.now command.now.name.now result }
     ensures file { IsErrOf result RunFault.File → Rose (F.faults files.old command.now.file.now) (F.faults files.new command.now.file.now) }
 {
@@ -84,7 +88,13 @@ fn write_number<E: Sink>(err: &mut E, n: u64) -> Result<(), Failed> {
 }
 
 // Writes why a packet is refused.
-fn report_packet<E: Sink>(command: &Command<'_>, components: &[Component], packet: u64, fault: PacketFault, err: &mut E) -> Result<(), Failed> {
+fn report_packet<E: Sink>(
+    command: &Command<'_>,
+    components: &[Component],
+    packet: u64,
+    fault: PacketFault,
+    err: &mut E,
+) -> Result<(), Failed> {
     write_all(err, b"acn: packet ")?;
     write_number(err, packet)?;
     write_all(err, b": ")?;

@@ -23,7 +23,7 @@ returns-in-Ok-extend_from_slice-clause-found c =
     let some : 0 < octets (width_of c.args.components.now) = octets_some _ (some_bits c.args.components.now c.requires.fine c.requires.bits) in
     let inside : octets (width_of c.args.components.now) ≤ length c.args.bytes.now = octets_inside (width_of c.args.components.now) (length c.args.bytes.now) (omega (arith, front.within, length-bits c.args.bytes.now)) in
     let line : c.put_line.new.line.items ≡ line_of (grammar_of c.args.components.now) (value_of c.read_packet.new.numbers.items) =
-        c.in-Ok-put_line.ensures ∙ ap (λ t. t ++ labels_line c.deref.result.now c.args.labels.now) c.clear.ensures.items ∙ ap (λ ns. labels_line ns c.args.labels.now) c.deref.ensures.value ∙ line_is c.args.components.now c.read_packet.new.numbers.items c.args.labels.now c.requires.order count in
+    c.in-Ok-put_line.ensures ∙ ap (λ t. t ++ labels_line c.deref.result.now c.args.labels.now) c.clear.ensures.items ∙ ap (λ ns. labels_line ns c.args.labels.now) c.deref.ensures.value ∙ line_is c.args.components.now c.read_packet.new.numbers.items c.args.labels.now c.requires.order count in
     record {
       value = value_of c.read_packet.new.numbers.items;
       count = width_of c.args.components.now;
