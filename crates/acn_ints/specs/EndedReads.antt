@@ -13,6 +13,7 @@ use Rattle.acn_ints.specs.declared.ended.Character.TheVariants.{Digit, End}
 abbrev pub digit_codes : (size zero_digit : ℕ) → List ℕ → List Bool
 digit_codes size z ds = flat_map (λ d. low_bits size (z + d)) ds
 
+-- each is a decimal digit
 abbrev pub AreDecimal : List ℕ → Type 0
 AreDecimal ds = AllByRecursion (λ d. d < 10) ds
 
@@ -63,6 +64,7 @@ pub record EndedWrong (size z : ℕ) (end : List Bool) (most : ℕ) (rest : List
       ⊎ ((size ≤ length behind) × ((d : ℕ) × (d < 10) × (number (take size behind) ≡ z + d)) × (length digits ≡ most) × (r ≡ too_long))
       ⊎ ((length end ≤ length behind) × EndAt end behind × (digits ≡ []) × (r ≡ bad_digit))
 
+-- the first digit is a zero
 abbrev pub starts_with_zero : List ℕ → Bool
 starts_with_zero [] = false
 starts_with_zero (d ∷ ds) = nat_eq d 0
@@ -81,6 +83,7 @@ pub record PassedRest (size front : ℕ) (end : List Bool) (old new : Reading) :
   pub tail : number (take (length end - size) old.rest) ≡ number (drop size end)
   pub moved : new ≡ passed (length end - size) old
 
+-- the bits behind the first ones are too few, or are not those of the end
 abbrev pub RestWrong : (size front : ℕ) → (end : List Bool) → List Bool → Reason → Type 0
 RestWrong size front end rest r =
     ((length rest < length end - size) × (r ≡ short))
@@ -101,6 +104,7 @@ pub record PassedSign (old new : Reading) (negative : Bool) : Type 0 where
   pub value : number (take 8 old.rest) ≡ sign_code negative
   pub moved : new ≡ passed 8 old
 
+-- the octet is short, or no sign
 abbrev pub SignWrong : List Bool → Reason → Type 0
 SignWrong rest r =
     ((length rest < 8) × (r ≡ short))

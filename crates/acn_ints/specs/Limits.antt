@@ -13,16 +13,20 @@ IsNear x = (negsuc 1180591620717411303423 ≤ℤ x) × (x ≤ℤ pos 11805916207
 abbrev pub IsEnd : ℤ → Type 0
 IsEnd x = (negsuc 18446744073709551615 ≤ℤ x) × (x ≤ℤ pos 18446744073709551616)
 
+-- all numbers of the lines are near
 abbrev pub AreNear : List (ℤ × ℤ × ℤ) → Type 0
 AreNear lines = (i : ℕ) (d : ℤ × ℤ × ℤ) → i < length lines → IsNear (slice_index_or lines i d).0 × IsNear (slice_index_or lines i d).1 × IsNear (slice_index_or lines i d).2
 
+-- both ends of each range are near
 abbrev pub ArePairsNear : List (ℤ × ℤ) → Type 0
 ArePairsNear ranges = (i : ℕ) (d : ℤ × ℤ) → i < length ranges → IsNear (slice_index_or ranges i d).0 × IsNear (slice_index_or ranges i d).1
 
+-- the same of a table, where there is one
 abbrev pub IsNearTable : Option Table → Type 0
 IsNearTable None = Unit {0}
 IsNearTable (Some table) = AreNear table.lines
 
+-- 1 to 64 bits, whole octets where their order is turned round
 abbrev pub OrderFits : (little : Bool) → ℕ → Type 0
 OrderFits little n = (1 ≤ n) × (n ≤ 64) × (little ≡ true → n % 8 ≡ 0)
 
@@ -30,6 +34,7 @@ OrderFits little n = (1 ≤ n) × (n ≤ 64) × (little ≡ true → n % 8 ≡ 0
 abbrev pub DigitsFit : (size : ℕ) → ℕ → Type 0
 DigitsFit size n = (count : ℕ) × (n ≡ size * count) × (count ≤ 19) × (1 ≤ count)
 
+-- two patterns have one length
 abbrev pub PatternsFit : Option (List Bool) → Option (List Bool) → Type 0
 PatternsFit (Some p) (Some q) = length p ≡ length q
 PatternsFit _ _ = Unit {0}
@@ -42,6 +47,7 @@ SignedDigitsFit n = (16 ≤ n) × (n ≤ 152) × (n % 8 ≡ 0)
 abbrev pub EndFits : List Bool → Type 0
 EndFits end = (8 ≤ length end) × (length end ≤ 64) × (length end % 8 ≡ 0)
 
+-- widths, ends and patterns that fit 64 bits
 abbrev pub CodingFits : NumCoding → (little : Bool) → Type 0
 CodingFits (Range low width) little = IsEnd low × (width ≤ 64)
 CodingFits (CountedFrom low) little = IsEnd low
@@ -62,6 +68,7 @@ PlainEnded BcdEnded values = values ≡ false
 PlainEnded (AsciiEnded end signed) values = values ≡ false
 PlainEnded _ values = Unit {0}
 
+-- what a leaf that keeps its rules gives to the code
 pub record LeafFits (leaf : NumLeaf) : Type 0 where
   pub coding : CodingFits leaf.coding leaf.little
   pub table : IsNearTable leaf.table

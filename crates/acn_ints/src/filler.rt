@@ -87,7 +87,7 @@ fn first_bits(alloc: Global, buf: &[u8; 32], count: u64) -> Result<BitList, NoMe
     Ok(list)
 }
 
-/// The written code of a permitted number as a list of bits.
+/// The written code of a permitted number as a list of bits. `NoMemory` where memory is wanting.
 pub fn list_num(alloc: Global, leaf: &NumLeaf, x: i128) -> Result<BitList, NoMemory>
     requires fine { IsTrue (num_fine leaf.now) }
     requires permitted { In leaf.now.set x }
