@@ -16,7 +16,7 @@ use Rattle.acn_tree.specs.Spell.{Spell, FieldsPart, FormPart}
 use Rattle.acn_run.specs.declared.components.Component.{Component}
 use Rattle.acn_run.specs.Packet.{leaf_of, fields_of, grammar_of, places_of, value_of, width_of, offset_of, fits, numbers_of}
 
-both : (a b : Bool) → a && b ≡ true → (a ≡ true) × (b ≡ true)
+pub both : (a b : Bool) → a && b ≡ true → (a ≡ true) × (b ≡ true)
 both true b e = (refl, e)
 both false b e = absurd cc
 

@@ -1,6 +1,7 @@
 pub mod Widths
 pub mod FormLaws
 pub mod Fronts
+pub mod Grammars
 pub mod Turns
 pub mod Orders
 pub mod Digits

@@ -2,6 +2,7 @@
 use Rattle.std.specs.Prelude.{◌≡◌, ℕ, ◌+◌, ◌≤◌, ℤ, pos, false, Bool, nat_le, ◌&&◌, List, [], ◌∷◌, length, take, drop, map, Option, Some, None, option_map, if◌then◌else◌, Result, Ok, Err}
 use Rattle.acn_num.specs.Bits.{number}
 use Rattle.acn_tree.specs.Grammar.{Grammar, Fields, Data, Places, node, num, seq, no_fields, component, int, record_of, no_places, filled}
+use Rattle.acn_tree.specs.View.{OneField, a_component}
 use Rattle.acn_tree.specs.declared.node.NumLeaf.{NumLeaf}
 use Rattle.acn_tree.specs.declared.node.NumKind.TheVariants.{Integer}
 use Rattle.acn_tree.specs.declared.node.NumCoding.TheVariants.{Range}
@@ -13,6 +14,10 @@ use Rattle.acn_run.specs.declared.packet.NoPacket.TheVariants.{Refused, NoMemory
 -- a ranged integer: the offset from its low end in the width of the range (X.691, constrained whole numbers, unaligned)
 abbrev pub leaf_of : Component → NumLeaf
 leaf_of c = record { kind = Integer; set = (pos c.low, pos c.high) ∷ []; coding = Range (pos c.low) c.width; little = false; table = None; items = record { items = []; values = false } }
+
+-- a component that is always there
+abbrev pub field_of : Component → OneField
+field_of c = a_component c.name (node 1 (num (leaf_of c))) Always None
 
 abbrev pub fields_of : List Component → Fields
 fields_of [] = no_fields

@@ -5,6 +5,7 @@ use Rattle.acn_outside.specs.Whole.{IsWhole, IsTooLong}
 use Rattle.acn_outside.specs.declared.whole.WholeFault.{WholeFault}
 use Rattle.acn_outside.specs.declared.whole.WholeFault.TheVariants as whole
 use Rattle.acn_tree.specs.Grammar.{Grammar}
+use Rattle.acn_tree.specs.Tree.{IsTree}
 use Rattle.acn_run.specs.declared.components.Component.{Component}
 use Rattle.acn_run.specs.declared.input.InputFault.{InputFault}
 use Rattle.acn_run.specs.declared.input.InputFault.TheVariants as input
@@ -47,11 +48,12 @@ abbrev pub status_by : Result (Unit {0}) RunFault → ℕ
 status_by (Ok x) = 0
 status_by (Err fault) = status_of fault
 
--- the file was read whole, and is in the form with these components
+-- the file was read whole, and is in the form with these components, whose grammar is well formed
 pub record Opened (contents : Option (List ℕ)) (owner name : List ℕ) (cs : List Component) : Type 0 where
   pub file : List ℕ
   pub whole : IsWhole contents file
   pub form : IsForm file owner name cs
+  pub formed : IsTree (grammar_of cs)
 
 -- the file was read whole, and isn't in the form
 pub record IsOther (contents : Option (List ℕ)) (owner name : List ℕ) : Type 0 where

@@ -4,6 +4,7 @@
 mod components;
 mod decode;
 mod form;
+mod grammar;
 mod input;
 mod line;
 mod order;

@@ -14,9 +14,11 @@ struct Case<'a> {
     words: &'a [&'a str],
     name: &'a str,
     text: &'a str,
+    file_fails: &'a [u64],
     input: &'a [u8],
     piece: usize,
     input_fails: &'a [u64],
+    out_piece: usize,
     out_fails: &'a [u64],
 }
 
@@ -32,9 +34,11 @@ const FIRST: Case<'static> = Case {
     words: &["decode", "M.T", "m.asn"],
     name: "m.asn",
     text: ROW,
+    file_fails: &[],
     input: &[0x05, 0x60],
     piece: 4096,
     input_fails: &[],
+    out_piece: 4096,
     out_fails: &[],
 };
 
@@ -46,14 +50,14 @@ fn words_of(alloc: Global, texts: &[&str]) -> Result<Vec<String>, AllocError> {
     Ok(words)
 }
 
-fn sink(alloc: Global, fail: &[u64]) -> Result<MemSink, AllocError> {
+fn sink(alloc: Global, piece: usize, fail: &[u64]) -> Result<MemSink, AllocError> {
     let room = vec![in alloc; 0; 8192]?;
-    Ok(MemSink::new(room, 4096, Vec::from_slice(alloc, fail)?))
+    Ok(MemSink::new(room, piece.max(1), Vec::from_slice(alloc, fail)?))
 }
 
-fn answer(alloc: Global, case: &Case<'_>) -> Result<Answer, Fail> {
+fn outcome(alloc: Global, case: &Case<'_>) -> Result<Answer, Fail> {
     let words = words_of(alloc, case.words)?;
-    let mut files = MemFiles::new(alloc, Vec::new(alloc));
+    let mut files = MemFiles::new(alloc, Vec::from_slice(alloc, case.file_fails)?);
     files.add(
         Name::copy(alloc, case.name.as_bytes())?,
         Vec::from_slice(alloc, case.text.as_bytes())?,
@@ -64,8 +68,8 @@ fn answer(alloc: Global, case: &Case<'_>) -> Result<Answer, Fail> {
         case.piece.max(1),
         Vec::from_slice(alloc, case.input_fails)?,
     );
-    let mut out = sink(alloc, case.out_fails)?;
-    let mut err = sink(alloc, &[])?;
+    let mut out = sink(alloc, case.out_piece, case.out_fails)?;
+    let mut err = sink(alloc, 4096, &[])?;
     let status = run(alloc, &words, &mut files, &mut input, &mut out, &mut err);
     Ok(Answer { status, out, err })
 }
@@ -78,7 +82,7 @@ fn expect(
     out: &str,
     err: &str,
 ) -> Result<(), Fail> {
-    let answer = answer(alloc, case)?;
+    let answer = outcome(alloc, case)?;
     assert_eq!(rt; answer.status, status);
     assert!(rt; answer.out.bytes() == Some(out.as_bytes()));
     assert!(rt; answer.err.bytes() == Some(err.as_bytes()));
@@ -150,18 +154,42 @@ fn an_absent_file_cannot_be_read(rt: HostRuntime) -> Result<(), Fail> {
 }
 
 #[test]
-fn a_failing_output_is_told(rt: HostRuntime) -> Result<(), Fail> {
-    let case = Case {
-        out_fails: &[0],
-        ..FIRST
-    };
-    expect(&rt, rt.alloc(), &case, 6, "", "acn: output failed\n")
+fn each_failing_read_of_the_file_is_told(rt: HostRuntime) -> Result<(), Fail> {
+    for call in 0..2u64 {
+        let case = Case {
+            file_fails: &[call],
+            ..FIRST
+        };
+        expect(&rt, rt.alloc(), &case, 4, "", "acn: cannot read m.asn\n")?;
+    }
+    Ok(())
 }
 
 #[test]
-fn each_failing_read_of_the_input_is_told(rt: HostRuntime) -> Result<(), Fail> {
-    for call in 0..3u64 {
+fn each_failing_write_of_the_output_is_told(rt: HostRuntime) -> Result<(), Fail> {
+    let fronts = [
+        (0u64, ""),
+        (1, "{\"a\""),
+        (2, "{\"a\":5,\""),
+        (3, "{\"a\":5,\"b\":3"),
+    ];
+    for (call, front) in fronts {
         let case = Case {
+            out_piece: 4,
+            out_fails: &[call],
+            ..FIRST
+        };
+        expect(&rt, rt.alloc(), &case, 6, front, "acn: output failed\n")?;
+    }
+    Ok(())
+}
+
+// Six octets come one at a time, and a seventh call tells the end. The input is read whole first.
+#[test]
+fn each_failing_read_of_the_input_is_told(rt: HostRuntime) -> Result<(), Fail> {
+    for call in 0..7u64 {
+        let case = Case {
+            input: &[0x05, 0x60, 0x06, 0x80, 0xff, 0x00],
             piece: 1,
             input_fails: &[call],
             ..FIRST

@@ -1,7 +1,8 @@
 ghost use Rattle.std.specs.Prelude.{◌≡◌, ◌↔◌, ◌⊎◌, ◌≤◌, List, ℕ, [], true, false, length, map, string_bytes, IfOk, OnOk, IsErrOf};
 ghost use Rattle.std.specs.List.{AllByRecursion};
 ghost use Rattle.acn_outside.specs.Counts.{Rose};
-ghost use Rattle.acn_run.specs.Form.{IsComponent, has_bits};
+ghost use Rattle.acn_tree.specs.View as view;
+ghost use Rattle.acn_run.specs.Form.{IsComponent, are_fit, has_bits};
 ghost use Rattle.acn_run.specs.Packet.{grammar_of};
 ghost use Rattle.acn_run.specs.Words.{is_decode, module_word, type_word, file_word};
 ghost use Rattle.acn_run.specs.Run as spec;
@@ -9,12 +10,14 @@ ghost use Rattle.acn_run.specs.Run as spec;
 use crate::components::Component;
 use crate::decode::{DecodeFault, decode_all};
 use crate::form::{FormFault, read_form};
+use crate::grammar::tree_of;
 use crate::input::{InputFault, read_input};
 use crate::order::labels_of;
 use crate::packet::{PacketFault, ReadFault};
 use crate::words::{Command, read_words};
 use acn_num::Row;
 use acn_outside::{Failed, Files, Sink, Source, WholeFault, read_whole, write_all};
+use acn_tree::Tree;
 use std::alloc::Global;
 
 /// Why a run ended.
@@ -90,6 +93,7 @@ fn write_number<E: Sink>(err: &mut E, n: u64) -> Result<(), Failed> {
 // Writes why a packet is refused.
 fn report_packet<E: Sink>(
     command: &Command<'_>,
+    tree: &Tree,
     components: &[Component],
     packet: u64,
     fault: PacketFault,
@@ -100,7 +104,7 @@ fn report_packet<E: Sink>(
     write_all(err, b": ")?;
     write_all(err, command.module)?;
     write_all(err, b".")?;
-    write_all(err, command.name)?;
+    write_all(err, tree.name().bytes())?;
     write_all(err, b".")?;
     if let Some(component) = components.get(fault.component) {
         write_all(err, component.name.bytes())?;
@@ -117,10 +121,11 @@ fn report_packet<E: Sink>(
     write_all(err, b"\n")
 }
 
-// Decodes the bytes.
+// Decodes the bytes by the tree, which is the SEQUENCE of the components.
 fn decode_bytes<O: Sink, E: Sink>(
     alloc: Global,
     command: &Command<'_>,
+    tree: &Tree,
     components: &[Component],
     bytes: &[u8],
     out: &mut O,
@@ -128,8 +133,9 @@ fn decode_bytes<O: Sink, E: Sink>(
 ) -> Result<(), RunFault>
     requires fine { AllByRecursion IsComponent components.now }
     requires bits { has_bits components.now ≡ true }
+    requires root { view.grammar_of tree.now.root ≡ grammar_of components.now }
     requires limit { length bytes.now ≤ 16777216 }
-    ensures ends { spec.BytesEnd (grammar_of components.now) bytes.now (O.taken out.old) (O.taken out.new) result }
+    ensures ends { spec.BytesEnd (view.grammar_of tree.now.root) bytes.now (O.taken out.old) (O.taken out.new) result }
     ensures output { IsErrOf result RunFault.Output → Rose (O.faults out.old) (O.faults out.new) }
     ensures silent { OnOk result (E.taken err.new ≡ E.taken err.old) }
 {
@@ -140,7 +146,7 @@ fn decode_bytes<O: Sink, E: Sink>(
     match decode_all(alloc, components, &labels, bytes, out) {
         Ok(()) => Ok(()),
         Err(DecodeFault::Refused(packet, fault)) => {
-            let _ = report_packet(command, components, packet, fault, err);
+            let _ = report_packet(command, tree, components, packet, fault, err);
             Err(RunFault::Packet)
         }
         Err(DecodeFault::Output) => Err(RunFault::Output),
@@ -158,14 +164,18 @@ fn decode<S: Source, O: Sink, E: Sink>(
     err: &mut E,
 ) -> Result<(), RunFault>
     requires fine { AllByRecursion IsComponent components.now }
-    requires bits { has_bits components.now ≡ true }
+    requires fit { are_fit components.now ≡ true }
     ensures ends { spec.DecodeEnds (grammar_of components.now) (S.rest input.old) (S.rest input.new) (O.taken out.old) (O.taken out.new) result }
     ensures input { IsErrOf result RunFault.Input → Rose (S.faults input.old) (S.faults input.new) }
     ensures output { IsErrOf result RunFault.Output → Rose (O.faults out.old) (O.faults out.new) }
     ensures silent { OnOk result (E.taken err.new ≡ E.taken err.old) }
 {
+    let tree = match tree_of(alloc, command.name, components) {
+        Ok(tree) => tree,
+        Err(_) => return Err(RunFault::NoMemory),
+    };
     match read_input(alloc, input) {
-        Ok(bytes) => decode_bytes(alloc, command, components, &bytes, out, err),
+        Ok(bytes) => decode_bytes(alloc, command, &tree, components, &bytes, out, err),
         Err(fault) => Err(input_fault(fault)),
     }
 }

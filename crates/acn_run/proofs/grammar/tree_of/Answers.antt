@@ -1,0 +1,10 @@
+use Rattle.std.proofs.Common.{◌∙◌, ap}
+use Rattle.acn_tree.specs.View as view
+use Rattle.acn_run.proofs.Grammars.{root_as, not_refused}
+use Rattle.acn_run.proofs.grammar.tree_of.Goals as goal
+
+pub unreachable-requires : goal.unreachable-requires
+unreachable-requires c = not_refused c.args.components.now c.in_ok-fields.fields c.new.result c.in_ok-fields.ensures c.new.ensures c.requires.fine c.requires.fit c.in-Err.ensures.formed.1
+
+pub returns-clause-root : goal.returns-clause-root
+returns-clause-root c = ap view.grammar_of c.in-Ok.ensures.kept.1 ∙ root_as c.args.components.now c.in_ok-fields.fields c.new.result c.in_ok-fields.ensures c.new.ensures
