@@ -1,3 +1,20 @@
+//! Whether a grammar is that of a well-formed tree, decided by walks that take no memory.
+//!
+//! The definition (specs/Tree) takes the nodes in preorder as a list. The walks don't make that list:
+//!
+//! 1. One walk counts nodes and slots. It stops where a node is more than 64 steps away, a node too many comes or a slot
+//!    doesn't have the next number. Behind it the slots of the tree are the numbers from 0 up to a count.
+//! 2. One walk tests what concerns each node by itself, and that each slot that a use or a home names is below the count
+//!    and each home rises. So nothing names a slot that step 3 doesn't look at, and a home that rises is the list of the
+//!    slots at home exactly where, slot by slot, it holds those and no others.
+//! 3. Two walks a slot. The first counts the nodes that are the slot's field or use it. The second compares with that
+//!    count what each SEQUENCE has inside it: the slot is at home where all of them are inside and no SEQUENCE further
+//!    inside has them all. It tests that each home holds the slot exactly there, that nothing that may be absent stands
+//!    between the home and the field, and that every use stands inside the home.
+//!
+//! The definition asks of each node about each slot, step 3 of each slot about each node: both ask all pairs. The counts of
+//! step 3 end at the greatest number of 32 bits, which step 1 keeps out of reach. The time grows as slots times nodes.
+
 ghost use Rattle.std.specs.Prelude.{◌≡◌, ◌≤◌, ◌<◌, ◌^◌};
 ghost use Rattle.std.specs.List.{list_all, range_with_len};
 ghost use Rattle.acn_tree.specs.Seen.{slot_kept as slot_is_kept};
