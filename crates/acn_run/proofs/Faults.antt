@@ -1,5 +1,5 @@
 -- Which fault a status comes from.
-use Rattle.std.proofs.Common.{◌≡◌, refl, ap, Result, Ok, Err, IsErrOf}
+use Rattle.std.proofs.Common.{◌≡◌, refl, ap, Err, IsErrOf}
 use Rattle.acn_run.specs.declared.top_call.RunFault.{RunFault}
 use Rattle.acn_run.specs.declared.top_call.RunFault.TheVariants.{Usage, File, FileTooLong, OtherForm, Input, InputTooLong, Packet, Output, NoMemory}
 use Rattle.acn_run.specs.Run.{status_of}

@@ -1,14 +1,14 @@
 -- The numbers that are read are a front of the input, and where none are read there is no front.
-use Rattle.std.proofs.Common.{◌≡◌, ℕ, suc, ◌+◌, ◌*◌, ◌%◌, ◌<◌, ◌≤◌, ℤ, pos, ◌+ℤ◌, ◌≤ℤ◌, Bool, true, false, ◌&&◌, ◌||◌, List, [], ◌∷◌, ◌++◌, length, take, drop, Option, Some, None, refl, sym, ap, subst, ◌∙◌, arith, length-take, length-drop, length-append, take-append-drop, append_assoc, nat_le, int_le, option_map, if◌then◌else◌}
+use Rattle.std.proofs.Common.{◌≡◌, ℕ, suc, ◌+◌, ◌*◌, ◌<◌, ◌≤◌, ℤ, pos, ◌+ℤ◌, ◌≤ℤ◌, Bool, true, false, ◌&&◌, ◌||◌, List, [], ◌∷◌, ◌++◌, length, take, drop, Option, Some, None, refl, sym, ap, subst, ◌∙◌, arith, length-take, length-drop, length-append, take-append-drop, append_assoc, nat_le, int_le, option_map, if◌then◌else◌}
 use Rattle.std.specs.Cmp.Derive.{both_true}
 use Rattle.std.proofs.Math.Seq.{take-add, take-append_seam}
 use Rattle.std.proofs.lemmas.Bool.{leb-true, le-leb}
 use Rattle.std.proofs.lemmas.Int.{ints}
 use Rattle.acn_num.specs.Bits.{number, octets}
-use Rattle.acn_num.specs.Ranges.{In, is_in}
+use Rattle.acn_num.specs.Ranges.{In}
 use Rattle.acn_num.proofs.Members.{le_true, true_le}
-use Rattle.acn_tree.specs.Grammar.{Grammar, Data, Places, Fields, int, boolean, item, null, octet_string, bit_string, characters, record_of, list_of, alt, no_places, empty, filled, node, num, seq}
-use Rattle.acn_tree.specs.Code.{Any, Written, Code, NumberOf}
+use Rattle.acn_tree.specs.Grammar.{Grammar, Data, Places, int, boolean, item, null, octet_string, bit_string, characters, record_of, list_of, alt, no_places, empty, filled, node, num, seq}
+use Rattle.acn_tree.specs.Code.{Any, Code, NumberOf}
 use Rattle.acn_tree.specs.Env.{Env}
 use Rattle.acn_tree.specs.Front.{Front}
 use Rattle.acn_tree.specs.Length.{presence_bits}

@@ -1,13 +1,12 @@
 -- Labels in byte order, and the line that they give.
-use Rattle.std.proofs.Common.{◌≡◌, ℕ, zero, suc, ◌+◌, ◌<◌, Bool, true, false, pos, List, [], ◌∷◌, ◌++◌, length, map, drop, get_or, refl, sym, ap, subst, ◌∙◌, arith, append_assoc, append-nil, if◌then◌else◌, length-drop, add-one}
-use Rattle.std.specs.List.{flat_map, insert}
+use Rattle.std.proofs.Common.{◌≡◌, ℕ, suc, ◌+◌, ◌<◌, Bool, true, false, List, [], ◌∷◌, ◌++◌, length, map, drop, get_or, refl, sym, ap, ◌∙◌, arith, append_assoc, if◌then◌else◌, add-one}
+use Rattle.std.specs.List.{insert}
 use Rattle.std.specs.Fmt.{decimal}
 use Rattle.std.proofs.lemmas.List.{drop_more}
 use Rattle.std.proofs.lemmas.List.Folds.{flat_map-map}
-use Rattle.acn_tree.specs.Grammar.{Places}
 use Rattle.acn_run.specs.declared.components.Component.{Component}
 use Rattle.acn_run.specs.declared.order.Label.{Label}
-use Rattle.acn_run.specs.Line.{labelled_text, others_text, labelled_members, labels_line}
+use Rattle.acn_run.specs.Line.{labelled_text, labelled_members, labels_line}
 use Rattle.acn_run.specs.Order.{numbered, labelled, labels_of, place_for, in_name_order}
 use Rattle.acn_run.specs.Packet.{fields_of, places_of, grammar_of, value_of}
 use Rattle.acn_run.specs.Text.{comes_before, put_in, in_order, Member, member_text, members_text, members_of, line_of}

@@ -1,8 +1,7 @@
 -- What a status says of the run.
-use Rattle.std.proofs.Common.{◌≡◌, ◌⊎◌, inl, inr, ℕ, ◌≤◌, List, Option, Result, Ok, Err, arith}
-use Rattle.acn_run.specs.declared.top_call.RunFault.{RunFault}
+use Rattle.std.proofs.Common.{◌≡◌, ◌⊎◌, inl, inr, ℕ, ◌≤◌, List, Option, Ok, Err, arith}
 use Rattle.acn_run.specs.declared.top_call.RunFault.TheVariants.{Usage, File, FileTooLong, OtherForm, Input, InputTooLong, Packet, Output, NoMemory}
-use Rattle.acn_run.specs.Run.{RunEnds, Ended, Decodes, Finished, IsNoSource, Refused, Cut, Stopped}
+use Rattle.acn_run.specs.Run.{RunEnds, Decodes, Finished, IsNoSource, Refused, Cut, Stopped}
 
 module _ (words : List (List ℕ)) (contents : List ℕ → Option (List ℕ)) (i i' o o' : Option (List ℕ)) (s : ℕ) where
   pub finished : RunEnds words contents i i' o o' s → s ≡ 0 → Finished words contents i i' o o'

@@ -1,6 +1,5 @@
 -- Packets behind those before them.
-use Rattle.std.proofs.Common.{◌≡◌, ℕ, ◌<◌, ◌≤◌, Bool, List, [], ◌∷◌, ◌++◌, Option, None, Some, length, take, drop, subst, sym, ap, refl, ◌∙◌, arith, take-append-drop, length-take, append_assoc, append-nil}
-use Rattle.std.specs.List.{flat_map}
+use Rattle.std.proofs.Common.{◌≡◌, ℕ, List, [], ◌∷◌, ◌++◌, Option, None, Some, length, take, drop, subst, sym, ap, refl, ◌∙◌, arith, take-append-drop, length-take, append_assoc, append-nil}
 use Rattle.std.proofs.lemmas.Grind.{flat_map-append}
 use Rattle.acn_num.specs.Bits.{bits, octets}
 use Rattle.acn_tree.specs.Grammar.{Grammar, Data}
@@ -9,7 +8,7 @@ use Rattle.acn_outside.specs.Moves.{Gains}
 use Rattle.acn_outside.specs.Whole.{GainsFront}
 use Rattle.acn_outside.proofs.Joined.{gains_more}
 use Rattle.acn_run.specs.Text.{line_of, lines_of}
-use Rattle.acn_run.specs.Recording.{Recorded, Decoded, Packet, IsStuck, nothing, one_more}
+use Rattle.acn_run.specs.Recording.{Recorded, Decoded, Packet, nothing, one_more}
 use Rattle.acn_run.specs.Decoding.{WritesLines, WritesFront}
 
 gains_nothing : (before : Option (List ℕ)) → Gains before before []

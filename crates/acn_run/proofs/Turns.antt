@@ -1,12 +1,12 @@
 -- One number more of a packet.
-use Rattle.std.proofs.Common.{◌≡◌, ℕ, zero, suc, ◌+◌, ◌*◌, ◌<◌, ◌≤◌, Bool, true, false, List, [], ◌∷◌, ◌++◌, length, take, drop, get_or, Option, Some, None, refl, sym, ap, subst, ◌∙◌, arith, append_assoc, append-nil, option_map, Result, Ok, Err, OnOk}
+use Rattle.std.proofs.Common.{◌≡◌, ℕ, zero, suc, ◌+◌, ◌*◌, ◌<◌, Bool, true, false, List, [], ◌∷◌, ◌++◌, length, take, drop, get_or, Option, Some, None, refl, sym, ap, subst, ◌∙◌, arith, append_assoc, option_map, Result, Ok, Err, OnOk}
 use Rattle.std.specs.List.{AllByRecursion}
 use Rattle.std.proofs.lemmas.List.{drop_more, take_all}
 use Rattle.acn_bits.proofs.BitLists.{length-bits}
 use Rattle.acn_num.specs.Bits.{bits}
 use Rattle.acn_run.specs.declared.components.Component.{Component}
 use Rattle.acn_run.specs.Form.{IsComponent}
-use Rattle.acn_run.specs.Packet.{width_of, offset_of, fits, numbers_of}
+use Rattle.acn_run.specs.Packet.{offset_of, fits, numbers_of}
 
 -- the component in its place, and those behind it
 pub ahead : (cs : List Component) (i : ℕ) (c : Component) → i < length cs → c ≡ get_or cs i c → drop i cs ≡ c ∷ drop (i + 1) cs

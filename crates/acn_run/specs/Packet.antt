@@ -1,5 +1,5 @@
 -- The grammar of the form, and the numbers that bits spell in it.
-use Rattle.std.specs.Prelude.{◌≡◌, ℕ, ◌+◌, ◌≤◌, ℤ, pos, false, Bool, nat_le, ◌&&◌, List, [], ◌∷◌, length, take, drop, map, Option, Some, None, option_map, if◌then◌else◌, Result, Ok, Err}
+use Rattle.std.specs.Prelude.{ℕ, ◌+◌, pos, false, Bool, nat_le, ◌&&◌, List, [], ◌∷◌, length, take, drop, Option, Some, None, option_map, if◌then◌else◌, Result, Ok, Err}
 use Rattle.acn_num.specs.Bits.{number}
 use Rattle.acn_tree.specs.Grammar.{Grammar, Fields, Data, Places, node, num, seq, no_fields, component, int, record_of, no_places, filled}
 use Rattle.acn_tree.specs.View.{OneField, a_component}

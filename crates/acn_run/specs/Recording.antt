@@ -1,5 +1,5 @@
 -- Recordings of packets, and what is written for them.
-use Rattle.std.specs.Prelude.{◌≡◌, ℕ, ◌<◌, ◌≤◌, List, [], ◌∷◌, ◌++◌, length, Option, Result, Ok, Err}
+use Rattle.std.specs.Prelude.{◌≡◌, ℕ, ◌<◌, ◌≤◌, List, [], ◌∷◌, ◌++◌, length}
 use Rattle.acn_num.specs.Bits.{bits, octets}
 use Rattle.acn_tree.specs.Grammar.{Grammar, Data}
 use Rattle.acn_tree.specs.Front.{Front}

@@ -1,5 +1,5 @@
 -- How a run ends, and its status.
-use Rattle.std.specs.Prelude.{◌≡◌, ◌⊎◌, ℕ, Bool, true, false, List, [], Option, Result, Ok, Err}
+use Rattle.std.specs.Prelude.{◌≡◌, ◌⊎◌, ℕ, true, false, List, [], Option, Result, Ok, Err}
 use Rattle.acn_outside.specs.Moves.{Takes, IsUsedUp}
 use Rattle.acn_outside.specs.Whole.{IsWhole, IsTooLong}
 use Rattle.acn_outside.specs.declared.whole.WholeFault.{WholeFault}

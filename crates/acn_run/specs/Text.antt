@@ -1,5 +1,5 @@
 -- The compact JSON text of a value, as far as values are printed so far.
-use Rattle.std.specs.Prelude.{ℕ, Bool, true, false, nat_lt, nat_eq, ◌&&◌, ◌||◌, List, [], ◌∷◌, ◌++◌, map, if◌then◌else◌}
+use Rattle.std.specs.Prelude.{ℕ, Bool, true, false, nat_lt, nat_eq, ◌&&◌, ◌||◌, List, [], ◌∷◌, ◌++◌, if◌then◌else◌}
 use Rattle.std.specs.List.{flat_map}
 use Rattle.std.specs.Fmt.{signed_decimal}
 use Rattle.acn_tree.specs.Grammar.{Grammar, Form, Fields, Data, Places, node, num, seq, component, inserted, int, record_of, filled, empty}

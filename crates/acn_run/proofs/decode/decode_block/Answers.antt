@@ -1,4 +1,4 @@
-use Rattle.std.proofs.Common.{◌≡◌, ℕ, List, length, length-drop, subst, sym, ap, arith, rules}
+use Rattle.std.proofs.Common.{ℕ, List, length, length-drop, subst, sym, ap, arith, rules}
 use Rattle.acn_run.specs.Packet.{grammar_of}
 use Rattle.acn_run.specs.Recording.{Decoded}
 use Rattle.acn_run.proofs.Steps.{begun, stepped}

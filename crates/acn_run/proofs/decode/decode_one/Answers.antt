@@ -1,4 +1,4 @@
-use Rattle.std.proofs.Common.{◌≡◌, ◌∙◌, ◌++◌, ◌<◌, ◌≤◌, length, ap, subst, sym, ℕ, arith}
+use Rattle.std.proofs.Common.{◌≡◌, ◌∙◌, ◌++◌, ◌<◌, ◌≤◌, length, ap, arith}
 use Rattle.acn_num.specs.Bits.{bits, octets}
 use Rattle.acn_bits.proofs.BitLists.{length-bits}
 use Rattle.acn_run.specs.Line.{labels_line}

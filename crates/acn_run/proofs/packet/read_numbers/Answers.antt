@@ -1,4 +1,4 @@
-use Rattle.std.proofs.Common.{◌≡◌, ◌+◌, ap, arith, drop}
+use Rattle.std.proofs.Common.{◌+◌, ap, arith, drop}
 use Rattle.acn_run.specs.Packet.{width_of}
 use Rattle.acn_run.proofs.Turns.{ahead, fine_at, read_turn, read_stop}
 use Rattle.acn_run.proofs.packet.read_numbers.Goals as goal

@@ -1,7 +1,6 @@
-use Rattle.std.proofs.Common.{◌≡◌, ◌*◌, ◌≤◌, length, subst, ap, arith, List, Bool, Some, None}
+use Rattle.std.proofs.Common.{◌≡◌, length, subst, ap, arith, List, Bool, Some, None}
 use Rattle.acn_bits.proofs.BitLists.{length-bits}
-use Rattle.acn_num.specs.Bits.{bits}
-use Rattle.acn_run.specs.Packet.{numbers_of, width_of}
+use Rattle.acn_run.specs.Packet.{numbers_of}
 use Rattle.acn_run.proofs.Fronts.{front_found}
 use Rattle.acn_run.proofs.Turns.{all_bits}
 use Rattle.acn_run.proofs.packet.read_packet.Goals as goal

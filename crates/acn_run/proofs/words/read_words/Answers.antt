@@ -1,4 +1,4 @@
-use Rattle.std.proofs.Common.{◌≡◌, ℕ, ◌<◌, List, [], ◌∷◌, length, map, string_bytes, false, true, refl, ap, arith}
+use Rattle.std.proofs.Common.{◌≡◌, ℕ, ◌<◌, List, [], ◌∷◌, length, map, string_bytes, false, true, refl, arith}
 use Rattle.std.proofs.lemmas.List.{length-map}
 use Rattle.acn_run.specs.Words.{is_decode}
 use Rattle.acn_run.proofs.words.read_words.Goals as goal
