@@ -84,11 +84,11 @@ pass_all test (x ∷ xs) h = let b = both (test x) (list_all test xs) h in (b.0,
 
 -- ---- what an element doesn't begin with
 
-record IsOtherHere (text : List ℕ) : Type 0 where
-  plain : IsOther text
-  is_not_min : bytes_eq (codes "MIN") text ≡ false
-  is_not_size : bytes_eq (codes "SIZE") text ≡ false
-  is_not_from : bytes_eq (codes "FROM") text ≡ false
+pub record IsOtherHere (text : List ℕ) : Type 0 where
+  pub plain : IsOther text
+  pub is_not_min : bytes_eq (codes "MIN") text ≡ false
+  pub is_not_size : bytes_eq (codes "SIZE") text ≡ false
+  pub is_not_from : bytes_eq (codes "FROM") text ≡ false
 
 low_word : (text : List ℕ) (o : Option AsnValue) (r : List Lexeme) → Passes end_fits o → IsOther text → bytes_eq (codes "MIN") text ≡ false → sees Word text (end_tokens (codes "MIN") o ++ r) ≡ false
 unfolding end_tokens
@@ -107,7 +107,7 @@ group_word : (text : List ℕ) (s : List Lexeme) (r : List Lexeme) → sees Word
 unfolding same_kind
 group_word text s r = sees_kind _ _ _ _ _ refl
 
-element_word : (x : Element) (text : List ℕ) (r : List Lexeme) → Passes element_fits x → IsOtherHere text → sees Word text (element_tokens x ++ r) ≡ false
+pub element_word : (x : Element) (text : List ℕ) (r : List Lexeme) → Passes element_fits x → IsOtherHere text → sees Word text (element_tokens x ++ r) ≡ false
 element_word x text r = form.by_element (λ x. Passes element_fits x → IsOtherHere text → sees Word text (element_tokens x ++ r) ≡ false)
     (λ v fits h. rw form.tokens_Value (value_word v text r (sym (form.fits_Value v) ∙ fits) h.plain))
     (λ g fits h. rw form.tokens_Range (range_word text g r (both (end_fits g.low) (end_fits g.high) (sym (form.fits_Range g) ∙ fits)).0 h.plain h.is_not_min))

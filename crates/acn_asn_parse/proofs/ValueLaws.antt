@@ -50,7 +50,7 @@ named_found ts v r e =
     let parts : ts ≡ value_tokens (value.Ref name) ++ m = a.0 in
     done _ _ _ _ h parts a.1)
 
-literal_found : (k : Kind) (ts : List Lexeme) (x : List ℕ) (r : List Lexeme) → literal k ts ≡ Some (x, r) → ts ≡ token k x ∷ r
+pub literal_found : (k : Kind) (ts : List Lexeme) (x : List ℕ) (r : List Lexeme) → literal k ts ≡ Some (x, r) → ts ≡ token k x ∷ r
 unfolding literal
 literal_found k ts x r e = by_text (text_of k ts) refl e
   where
@@ -180,7 +180,7 @@ unfolding has text_of signed_tokens
 signed_has k true n r p q = rw p refl
 signed_has k false n r p q = rw q refl
 
-literal_again : (k : Kind) (text : List ℕ) (r : List Lexeme) → literal k (token k text ∷ r) ≡ Some (text, r)
+pub literal_again : (k : Kind) (text : List ℕ) (r : List Lexeme) → literal k (token k text ∷ r) ≡ Some (text, r)
 unfolding literal
 literal_again k text r = rw (text_of_again k text r) refl
 

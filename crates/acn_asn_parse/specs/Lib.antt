@@ -1,2 +1,7 @@
 pub mod Values
 pub mod Sets
+pub mod Lists
+pub mod Bases
+pub mod Types
+pub mod Headers
+pub mod Modules

@@ -1,5 +1,8 @@
 //! The parser of ASN.1 modules.
 #![tactic(auto)]
 
+mod bases;
+mod headers;
+mod heads;
 mod sets;
 mod values;

@@ -3,3 +3,4 @@ pub mod View
 pub mod Values
 pub mod Spelling
 pub mod Trees
+pub mod Modules
