@@ -122,10 +122,10 @@ tag_again (Some t) r fits begins =
     simp append_assoc
     (then_again _ _ _ _ _ (eat_again _ _ _)
     (then_again _ _ _ _ _
-      (then_again _ _ _ _ _ (class_again t.class _ _)
-      (then_again _ _ _ _ _ (number_again t.number _ (ltb-true t.number (2 ^ 64) fits))
-      (then_again _ _ _ _ _ (expect_again _ _ _)
-      (then_again _ _ _ _ _ (mode_again t.mode r begins) refl)))) refl))
+    (then_again _ _ _ _ _ (class_again t.class _ _)
+    (then_again _ _ _ _ _ (number_again t.number _ (ltb-true t.number (2 ^ 64) fits))
+    (then_again _ _ _ _ _ (expect_again _ _ _)
+    (then_again _ _ _ _ _ (mode_again t.mode r begins) refl)))) refl))
 
 -- ---- named numbers and items
 

@@ -152,30 +152,30 @@ module _ (inner : Parser Set) (limit : ℕ) (again : (s : Set) (r : List Lexeme)
   unfolding element_at inner_at same_kind
   element_again x r = form.by_element (λ x. length (element_tokens x ++ r) ≤ suc limit → Passes element_fits x → EndsElement r → element_at inner (element_tokens x ++ r) ≡ Some (x, r))
       (λ v bound fits ends. let fits' = sym (form.fits_Value v) ∙ fits in
-          rw form.tokens_Value
-          (then_again _ _ _ _ _ (eat_nothing _ _ _ (value_word v _ r fits' is_size))
-          (then_again _ _ _ _ _ (eat_nothing _ _ _ (value_word v _ r fits' is_from))
-          (rw (value_mark v (codes "(") r refl) (plain_value v r fits' ends)))))
+      rw form.tokens_Value
+      (then_again _ _ _ _ _ (eat_nothing _ _ _ (value_word v _ r fits' is_size))
+      (then_again _ _ _ _ _ (eat_nothing _ _ _ (value_word v _ r fits' is_from))
+      (rw (value_mark v (codes "(") r refl) (plain_value v r fits' ends)))))
       (λ g bound fits ends. let fits' = both (end_fits g.low) (end_fits g.high) (sym (form.fits_Range g) ∙ fits) in
-          rw form.tokens_Range
-          (then_again _ _ _ _ _ (eat_nothing _ _ _ (range_word _ g r fits'.0 is_size refl))
-          (then_again _ _ _ _ _ (eat_nothing _ _ _ (range_word _ g r fits'.0 is_from refl))
-          (rw (range_mark (codes "(") g r refl) (plain_range g r fits'.0 fits'.1)))))
+      rw form.tokens_Range
+      (then_again _ _ _ _ _ (eat_nothing _ _ _ (range_word _ g r fits'.0 is_size refl))
+      (then_again _ _ _ _ _ (eat_nothing _ _ _ (range_word _ g r fits'.0 is_from refl))
+      (rw (range_mark (codes "(") g r refl) (plain_range g r fits'.0 fits'.1)))))
       (λ s bound fits ends.
-          rw form.tokens_SizeOf
-          (then_again _ _ _ _ _ (eat_again _ _ _)
-          (then_again _ _ _ _ _ (group_again s r (omega (arith, ap (λ (z : List Lexeme). length (z ++ r)) (form.tokens_SizeOf s))) (sym (form.fits_SizeOf s) ∙ fits)) refl)))
+      rw form.tokens_SizeOf
+      (then_again _ _ _ _ _ (eat_again _ _ _)
+      (then_again _ _ _ _ _ (group_again s r (omega (arith, ap (λ (z : List Lexeme). length (z ++ r)) (form.tokens_SizeOf s))) (sym (form.fits_SizeOf s) ∙ fits)) refl)))
       (λ s bound fits ends.
-          rw form.tokens_From
-          (then_again _ _ _ _ _ (eat_nothing _ _ _ (sees_text _ _ _ _ refl))
-          (then_again _ _ _ _ _ (eat_again _ _ _)
-          (then_again _ _ _ _ _ (group_again s r (omega (arith, ap (λ (z : List Lexeme). length (z ++ r)) (form.tokens_From s))) (sym (form.fits_From s) ∙ fits)) refl))))
+      rw form.tokens_From
+      (then_again _ _ _ _ _ (eat_nothing _ _ _ (sees_text _ _ _ _ refl))
+      (then_again _ _ _ _ _ (eat_again _ _ _)
+      (then_again _ _ _ _ _ (group_again s r (omega (arith, ap (λ (z : List Lexeme). length (z ++ r)) (form.tokens_From s))) (sym (form.fits_From s) ∙ fits)) refl))))
       (λ s bound fits ends.
-          rw form.tokens_Inner
-          (then_again _ _ _ _ _ (eat_nothing _ _ _ (group_word _ (set_tokens s) r))
-          (then_again _ _ _ _ _ (eat_nothing _ _ _ (group_word _ (set_tokens s) r))
-          (rw (sees_again Mark (codes "(") ((set_tokens s ++ mark (codes ")") ∷ []) ++ r))
-          (then_again _ _ _ _ _ (group_again s r (omega (arith, ap (λ (z : List Lexeme). length (z ++ r)) (form.tokens_Inner s))) (sym (form.fits_Inner s) ∙ fits)) refl)))))
+      rw form.tokens_Inner
+      (then_again _ _ _ _ _ (eat_nothing _ _ _ (group_word _ (set_tokens s) r))
+      (then_again _ _ _ _ _ (eat_nothing _ _ _ (group_word _ (set_tokens s) r))
+      (rw (sees_again Mark (codes "(") ((set_tokens s ++ mark (codes ")") ∷ []) ++ r))
+      (then_again _ _ _ _ _ (group_again s r (omega (arith, ap (λ (z : List Lexeme). length (z ++ r)) (form.tokens_Inner s))) (sym (form.fits_Inner s) ∙ fits)) refl)))))
       x
 
   but_again : (o : Option Element) (r : List Lexeme) → length (but_tokens (option_map element_tokens o) ++ r) ≤ suc limit → but_proper (option_map element_fits o) ≡ true → EndsPart r
@@ -196,14 +196,14 @@ module _ (inner : Parser Set) (limit : ℕ) (again : (s : Set) (r : List Lexeme)
   unfolding part
   part_again x r = form.by_part (λ x. length (part_tokens x ++ r) ≤ suc limit → Passes part_fits x → EndsPart r → part inner (part_tokens x ++ r) ≡ Some (x, r))
       (λ e but bound fits ends.
-          let t = form.tokens_part e but in
-          let whole : part_tokens (roll-Part (record { element = e; but = but })) ++ r ≡ element_tokens e ++ (but_tokens (option_map element_tokens but) ++ r) = rw (t, append_assoc) refl in
-          let f = both (element_fits e) (but_proper (option_map element_fits but)) (sym (form.fits_part e but) ∙ fits) in
-          let in_all : length (element_tokens e ++ (but_tokens (option_map element_tokens but) ++ r)) ≤ suc limit = subst (λ (z : List Lexeme). length z ≤ suc limit) whole bound in
-          let in_rest : length (but_tokens (option_map element_tokens but) ++ r) ≤ suc limit = omega (arith, length-append (element_tokens e) (but_tokens (option_map element_tokens but) ++ r)) in
-          rw whole
-          (then_again _ _ _ _ _ (element_again e _ in_all f.0 (element_ends but r ends))
-          (then_again _ _ _ _ _ (but_again but r in_rest f.1 ends) refl)))
+      let t = form.tokens_part e but in
+      let whole : part_tokens (roll-Part (record { element = e; but = but })) ++ r ≡ element_tokens e ++ (but_tokens (option_map element_tokens but) ++ r) = rw (t, append_assoc) refl in
+      let f = both (element_fits e) (but_proper (option_map element_fits but)) (sym (form.fits_part e but) ∙ fits) in
+      let in_all : length (element_tokens e ++ (but_tokens (option_map element_tokens but) ++ r)) ≤ suc limit = subst (λ (z : List Lexeme). length z ≤ suc limit) whole bound in
+      let in_rest : length (but_tokens (option_map element_tokens but) ++ r) ≤ suc limit = omega (arith, length-append (element_tokens e) (but_tokens (option_map element_tokens but) ++ r)) in
+      rw whole
+      (then_again _ _ _ _ _ (element_again e _ in_all f.0 (element_ends but r ends))
+      (then_again _ _ _ _ _ (but_again but r in_rest f.1 ends) refl)))
       x
 
   abbrev next_part_tokens : Bool × Part → List Lexeme
@@ -253,14 +253,14 @@ module _ (inner : Parser Set) (limit : ℕ) (again : (s : Set) (r : List Lexeme)
   unfolding meet
   meet_again x r = form.by_meet (λ x. length (meet_tokens x ++ r) ≤ suc limit → Passes meet_fits x → EndsMeet r → meet inner (meet_tokens x ++ r) ≡ Some (x, r))
       (λ first more bound fits ends.
-          let whole : meet_tokens (roll-Meet (record { first = first; more = more })) ++ r ≡ part_tokens first ++ (flat_map next_part_tokens more ++ r) = rw (form.tokens_meet first more, append_assoc) refl in
-          let f = both (part_fits first) (list_all (λ (p : Bool × Part). part_fits p.1) more) (sym (form.fits_meet first more) ∙ fits) in
-          let all = pass_all (λ (p : Bool × Part). part_fits p.1) more f.1 in
-          let in_all : length (part_tokens first ++ (flat_map next_part_tokens more ++ r)) ≤ suc limit = subst (λ (z : List Lexeme). length z ≤ suc limit) whole bound in
-          let in_rest : length (flat_map next_part_tokens more ++ r) ≤ suc limit = omega (arith, length-append (part_tokens first) (flat_map next_part_tokens more ++ r)) in
-          rw whole
-          (then_again _ _ _ _ _ (part_again first _ in_all f.0 (parts_end more r all ends.part))
-          (then_again _ _ _ _ _ (parts_again more r in_rest all ends) refl)))
+      let whole : meet_tokens (roll-Meet (record { first = first; more = more })) ++ r ≡ part_tokens first ++ (flat_map next_part_tokens more ++ r) = rw (form.tokens_meet first more, append_assoc) refl in
+      let f = both (part_fits first) (list_all (λ (p : Bool × Part). part_fits p.1) more) (sym (form.fits_meet first more) ∙ fits) in
+      let all = pass_all (λ (p : Bool × Part). part_fits p.1) more f.1 in
+      let in_all : length (part_tokens first ++ (flat_map next_part_tokens more ++ r)) ≤ suc limit = subst (λ (z : List Lexeme). length z ≤ suc limit) whole bound in
+      let in_rest : length (flat_map next_part_tokens more ++ r) ≤ suc limit = omega (arith, length-append (part_tokens first) (flat_map next_part_tokens more ++ r)) in
+      rw whole
+      (then_again _ _ _ _ _ (part_again first _ in_all f.0 (parts_end more r all ends.part))
+      (then_again _ _ _ _ _ (parts_again more r in_rest all ends) refl)))
       x
 
   abbrev next_meet_tokens : Bool × Meet → List Lexeme
@@ -335,22 +335,22 @@ module _ (inner : Parser Set) (limit : ℕ) (again : (s : Set) (r : List Lexeme)
   unfolding set_in all_except union
   set_in_again x r = form.by_set (λ x. length (set_tokens x ++ closing r) ≤ suc limit → Passes set_fits x → set_in inner (set_tokens x ++ closing r) ≡ Some (x, closing r))
       (λ e bound fits.
-          let t = form.tokens_AllExcept e in
-          let in_element : length (element_tokens e ++ closing r) ≤ suc limit = omega (arith, ap (λ (z : List Lexeme). length (z ++ closing r)) t) in
-          rw t
-          (then_again _ _ _ _ _ (eat_again _ _ _)
-          (then_again _ _ _ _ _ (expect_again _ _ _)
-          (then_again _ _ _ _ _ (element_again e _ in_element (sym (form.fits_AllExcept e) ∙ fits) (closing_ends r).part.element) refl))))
+      let t = form.tokens_AllExcept e in
+      let in_element : length (element_tokens e ++ closing r) ≤ suc limit = omega (arith, ap (λ (z : List Lexeme). length (z ++ closing r)) t) in
+      rw t
+      (then_again _ _ _ _ _ (eat_again _ _ _)
+      (then_again _ _ _ _ _ (expect_again _ _ _)
+      (then_again _ _ _ _ _ (element_again e _ in_element (sym (form.fits_AllExcept e) ∙ fits) (closing_ends r).part.element) refl))))
       (λ m more bound fits.
-          let whole : set_tokens (set.Union m more) ++ closing r ≡ meet_tokens m ++ (flat_map next_meet_tokens more ++ closing r) = rw (form.tokens_Union m more, append_assoc) refl in
-          let f = both (meet_fits m) (list_all (λ (p : Bool × Meet). meet_fits p.1) more) (sym (form.fits_Union m more) ∙ fits) in
-          let all = pass_all (λ (p : Bool × Meet). meet_fits p.1) more f.1 in
-          let in_all : length (meet_tokens m ++ (flat_map next_meet_tokens more ++ closing r)) ≤ suc limit = subst (λ (z : List Lexeme). length z ≤ suc limit) whole bound in
-          let in_rest : length (flat_map next_meet_tokens more ++ closing r) ≤ suc limit = omega (arith, length-append (meet_tokens m) (flat_map next_meet_tokens more ++ closing r)) in
-          rw whole
-          (then_again _ _ _ _ _ (eat_nothing _ _ _ (meet_word m _ f.0))
-          (then_again _ _ _ _ _ (meet_again m _ in_all f.0 (meets_end more r all))
-          (then_again _ _ _ _ _ (meets_again more r in_rest all) refl))))
+      let whole : set_tokens (set.Union m more) ++ closing r ≡ meet_tokens m ++ (flat_map next_meet_tokens more ++ closing r) = rw (form.tokens_Union m more, append_assoc) refl in
+      let f = both (meet_fits m) (list_all (λ (p : Bool × Meet). meet_fits p.1) more) (sym (form.fits_Union m more) ∙ fits) in
+      let all = pass_all (λ (p : Bool × Meet). meet_fits p.1) more f.1 in
+      let in_all : length (meet_tokens m ++ (flat_map next_meet_tokens more ++ closing r)) ≤ suc limit = subst (λ (z : List Lexeme). length z ≤ suc limit) whole bound in
+      let in_rest : length (flat_map next_meet_tokens more ++ closing r) ≤ suc limit = omega (arith, length-append (meet_tokens m) (flat_map next_meet_tokens more ++ closing r)) in
+      rw whole
+      (then_again _ _ _ _ _ (eat_nothing _ _ _ (meet_word m _ f.0))
+      (then_again _ _ _ _ _ (meet_again m _ in_all f.0 (meets_end more r all))
+      (then_again _ _ _ _ _ (meets_again more r in_rest all) refl))))
       x
 
 -- Each proper set is read from its tokens, where as many sets may be in one another as there are tokens.

@@ -26,7 +26,6 @@ use Rattle.acn_asn_syntax.proofs.SetTokens.{joined_tokens, but_tokens, but_prope
 use Rattle.acn_asn_syntax.proofs.SetTokens as form
 use Rattle.acn_asn_parse.specs.Values.{value_at}
 use Rattle.acn_asn_parse.specs.Sets.{end_if, end, range_from, plain_if, plain, mark_if, mark_at, has_mark, part_mark, has_part_mark, meet_mark, has_meet_mark, group, inner_at, from_if, size_if, element_at, but_if, but_at, part, next_part, meet, next_meet, union, all_except, all_if, set_in, set_at}
-
 use Rattle.acn_asn_parse.proofs.ValueLaws.{Passes, Found, value_found}
 
 -- ---- ranges

@@ -42,7 +42,6 @@ fits_by b f = (both (base_fits b) (not (is_list b)) f).0
 
 -- ---- found
 
-
 named_if_found : (b : Bool) (ts ts' m : List Lexeme) (x : AsnBase) (r : List Lexeme) → ts ≡ word (codes "INTEGER") ∷ ts' → ts' ≡ given b (mark (codes "{")) ++ m → named_if b m ≡ Some (x, r) → TakesBase ts x r
 named_if_found true ts ts' m x r p q e =
     then_found (listed named m) _ _ e (λ ns m1 e1 h.
@@ -206,7 +205,6 @@ reference_again (Some from) name r f g ends =
     then_again _ _ _ _ _ (word_again _ from _ f)
     (then_again _ _ _ _ _ (eat_again _ _ _)
     (then_again _ _ _ _ _ (word_again _ name _ g) refl))
-
 
 pub again_Boolean : (r : List Lexeme) → simple_base (base_tokens base.Boolean ++ r) ≡ Some (base.Boolean, r)
 unfolding simple_base string_base number_base

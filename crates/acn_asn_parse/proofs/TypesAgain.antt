@@ -128,19 +128,19 @@ begins_base w ts i e = record { implicit = sees_text _ _ _ _ i; explicit = sees_
 base_some : (b : AsnBase) → 0 < length (base_tokens b)
 unfolding ref_tokens
 base_some b = form.by_base (λ b. 0 < length (base_tokens b)) (record {
-    boolean = rw form.tokens_Boolean (omega arith);
-    null = rw form.tokens_Null (omega arith);
-    integer = λ ns. rw (form.tokens_Integer ns) (omega arith);
-    enumerated = λ items. rw (form.tokens_Enumerated items) (omega arith);
-    octet_string = rw form.tokens_OctetString (omega arith);
-    bit_string = rw form.tokens_BitString (omega arith);
-    ia5_string = rw form.tokens_Ia5String (omega arith);
-    sequence = λ cs. rw (form.tokens_Sequence cs) (omega arith);
-    sequence_of = λ t. rw (form.tokens_Of t) (omega arith);
-    sequence_size = λ c t. rw (form.tokens_SizeOf c t) (omega arith);
-    choice = λ more. rw (form.tokens_Choice more) (omega arith);
-    reference = λ from name. rw (form.tokens_Ref from name) (some_ref from name);
-  }) b
+  boolean = rw form.tokens_Boolean (omega arith);
+  null = rw form.tokens_Null (omega arith);
+  integer = λ ns. rw (form.tokens_Integer ns) (omega arith);
+  enumerated = λ items. rw (form.tokens_Enumerated items) (omega arith);
+  octet_string = rw form.tokens_OctetString (omega arith);
+  bit_string = rw form.tokens_BitString (omega arith);
+  ia5_string = rw form.tokens_Ia5String (omega arith);
+  sequence = λ cs. rw (form.tokens_Sequence cs) (omega arith);
+  sequence_of = λ t. rw (form.tokens_Of t) (omega arith);
+  sequence_size = λ c t. rw (form.tokens_SizeOf c t) (omega arith);
+  choice = λ more. rw (form.tokens_Choice more) (omega arith);
+  reference = λ from name. rw (form.tokens_Ref from name) (some_ref from name);
+}) b
   where
     some_ref : (from : Option (List ℕ)) (name : List ℕ) → 0 < length (ref_tokens from name)
     some_ref None name = omega arith
@@ -157,7 +157,6 @@ module _ (limit : ℕ) (set : Parser Set)
     (set_again : (s : Set) (r : List Lexeme) → length (set_tokens s ++ closing r) ≤ limit → Passes set_fits s → set (set_tokens s ++ closing r) ≡ Some (s, closing r))
     (inner : Parser AsnType)
     (again : (t : AsnType) (r : List Lexeme) → length (type_tokens t ++ r) ≤ limit → Passes type_fits t → EndsType r → inner (type_tokens t ++ r) ≡ Some (t, r)) where
-
   set_in : (s : Set) (r : List Lexeme) → length (in_parentheses (set_tokens s) ++ r) ≤ suc limit → length (set_tokens s ++ closing r) ≤ limit
   set_in s r bound = let regroup : (set_tokens s ++ mark (codes ")") ∷ []) ++ r ≡ set_tokens s ++ closing r = append_assoc (set_tokens s) (mark (codes ")") ∷ []) r in omega (arith, ap length regroup)
 
@@ -195,23 +194,23 @@ module _ (limit : ℕ) (set : Parser Set)
   unfolding of_constraint size_at some_constraint has_paren same_kind
   of_some c r = form.by_constraint (λ c. length (constraint_tokens c ++ r) ≤ suc limit → Passes inner_fits c → of_constraint set inner (constraint_tokens c ++ r) ≡ Some (Some c, r))
       (λ s bound f.
-          let one = set_again_in s r (subst (λ z. length (z ++ r) ≤ suc limit) (form.tokens_Set s) bound) (sym (form.fits_Set s).1 ∙ f) in
-          rw (form.tokens_Set s)
-          (then_again _ _ _ _ _ (eat_nothing _ _ _ (sees_kind _ _ _ _ _ refl))
-          (rw (sees_again Mark (codes "(") ((set_tokens s ++ mark (codes ")") ∷ []) ++ r)) (then_again _ _ _ _ _ one refl))))
+      let one = set_again_in s r (subst (λ z. length (z ++ r) ≤ suc limit) (form.tokens_Set s) bound) (sym (form.fits_Set s).1 ∙ f) in
+      rw (form.tokens_Set s)
+      (then_again _ _ _ _ _ (eat_nothing _ _ _ (sees_kind _ _ _ _ _ refl))
+      (rw (sees_again Mark (codes "(") ((set_tokens s ++ mark (codes ")") ∷ []) ++ r)) (then_again _ _ _ _ _ one refl))))
       (λ s bound f.
-          let within = set_in s r (let z : length ((word (codes "SIZE") ∷ in_parentheses (set_tokens s)) ++ r) ≤ suc limit = subst (λ z. length (z ++ r) ≤ suc limit) (form.tokens_Size s) bound in omega arith) in
-          rw (form.tokens_Size s)
-          (simp append_assoc
-          (then_again _ _ _ _ _ (eat_again _ _ _)
-          (then_again _ _ _ _ _ (expect_again _ _ _)
-          (then_again _ _ _ _ _ (set_again s r within (sym (form.fits_Size s).1 ∙ f))
-          (then_again _ _ _ _ _ (expect_again _ _ _) refl))))))
+      let within = set_in s r (let z : length ((word (codes "SIZE") ∷ in_parentheses (set_tokens s)) ++ r) ≤ suc limit = subst (λ z. length (z ++ r) ≤ suc limit) (form.tokens_Size s) bound in omega arith) in
+      rw (form.tokens_Size s)
+      (simp append_assoc
+      (then_again _ _ _ _ _ (eat_again _ _ _)
+      (then_again _ _ _ _ _ (expect_again _ _ _)
+      (then_again _ _ _ _ _ (set_again s r within (sym (form.fits_Size s).1 ∙ f))
+      (then_again _ _ _ _ _ (expect_again _ _ _) refl))))))
       (λ t bound f.
-          let one = containing_again t r (subst (λ z. length (z ++ r) ≤ suc limit) (form.tokens_Containing t) bound) (sym (form.fits_Containing t).1 ∙ f) in
-          rw (form.tokens_Containing t)
-          (then_again _ _ _ _ _ (eat_nothing _ _ _ (sees_kind _ _ _ _ _ refl))
-          (rw (sees_again Mark (codes "(") (((word (codes "CONTAINING") ∷ type_tokens t) ++ mark (codes ")") ∷ []) ++ r)) (then_again _ _ _ _ _ one refl))))
+      let one = containing_again t r (subst (λ z. length (z ++ r) ≤ suc limit) (form.tokens_Containing t) bound) (sym (form.fits_Containing t).1 ∙ f) in
+      rw (form.tokens_Containing t)
+      (then_again _ _ _ _ _ (eat_nothing _ _ _ (sees_kind _ _ _ _ _ refl))
+      (rw (sees_again Mark (codes "(") (((word (codes "CONTAINING") ∷ type_tokens t) ++ mark (codes ")") ∷ []) ++ r)) (then_again _ _ _ _ _ one refl))))
       c
 
   of_again : (o : Option Constraint) (r : List Lexeme) → length (option_tokens constraint_tokens o ++ before_of r) ≤ suc limit → option_fits inner_fits o ≡ true → of_constraint set inner (option_tokens constraint_tokens o ++ before_of r) ≡ Some (o, before_of r)
@@ -261,11 +260,11 @@ module _ (limit : ℕ) (set : Parser Set)
   unfolding alternative alternative_of
   alternative_again x r = form.by_alternative (λ x. length (alternative_tokens x ++ r) ≤ limit → Passes alternative_fits x → EndsType r → alternative set inner (alternative_tokens x ++ r) ≡ Some (x, r))
       (λ name t bound fits ends.
-          let f = both (is_identifier name) (type_fits t) (sym (form.fits_alternative name t) ∙ fits) in
-          let b : length ((word name ∷ type_tokens t) ++ r) ≤ limit = subst (λ z. length (z ++ r) ≤ limit) (form.tokens_alternative name t) bound in
-          rw (form.tokens_alternative name t)
-          (then_again _ _ _ _ _ (word_again _ name _ f.0)
-          (then_again _ _ _ _ _ (again t r (omega arith) f.1 ends) refl)))
+      let f = both (is_identifier name) (type_fits t) (sym (form.fits_alternative name t) ∙ fits) in
+      let b : length ((word name ∷ type_tokens t) ++ r) ≤ limit = subst (λ z. length (z ++ r) ≤ limit) (form.tokens_alternative name t) bound in
+      rw (form.tokens_alternative name t)
+      (then_again _ _ _ _ _ (word_again _ name _ f.0)
+      (then_again _ _ _ _ _ (again t r (omega arith) f.1 ends) refl)))
       x
 
   -- behind a component
@@ -291,14 +290,14 @@ module _ (limit : ℕ) (set : Parser Set)
   unfolding component component_of
   component_again x r = form.by_component (λ x. length (component_tokens x ++ r) ≤ limit → Passes component_fits x → EndsComponent r → component set inner (component_tokens x ++ r) ≡ Some (x, r))
       (λ name t z bound fits ends.
-          let f = both (is_identifier name && type_fits t) (rest_fits z) (sym (form.fits_component name t z) ∙ fits) in
-          let g = both (is_identifier name) (type_fits t) f.0 in
-          let whole : component_tokens (roll-Component (record { name = name; of = t; rest = z })) ++ r ≡ word name ∷ (type_tokens t ++ (rest_tokens z ++ r)) = rw (form.tokens_component name t z) (ap (λ k. word name ∷ k) (append_assoc (type_tokens t) (rest_tokens z) r)) in
-          let b : length (word name ∷ (type_tokens t ++ (rest_tokens z ++ r))) ≤ limit = subst (λ k. length k ≤ limit) whole bound in
-          rw whole
-          (then_again _ _ _ _ _ (word_again _ name _ g.0)
-          (then_again _ _ _ _ _ (again t (rest_tokens z ++ r) (omega arith) g.1 (type_before z r ends.of))
-          (then_again _ _ _ _ _ (rest_again z r f.1 ends.rest) refl))))
+      let f = both (is_identifier name && type_fits t) (rest_fits z) (sym (form.fits_component name t z) ∙ fits) in
+      let g = both (is_identifier name) (type_fits t) f.0 in
+      let whole : component_tokens (roll-Component (record { name = name; of = t; rest = z })) ++ r ≡ word name ∷ (type_tokens t ++ (rest_tokens z ++ r)) = rw (form.tokens_component name t z) (ap (λ k. word name ∷ k) (append_assoc (type_tokens t) (rest_tokens z) r)) in
+      let b : length (word name ∷ (type_tokens t ++ (rest_tokens z ++ r))) ≤ limit = subst (λ k. length k ≤ limit) whole bound in
+      rw whole
+      (then_again _ _ _ _ _ (word_again _ name _ g.0)
+      (then_again _ _ _ _ _ (again t (rest_tokens z ++ r) (omega arith) g.1 (type_before z r ends.of))
+      (then_again _ _ _ _ _ (rest_again z r f.1 ends.rest) refl))))
       x
 
   component_first : (c : Component) (r : List Lexeme) → sees Mark (codes "}") (component_tokens c ++ r) ≡ false
@@ -332,10 +331,10 @@ module _ (limit : ℕ) (set : Parser Set)
       (then_again _ _ _ _ _ (tag_again tag _ f (begins_base (codes "CHOICE") (mark (codes "{") ∷ (with_commas alternative_tokens more ++ closed m)) refl refl))
       (then_again _ _ _ _ _ (eat_nothing _ _ _ (sees_text _ _ _ _ refl))
       (then_again _ _ _ _ _
-        (then_again _ _ _ _ _ (eat_again _ _ _)
-        (then_again _ _ _ _ _ (expect_again _ _ _)
-        (then_again _ _ _ _ _ (alternatives_again more m (omega arith) (fits_by _ g))
-        (then_again _ _ _ _ _ (expect_again _ _ _) refl))))
+      (then_again _ _ _ _ _ (eat_again _ _ _)
+      (then_again _ _ _ _ _ (expect_again _ _ _)
+      (then_again _ _ _ _ _ (alternatives_again more m (omega arith) (fits_by _ g))
+      (then_again _ _ _ _ _ (expect_again _ _ _) refl))))
       (finish_again tag (base.Choice more) cs r (tail_in (base_tokens (base.Choice more)) cs r bound) h ends))))
 
   sequence_step : (components : List Component) → Steps (base.Sequence components)
@@ -371,19 +370,19 @@ module _ (limit : ℕ) (set : Parser Set)
 
   base_step : (b : AsnBase) → Steps b
   base_step b = form.by_base Steps (record {
-      boolean = simple_step base.Boolean (codes "BOOLEAN") [] form.tokens_Boolean (base_word _ refl refl refl refl) (λ g m ends. again_Boolean m);
-      null = simple_step base.Null (codes "NULL") [] form.tokens_Null (base_word _ refl refl refl refl) (λ g m ends. again_Null m);
-      integer = λ ns. simple_step (base.Integer ns) (codes "INTEGER") _ (form.tokens_Integer ns) (base_word _ refl refl refl refl) (λ g m ends. again_Integer ns m g ends);
-      enumerated = λ items. simple_step (base.Enumerated items) (codes "ENUMERATED") _ (form.tokens_Enumerated items) (base_word _ refl refl refl refl) (λ g m ends. again_Enumerated items m g);
-      octet_string = simple_step base.OctetString (codes "OCTET") _ form.tokens_OctetString (base_word _ refl refl refl refl) (λ g m ends. again_OctetString m);
-      bit_string = simple_step base.BitString (codes "BIT") _ form.tokens_BitString (base_word _ refl refl refl refl) (λ g m ends. again_BitString m);
-      ia5_string = simple_step base.Ia5String (codes "IA5String") [] form.tokens_Ia5String (base_word _ refl refl refl refl) (λ g m ends. again_Ia5String m);
-      sequence = sequence_step;
-      sequence_of = λ t tag cs r bound f g. absurd (no_list (base.SequenceOf None t) (form.list_Of t) g);
-      sequence_size = λ c t tag cs r bound f g. absurd (no_list (base.SequenceOf (Some c) t) (form.list_SizeOf c t) g);
-      choice = choice_step;
-      reference = reference_step;
-    }) b
+    boolean = simple_step base.Boolean (codes "BOOLEAN") [] form.tokens_Boolean (base_word _ refl refl refl refl) (λ g m ends. again_Boolean m);
+    null = simple_step base.Null (codes "NULL") [] form.tokens_Null (base_word _ refl refl refl refl) (λ g m ends. again_Null m);
+    integer = λ ns. simple_step (base.Integer ns) (codes "INTEGER") _ (form.tokens_Integer ns) (base_word _ refl refl refl refl) (λ g m ends. again_Integer ns m g ends);
+    enumerated = λ items. simple_step (base.Enumerated items) (codes "ENUMERATED") _ (form.tokens_Enumerated items) (base_word _ refl refl refl refl) (λ g m ends. again_Enumerated items m g);
+    octet_string = simple_step base.OctetString (codes "OCTET") _ form.tokens_OctetString (base_word _ refl refl refl refl) (λ g m ends. again_OctetString m);
+    bit_string = simple_step base.BitString (codes "BIT") _ form.tokens_BitString (base_word _ refl refl refl refl) (λ g m ends. again_BitString m);
+    ia5_string = simple_step base.Ia5String (codes "IA5String") [] form.tokens_Ia5String (base_word _ refl refl refl refl) (λ g m ends. again_Ia5String m);
+    sequence = sequence_step;
+    sequence_of = λ t tag cs r bound f g. absurd (no_list (base.SequenceOf None t) (form.list_Of t) g);
+    sequence_size = λ c t tag cs r bound f g. absurd (no_list (base.SequenceOf (Some c) t) (form.list_SizeOf c t) g);
+    choice = choice_step;
+    reference = reference_step;
+  }) b
 
   -- ---- chains of list types
 
@@ -452,19 +451,19 @@ module _ (limit : ℕ) (set : Parser Set)
 
   base_chain : (n : ℕ) → ((u : AsnType) → Chained n u) → (tag : Option Tag) (b : AsnBase) (cs : List Constraint) → Chained (suc n) (roll-AsnType (record { tag = tag; base = b; constraints = cs }))
   base_chain n more tag b cs = form.by_base (λ b. Chained (suc n) (roll-AsnType (record { tag = tag; base = b; constraints = cs }))) (record {
-      boolean = plain_chain n tag base.Boolean cs form.list_Boolean;
-      null = plain_chain n tag base.Null cs form.list_Null;
-      integer = λ ns. plain_chain n tag (base.Integer ns) cs (form.list_Integer ns);
-      enumerated = λ items. plain_chain n tag (base.Enumerated items) cs (form.list_Enumerated items);
-      octet_string = plain_chain n tag base.OctetString cs form.list_OctetString;
-      bit_string = plain_chain n tag base.BitString cs form.list_BitString;
-      ia5_string = plain_chain n tag base.Ia5String cs form.list_Ia5String;
-      sequence = λ components. plain_chain n tag (base.Sequence components) cs (form.list_Sequence components);
-      sequence_of = λ t. list_chain n more tag None t cs;
-      sequence_size = λ c t. list_chain n more tag (Some c) t cs;
-      choice = λ alternatives. plain_chain n tag (base.Choice alternatives) cs (form.list_Choice alternatives);
-      reference = λ from name. plain_chain n tag (base.Ref from name) cs (form.list_Ref from name);
-    }) b
+    boolean = plain_chain n tag base.Boolean cs form.list_Boolean;
+    null = plain_chain n tag base.Null cs form.list_Null;
+    integer = λ ns. plain_chain n tag (base.Integer ns) cs (form.list_Integer ns);
+    enumerated = λ items. plain_chain n tag (base.Enumerated items) cs (form.list_Enumerated items);
+    octet_string = plain_chain n tag base.OctetString cs form.list_OctetString;
+    bit_string = plain_chain n tag base.BitString cs form.list_BitString;
+    ia5_string = plain_chain n tag base.Ia5String cs form.list_Ia5String;
+    sequence = λ components. plain_chain n tag (base.Sequence components) cs (form.list_Sequence components);
+    sequence_of = λ t. list_chain n more tag None t cs;
+    sequence_size = λ c t. list_chain n more tag (Some c) t cs;
+    choice = λ alternatives. plain_chain n tag (base.Choice alternatives) cs (form.list_Choice alternatives);
+    reference = λ from name. plain_chain n tag (base.Ref from name) cs (form.list_Ref from name);
+  }) b
 
   chain_again : (n : ℕ) (t : AsnType) → Chained n t
   chain_again zero t = λ r turns bound fits ends. absurd (omega (arith, type_some t, length-append (type_tokens t) r))

@@ -108,7 +108,11 @@ fn next_named(alloc: Global, cursor: &mut Cursor<'_>) -> Result<Named, ParseFaul
 }
 
 #[tactic(auto, unfolding(crate::specs::Lists::more_of))]
-fn more_named(alloc: Global, cursor: &mut Cursor<'_>, first: Named) -> Result<Row<Named>, ParseFault>
+fn more_named(
+    alloc: Global,
+    cursor: &mut Cursor<'_>,
+    first: Named,
+) -> Result<Row<Named>, ParseFault>
     ensures { Reads (more_of spec.named first cursor.old) result cursor.new }
 {
     let mut row = row_of(alloc, first)?;

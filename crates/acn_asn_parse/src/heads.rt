@@ -50,7 +50,11 @@ fn list_type(alloc: Global, head: ListHead, of: AsnType) -> Result<AsnType, NoMe
     ensures { IfOk result (λ t. t ≡ spec.list_type head of) }
 {
     let of = Boxed::new(alloc, of)?;
-    Ok(typed(head.tag, AsnBase::SequenceOf(head.constraint, of), Row::new(alloc)))
+    Ok(typed(
+        head.tag,
+        AsnBase::SequenceOf(head.constraint, of),
+        Row::new(alloc),
+    ))
 }
 
 /// The type whose heads these are, the outermost first.

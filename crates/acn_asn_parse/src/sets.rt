@@ -12,11 +12,7 @@ use acn_num::{Boxed, Row};
 use std::alloc::Global;
 
 #[tactic(auto, unfolding(crate::specs::Sets::end))]
-fn end(
-    alloc: Global,
-    cursor: &mut Cursor<'_>,
-    none: &[u8],
-) -> Result<Option<AsnValue>, ParseFault>
+fn end(alloc: Global, cursor: &mut Cursor<'_>, none: &[u8]) -> Result<Option<AsnValue>, ParseFault>
     ensures { Reads (spec.end none.now cursor.old) result cursor.new }
 {
     if cursor.eat(Kind::Word, none) {

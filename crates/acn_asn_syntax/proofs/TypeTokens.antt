@@ -26,7 +26,6 @@ use Rattle.acn_asn_syntax.specs.Values.{word, mark, in_parentheses, in_braces, w
 use Rattle.acn_asn_syntax.specs.View.{type_view, base_view, constraint_view, component_view, alternative_view, base_step, constraint_step, alternative_step, type_step, component_step, components_of, alternatives_of, constraints_of, set_view}
 use Rattle.acn_asn_syntax.specs.Trees.{set_tokens, set_fits, type_tokens, base_tokens, constraint_tokens, component_tokens, alternative_tokens, type_fits, base_fits, outer_fits, inner_fits, component_fits, alternative_fits, is_list}
 
-
 -- ---- the plain data of each form
 
 view_Boolean : base_view base.Boolean ≡ plain.boolean
@@ -100,7 +99,6 @@ view_component name t r = fold-roll-Component _ _ _ _ _ base_step constraint_ste
 view_alternative : (name : List ℕ) (t : AsnType) → alternative_view (roll-Alternative (record { name = name; of = t })) ≡ record { name = name; of = type_view t }
 unfolding alternative_view type_view
 view_alternative name t = fold-roll-Alternative _ _ _ _ _ base_step constraint_step alternative_step type_step component_step (record { name = name; of = t })
-
 
 -- ---- lists of them
 

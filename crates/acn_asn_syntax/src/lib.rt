@@ -8,5 +8,7 @@ mod values;
 
 pub use modules::{AsnModule, AsnModules, Assign, Exports, Import, Oid, OidPart, Tagging};
 pub use sets::{AsnRange, Element, Meet, Part, Set};
-pub use types::{Alternative, AsnBase, AsnType, Component, Constraint, Item, Named, Rest, Tag, TagClass, TagMode};
+pub use types::{
+    Alternative, AsnBase, AsnType, Component, Constraint, Item, Named, Rest, Tag, TagClass, TagMode,
+};
 pub use values::AsnValue;
