@@ -155,11 +155,11 @@ pub text_of_again : (k : Kind) (x : List ℕ) (ts : List Lexeme) → text_of k (
 unfolding text_of
 text_of_again k x ts = rw (same_kind_refl k) refl
 
-then_some : {A B : Type 0} (o : Option A) (f : A → Option B) (y : B) → option_and_then f o ≡ Some y → (x : A) × (o ≡ Some x) × (f x ≡ Some y)
+pub then_some : {A B : Type 0} (o : Option A) (f : A → Option B) (y : B) → option_and_then f o ≡ Some y → (x : A) × (o ≡ Some x) × (f x ≡ Some y)
 then_some None f y e = absurd cc
 then_some (Some x) f y e = (x, refl, e)
 
-taken_found : {A : Type 0} (o : Option A) (ts : List Lexeme) (x : A) (r : List Lexeme) → taken_if o ts ≡ Some (x, r) → (o ≡ Some x) × (behind ts ≡ r)
+pub taken_found : {A : Type 0} (o : Option A) (ts : List Lexeme) (x : A) (r : List Lexeme) → taken_if o ts ≡ Some (x, r) → (o ≡ Some x) × (behind ts ≡ r)
 taken_found None ts x r e = absurd cc
 taken_found (Some a) ts x r e = let k = outcome_is (a, behind ts) (x, r) e in (ap Some k.0, k.1)
 

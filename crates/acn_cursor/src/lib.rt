@@ -15,7 +15,7 @@ use acn_lex::{Kind, Token, number_of, same_kind};
 pub use fault::ParseFault;
 pub use screens::{Level, Written, left_out, screened, too_deep};
 use std::marker::Model;
-pub use words::{identifier, is_identifier, is_reference, is_reserved, reference};
+pub use words::{identifier, is_identifier, is_one_of, is_reference, is_reserved, reference};
 
 /// The tokens that are left to read, and the number of the next one.
 #[derive(Drop)]

@@ -100,7 +100,8 @@ fn same(text: &[u8], word: &[u8]) -> bool
     text == word
 }
 
-fn is_one_of(text: &[u8], words: &[&str]) -> bool
+/// Whether a word is one of these.
+pub fn is_one_of(text: &[u8], words: &[&str]) -> bool
     ensures { result ≡ list_any (bytes_eq text.now) (spec.texts words.now) }
 {
     for word in words {

@@ -1,8 +1,9 @@
 -- A word is the longest at its place.
-use Rattle.std.proofs.Common.{◌≡◌, ℕ, zero, suc, ◌+◌, ◌-◌, ◌<◌, ◌≤◌, Bool, true, false, ◌&&◌, ◌||◌, ◌==◌, cond, List, [], ◌∷◌, ◌++◌, length, take, drop, refl, sym, ap, subst, ◌∙◌, arith, ◌⊎◌, inl, inr}
+use Rattle.std.proofs.Common.{◌≡◌, ℕ, zero, suc, ◌<◌, ◌≤◌, Bool, true, false, ◌&&◌, ◌||◌, ◌==◌, cond, List, [], ◌∷◌, length, take, refl, arith, ◌⊎◌, inl, inr}
 use Rattle.std.specs.Cmp.Derive.{both_true}
-use Rattle.std.specs.Char.{is_ascii_alphanumeric, is_ascii_alphabetic}
-use Rattle.acn_lex.specs.Scan.{starts_alnum, continues, word_len}
+use Rattle.std.specs.Char.{is_ascii_alphanumeric}
+use Rattle.acn_lex.specs.Scan.{word_len}
+use Rattle.acn_lex.specs.Bytes.{starts_alnum, continues}
 
 -- the form of a word behind its first letter: letters, digits and single hyphens, each before a letter or digit
 abbrev pub is_tail : List ℕ → Bool
@@ -35,7 +36,7 @@ starts_back zero bs e = absurd cc
 starts_back (suc m) [] e = absurd cc
 starts_back (suc m) (b ∷ bs) e = e
 
-continues_if : (b : ℕ) (bs cs : List ℕ) → (starts_alnum bs ≡ true → starts_alnum cs ≡ true) → continues b bs ≡ true → continues b cs ≡ true
+pub continues_if : (b : ℕ) (bs cs : List ℕ) → (starts_alnum bs ≡ true → starts_alnum cs ≡ true) → continues b bs ≡ true → continues b cs ≡ true
 continues_if b bs cs f e =
     elim (split (is_ascii_alphanumeric b) (b == 45 && starts_alnum bs) e) [
       | inl p ↦ rw p refl

@@ -17,3 +17,12 @@ lexemes ts = map lexeme ts
 
 unfoldable pub same_kind : Kind → Kind → Bool
 same_kind = sameb the_type
+
+-- a token with its place
+pub record Placed : Type 0 where
+  pub kind : Kind
+  pub at : ℕ
+  pub text : List ℕ
+
+abbrev pub placed : Token → Placed
+placed t = record { kind = t.kind; at = t.at; text = t.text.now }

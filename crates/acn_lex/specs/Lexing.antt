@@ -1,22 +1,12 @@
--- What the lexer answers, turn by turn.
-use Rattle.std.specs.Prelude.{◌≡◌, ℕ, zero, suc, ◌+◌, List, [], ◌∷◌, ◌++◌, length, take, drop, map, Result, Ok, Err}
-use Rattle.acn_lex.specs.declared.Kind.{Kind}
-use Rattle.acn_lex.specs.declared.Token.{Token}
+-- What the lexer's loop answers, turn by turn. What tokens and faults are is said in Lexes.
+use Rattle.std.specs.Prelude.{◌≡◌, ℕ, zero, suc, ◌+◌, List, [], ◌∷◌, ◌++◌, take, drop, map, Result, Ok, Err}
 use Rattle.acn_lex.specs.declared.Tokens.{Tokens}
 use Rattle.acn_lex.specs.declared.fault.LexFault.{LexFault}
 use Rattle.acn_lex.specs.declared.fault.LexFault.TheVariants as fault
 use Rattle.acn_lex.specs.declared.scan.Step.{Step}
 use Rattle.acn_lex.specs.declared.scan.Step.TheVariants as step
 use Rattle.acn_lex.specs.Scan.{step_at}
-
--- a token with its place
-pub record Placed : Type 0 where
-  pub kind : Kind
-  pub at : ℕ
-  pub text : List ℕ
-
-abbrev pub placed : Token → Placed
-placed t = record { kind = t.kind; at = t.at; text = t.text.now }
+use Rattle.acn_lex.specs.Lexeme.{Placed, placed}
 
 abbrev pub Outcome : Type 0
 Outcome = Result (List Placed) LexFault
@@ -25,18 +15,23 @@ abbrev pub with_front : List Placed → Outcome → Outcome
 with_front front (Ok ts) = Ok (front ++ ts)
 with_front front (Err e) = Err e
 
-abbrev pub by_step : ℕ → List ℕ → (ℕ → Outcome) → Step → Outcome
-by_step at bytes more step.End = Ok []
-by_step at bytes more (step.Gap k) = more k
-by_step at bytes more (step.Token kind k) = with_front (record { kind = kind; at = at; text = take k bytes } ∷ []) (more k)
-by_step at bytes more step.BadByte = Err (fault.BadByte at)
-by_step at bytes more step.Unclosed = Err (fault.Unclosed at)
-by_step at bytes more step.TooWide = Err (fault.TooWide at)
+-- a token at a place, where there may be so many, and what follows it
+abbrev pub by_token : ℕ → ℕ → Placed → (ℕ → Outcome) → Outcome
+by_token at zero t more = Err (fault.TooManyTokens at)
+by_token at (suc room) t more = with_front (t ∷ []) (more room)
 
--- the tokens of the bytes, of which the first stands at a place; the number bounds the turns
-abbrev pub lex_from : ℕ → ℕ → List ℕ → Outcome
-lex_from zero at bytes = Ok []
-lex_from (suc n) at bytes = by_step at bytes (λ k. lex_from n (at + k) (drop k bytes)) (step_at bytes)
+abbrev pub by_step : ℕ → ℕ → List ℕ → (ℕ → ℕ → Outcome) → Step → Outcome
+by_step room at bytes more step.End = Ok []
+by_step room at bytes more (step.Gap k) = more k room
+by_step room at bytes more (step.Token kind k) = by_token at room (record { kind = kind; at = at; text = take k bytes }) (more k)
+by_step room at bytes more step.BadByte = Err (fault.BadByte at)
+by_step room at bytes more step.Unclosed = Err (fault.Unclosed at)
+by_step room at bytes more step.TooWide = Err (fault.TooWide at)
+
+-- The tokens of the bytes, of which there may be so many, and of which the first stands at a place. The first number bounds the turns.
+abbrev pub lex_from : ℕ → ℕ → ℕ → List ℕ → Outcome
+lex_from zero room at bytes = Ok []
+lex_from (suc n) room at bytes = by_step room at bytes (λ k left. lex_from n left (at + k) (drop k bytes)) (step_at bytes)
 
 abbrev pub FailsWith : Outcome → LexFault → Type 0
 FailsWith outcome fault.NoMemory = Unit {0}

@@ -1,31 +1,11 @@
--- How long what stands at the front of some bytes is.
-use Rattle.std.specs.Prelude.{ℕ, zero, suc, ◌+◌, ◌-◌, Bool, true, false, not, ◌&&◌, ◌||◌, ◌==◌, nat_lt, nat_le, if◌then◌else◌, List, [], ◌∷◌, length, take, drop, Option, Some, None, option_map, is_some, ◌<◌, ◌≤◌, codes}
-use Rattle.std.specs.List.{list_any}
-use Rattle.std.specs.Char.{is_ascii_digit, is_ascii_alphabetic, is_ascii_alphanumeric, is_ascii_hexdigit}
-use Rattle.acn_lex.specs.declared.Kind.{Kind}
+-- How long what stands at the front of some bytes is, for the contracts of the scanners. What tokens are is said in Lexes.
+use Rattle.std.specs.Prelude.{ℕ, suc, ◌+◌, ◌-◌, Bool, true, false, ◌&&◌, ◌==◌, if◌then◌else◌, List, [], ◌∷◌, length, take, drop, Option, Some, None, is_some, ◌<◌, ◌≤◌}
+use Rattle.std.specs.Char.{is_ascii_digit, is_ascii_alphabetic}
 use Rattle.acn_lex.specs.declared.Kind.TheVariants.{Word, Number, Bits, Hex, Text, Mark}
 use Rattle.acn_lex.specs.declared.scan.Step.{Step}
 use Rattle.acn_lex.specs.declared.scan.Step.TheVariants as step
 use Rattle.acn_lex.specs.Number.{number_in, is_unwritten}
-
-abbrev pub is_white : ℕ → Bool
-is_white b = b == 32 || nat_le 9 b && nat_le b 13
-
--- ends a comment that begins with two hyphens
-abbrev pub is_line_end : ℕ → Bool
-is_line_end b = nat_le 10 b && nat_le b 13
-
-abbrev pub starts_alnum : List ℕ → Bool
-starts_alnum [] = false
-starts_alnum (b ∷ bs) = is_ascii_alphanumeric b
-
-abbrev pub starts_with : ℕ → List ℕ → Bool
-starts_with c [] = false
-starts_with c (b ∷ bs) = b == c
-
--- a letter or digit, or a hyphen before one
-abbrev pub continues : ℕ → List ℕ → Bool
-continues b bs = is_ascii_alphanumeric b || b == 45 && starts_alnum bs
+use Rattle.acn_lex.specs.Bytes.{is_white, is_line_end, starts_with, continues, is_hex_or_white, is_bit_or_white, is_text_byte, is_single}
 
 -- how many bytes continue a word
 abbrev pub word_len : List ℕ → ℕ
@@ -56,9 +36,6 @@ block_end false depth at (b ∷ bs) =
     if opens b bs then block_end true (depth + 1) (at + 1) bs
     else (if closes b bs then (if depth == 0 then Some (at + 2) else block_end true (depth - 1) (at + 1) bs) else block_end false depth (at + 1) bs)
 
-abbrev pub is_single : ℕ → Bool
-is_single b = list_any (λ c. c == b) (codes ".,;:{}()[]<>|^-=@!&")
-
 -- how long the longest mark in front is
 abbrev pub mark_len : ℕ → List ℕ → ℕ
 mark_len b bs =
@@ -66,6 +43,24 @@ mark_len b bs =
     else (if b == 46 && starts_with 46 bs then (if starts_with 46 (drop 1 bs) then 3 else 2)
     else (if b == 61 && starts_with 61 bs then 2
     else (if is_single b then 1 else 0)))
+
+-- What a literal in apostrophes is, with so many digits and white bytes in front, of which so many are bits or white, and the bytes behind them
+abbrev pub ended_step : ℕ → ℕ → List ℕ → Step
+ended_step run bits [] = step.Unclosed
+ended_step run bits (b ∷ bs) =
+    if b == 39 && starts_with 72 bs then step.Token Hex (run + 3)
+    else (if b == 39 && starts_with 66 bs && bits == run then step.Token Bits (run + 3) else step.BadByte)
+
+unfoldable pub digits_step : List ℕ → Step
+digits_step bs = ended_step (run_len is_hex_or_white bs) (run_len is_bit_or_white bs) (drop (run_len is_hex_or_white bs) bs)
+
+-- What a text is, at a place behind its opening quotation mark, where the first byte may be passed over
+abbrev pub text_from : Bool → ℕ → List ℕ → Step
+text_from skip at [] = step.Unclosed
+text_from true at (b ∷ bs) = text_from false (at + 1) bs
+text_from false at (b ∷ bs) =
+    if is_text_byte b then text_from false (at + 1) bs
+    else (if b == 34 then (if starts_with 34 bs then text_from true (at + 1) bs else step.Token Text (at + 2)) else step.BadByte)
 
 unfoldable pub number_step : List ℕ → Step
 number_step text = if is_unwritten text then step.BadByte else (if is_some (number_in text) then step.Token Number (length text) else step.TooWide)
@@ -84,7 +79,9 @@ step_of b bs =
     else (if opens b bs then block_step (block_end false 0 0 (drop 1 bs))
     else (if is_ascii_alphabetic b then step.Token Word (word_len bs + 1)
     else (if is_ascii_digit b then number_step (take (run_len is_ascii_digit bs + 1) (b ∷ bs))
-    else mark_step (mark_len b bs)))))
+    else (if b == 39 then digits_step bs
+    else (if b == 34 then text_from false 0 bs
+    else mark_step (mark_len b bs)))))))
 
 -- what stands at a place
 unfoldable pub step_at : List ℕ → Step

@@ -1,13 +1,18 @@
 use acn_num::NoMemory;
 use std::alloc::{AllocError, AllocFailed};
 
-/// Why there are no tokens.
+/// Why a file has no tokens. Each place is the number of bytes before it.
 #[derive(Clone, Copy, Debug, PartialEq, Eq)]
 pub enum LexFault {
+    /// No token begins here.
     BadByte { at: u32 },
+    /// The comment or literal that begins here has no end.
     Unclosed { at: u32 },
+    /// A token begins here that 1,000,000 stand before.
     TooManyTokens { at: u32 },
+    /// The number that begins here is 2^64 or more.
     TooWide { at: u32 },
+    /// Memory ran out.
     NoMemory,
 }
 

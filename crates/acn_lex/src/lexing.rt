@@ -1,5 +1,9 @@
-ghost use Rattle.std.specs.Prelude.{◌≤◌, length};
-ghost use Rattle.acn_lex.specs.Lexing as spec;
+ghost use Rattle.std.specs.Prelude.{◌≡◌, ◌≢◌, ◌≤◌, List, length, map, IfOk, IfErr};
+ghost use Rattle.acn_lex.specs.Lexing as turns;
+ghost use Rattle.acn_lex.specs.Lexes as spec;
+ghost use Rattle.acn_lex.specs.Lexeme.{Placed, placed};
+ghost use Rattle.acn_lex.specs.declared.fault.LexFault.TheVariants as fault;
+ghost use Rattle.acn_lex.specs.declared.fault.LexFault.{LexFault};
 
 use crate::fault::LexFault;
 use crate::scan::{Step, step_at};
@@ -7,10 +11,39 @@ use crate::{Token, Tokens};
 use acn_num::Row;
 use std::alloc::Global;
 
-/// The tokens of the bytes, in order.
+/// The most tokens of one file.
+const MOST_TOKENS: usize = 1_000_000;
+
+/// The tokens of a file of ASN.1, ACN or a map, in order: the lexical items of X.680, clause 12, of which this profile
+/// takes words, numbers, bits, hexadecimal digits, texts and marks. Each token has its place, the number of bytes before
+/// it, and the slice of its text. White space and comments stand between them.
+///
+/// The bytes are at most 16,777,216, which the caller sees to.
+///
+/// # Errors
+///
+/// The first fault of the bytes is answered, with its place:
+/// - `BadByte` where no token begins. A number with a zero before other digits is one such place, at its start (X.680,
+///   12.8), and so is a literal in apostrophes that does not end right (X.680, 12.10 and 12.12) and a text with a byte
+///   below 32 or above 126 (this profile's own).
+/// - `Unclosed` where a comment between slashes (X.680, 12.6) or a literal begins that has no end.
+/// - `TooWide` where a number of 2^64 or more begins (this profile's own).
+/// - `TooManyTokens` where a token begins that 1,000,000 stand before (this profile's own).
+/// - `NoMemory` where memory ran out.
 pub fn lex<'a>(alloc: Global, bytes: &'a [u8]) -> Result<Tokens<'a>, LexFault>
     requires { length bytes.now ≤ 16777216 }
-    ensures { spec.Gives (spec.lex_from (length bytes.now) 0 bytes.now) result }
+    ensures tokens { IfOk result (λ ts. spec.Lexes 0 bytes.now (map placed ts.list)) }
+    ensures few { IfOk result (λ ts. length ts.list ≤ 1000000) }
+    ensures each { (ts : List Placed) → spec.Lexes 0 bytes.now ts → length ts ≤ 1000000 → spec.AnswersTokens ts result }
+    ensures fault { IfErr result (λ e. e ≢ fault.NoMemory → spec.Faults bytes.now e) }
+    ensures first { (e : LexFault) → spec.Faults bytes.now e → spec.AnswersFault e result }
+{
+    by_turns(alloc, bytes)
+}
+
+fn by_turns<'a>(alloc: Global, bytes: &'a [u8]) -> Result<Tokens<'a>, LexFault>
+    requires { length bytes.now ≤ 16777216 }
+    ensures { turns.Gives (turns.lex_from (length bytes.now) 1000000 0 bytes.now) result }
 {
     let mut list = Row::new(alloc);
     let mut at = 0u32;
@@ -28,6 +61,9 @@ pub fn lex<'a>(alloc: Global, bytes: &'a [u8]) -> Result<Tokens<'a>, LexFault>
                 continue;
             }
             Step::Token(kind, k) => {
+                if list.items().len() == MOST_TOKENS {
+                    return Err(LexFault::TooManyTokens { at });
+                }
                 let (text, behind) = rest.split_at(k);
                 list.push(Token { kind, at, text })?;
                 at += k as u32;

@@ -11,7 +11,8 @@ pub fn is_unwritten(text: &[u8]) -> bool
     }
 }
 
-/// The number that a text spells, if it is below 2 ^ 64.
+/// The number that a text spells: decimal digits with no zero before others (X.680, 12.8). `None` where the text is no
+/// such digits, or the number is 2^64 or more.
 #[tactic(auto, unfolding(crate::specs::Number::number_in))]
 pub fn number_of(text: &[u8]) -> Option<u64>
     ensures { result ≡ spec.number_in text.now }

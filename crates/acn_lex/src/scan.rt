@@ -3,8 +3,10 @@
 ghost use Rattle.std.specs.Prelude.{◌≡◌, ◌≤◌, ◌<◌, ◌+◌, ◌∷◌, drop, length, IfSome, IsTrue, false};
 ghost use Rattle.std.specs.Char.{is_ascii_digit};
 ghost use Rattle.acn_lex.specs.Scan as spec;
+ghost use Rattle.acn_lex.specs.Bytes as classes;
 
 use crate::Kind;
+use crate::literal::{digits_step, text_step};
 use crate::number::{is_unwritten, number_of};
 
 /// What stands at a place.
@@ -18,20 +20,20 @@ pub enum Step {
     TooWide,
 }
 
-fn is_white(b: u8) -> bool
-    ensures { result ≡ spec.is_white b }
+pub fn is_white(b: u8) -> bool
+    ensures { result ≡ classes.is_white b }
 {
     b == b' ' || 9 <= b && b <= 13
 }
 
 fn is_line_end(b: u8) -> bool
-    ensures { result ≡ spec.is_line_end b }
+    ensures { result ≡ classes.is_line_end b }
 {
     10 <= b && b <= 13
 }
 
 fn starts_alnum(bytes: &[u8]) -> bool
-    ensures { result ≡ spec.starts_alnum bytes.now }
+    ensures { result ≡ classes.starts_alnum bytes.now }
 {
     match bytes {
         [] => false,
@@ -39,8 +41,8 @@ fn starts_alnum(bytes: &[u8]) -> bool
     }
 }
 
-fn starts_with(byte: u8, bytes: &[u8]) -> bool
-    ensures { result ≡ spec.starts_with byte bytes.now }
+pub fn starts_with(byte: u8, bytes: &[u8]) -> bool
+    ensures { result ≡ classes.starts_with byte bytes.now }
 {
     match bytes {
         [] => false,
@@ -49,7 +51,7 @@ fn starts_with(byte: u8, bytes: &[u8]) -> bool
 }
 
 fn continues(b: u8, rest: &[u8]) -> bool
-    ensures { result ≡ spec.continues b rest.now }
+    ensures { result ≡ classes.continues b rest.now }
 {
     b.is_ascii_alphanumeric() || b == b'-' && starts_alnum(rest)
 }
@@ -133,7 +135,7 @@ fn block_end(bytes: &[u8]) -> Option<usize>
 }
 
 fn is_single(b: u8) -> bool
-    ensures { result ≡ spec.is_single b }
+    ensures { result ≡ classes.is_single b }
 {
     b".,;:{}()[]<>|^-=@!&".contains(&b)
 }
@@ -147,13 +149,7 @@ fn mark_len(b: u8, rest: &[u8]) -> usize
         (b'.', [b'.', b'.', ..]) => 3,
         (b'.', [b'.', ..]) => 2,
         (b'=', [b'=', ..]) => 2,
-        _ => {
-            if is_single(b) {
-                1
-            } else {
-                0
-            }
-        }
+        _ => { if is_single(b) { 1 } else { 0 } }
     }
 }
 
@@ -225,6 +221,12 @@ fn step_of(bytes: &[u8], b: u8, rest: &[u8]) -> Step
     }
     if b.is_ascii_digit() {
         return number_step(&bytes[..digits_len(rest) + 1]);
+    }
+    if b == b'\'' {
+        return digits_step(rest);
+    }
+    if b == b'"' {
+        return text_step(rest);
     }
     mark_step(b, rest)
 }

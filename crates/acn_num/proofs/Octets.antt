@@ -1,9 +1,9 @@
 -- From the least width in bits to the least count of octets.
-use Rattle.std.proofs.Common.{inl, inr, ◌≡◌, ℕ, suc, sym, subst, ◌+◌, ◌-◌, ◌*◌, ◌/◌, ◌^◌, ◌<◌, ◌≤◌, arith, ℤ, pos, negsuc}
-use Rattle.std.specs.Prelude.{◌⊎◌, neg_ℤ, ◌≤ℤ◌, ◌<ℤ◌, ◌+ℤ◌}
+use Rattle.std.proofs.Common.{inl, inr, ◌≡◌, ℕ, sym, subst, ◌+◌, ◌-◌, ◌*◌, ◌/◌, ◌^◌, ◌<◌, ◌≤◌, arith, ℤ, pos, negsuc}
+use Rattle.std.specs.Prelude.{◌⊎◌}
 use Rattle.std.proofs.lemmas.Int.{ints}
 use Rattle.std.proofs.Math.Nat.{pow-le-pow_right}
-use Rattle.acn_num.specs.Widths.{IsLeastWidth, IsLeastOctets, FitsSignedOctets, IsLeastSignedOctets}
+use Rattle.acn_num.specs.Widths.{IsLeastWidth, IsLeastOctets, IsLeastSignedOctets}
 
 grown : (x v w : ℕ) → x < 2 ^ v → v ≤ w → x < 2 ^ w
 grown x v w h le = (let k = pow-le-pow_right {n = 2} (omega arith) le in omega arith)

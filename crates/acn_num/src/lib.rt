@@ -18,3 +18,6 @@ pub use path::Path;
 pub use range_set::{RangeSet, places_name_each_number_once, same_numbers_same_set};
 pub use row::Row;
 pub use widths::{bits_for, digits_for, octets_for, signed_octets_for};
+
+#[cfg(test)]
+mod tests;

@@ -57,6 +57,14 @@ impl RangeSet {
         Ok(RangeSet { ranges })
     }
 
+    /// The ranges, in ascending order. It takes no memory.
+    pub fn ranges(&self) -> &[(i128, i128)]
+        ensures same { result.now ≡ self.now }
+        ensures ordered { AreRanges result.now }
+    {
+        self.ranges.as_slice()
+    }
+
     /// The least number, where there is one.
     pub fn least(&self) -> Option<i128>
         ensures { result ≡ least self.now }

@@ -44,11 +44,7 @@ pub fn blank(alloc: Global, node: &Node) -> Result<Value, NoMemory>
 }
 
 #[cycle(blank)]
-fn add_blank(
-    alloc: Global,
-    field: &Field,
-    places: &mut Row<Option<Value>>,
-) -> Result<(), NoMemory>
+fn add_blank(alloc: Global, field: &Field, places: &mut Row<Option<Value>>) -> Result<(), NoMemory>
     ensures { OnOk result (places_view places.new ≡ joined (places_view places.old) (field_blank (field_of field.now) no_places)) }
 {
     match field {

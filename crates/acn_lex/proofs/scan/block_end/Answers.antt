@@ -1,4 +1,4 @@
-use Rattle.std.proofs.Common.{◌≡◌, ℕ, suc, ◌+◌, ◌<◌, true, false, Bool, List, length, drop, refl, sym, ap, ◌∙◌, add-one, drop-cons, arith}
+use Rattle.std.proofs.Common.{◌≡◌, ℕ, ◌+◌, ◌<◌, true, false, Bool, List, length, drop, refl, sym, ◌∙◌, add-one, drop-cons, arith}
 use Rattle.acn_lex.specs.Scan.{block_end}
 use Rattle.acn_lex.proofs.scan.block_end.Goals as goal
 

@@ -1,4 +1,4 @@
-use Rattle.std.proofs.Common.{◌≡◌, ◌+◌, ◌≤◌, drop, false}
+use Rattle.std.proofs.Common.{◌≡◌, ◌≤◌, drop, false}
 use Rattle.acn_lex.specs.Scan.{block_end}
 use Rattle.acn_lex.proofs.scan.block_end.Given as goal
 

@@ -1,0 +1,4 @@
+pub mod AttributeReading
+pub mod FieldReading
+pub mod MapReading
+pub mod WordReading

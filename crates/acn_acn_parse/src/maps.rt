@@ -1,0 +1,153 @@
+ghost use Rattle.std.specs.Prelude.{◌≡◌, ◌^◌, ◌<◌, [], ◌∷◌, length, IfOk};
+ghost use Rattle.acn_cursor.specs.Steps.{Reads, Whole, many, word};
+ghost use Rattle.acn_lex.specs.Lexeme.{lexemes};
+ghost use Rattle.acn_acn_syntax.specs.declared.maps.MapTables.{MapTables};
+ghost use Rattle.acn_cursor.specs.Exact.{IsFound, IsOnly, IsLeftOut, IsTooDeep};
+ghost use Rattle.acn_acn_parse.specs.MapReading as spec;
+ghost use Rattle.acn_acn_syntax.specs.MapTokens as spelling;
+
+use crate::attributes::with_first;
+use acn_acn_syntax::{MapLine, MapTable, MapTables, Signed};
+use acn_cursor::{Cursor, ParseFault, screened};
+use acn_lex::{Kind, Token, Tokens};
+use acn_num::{Name, Row};
+use std::alloc::Global;
+
+/// Takes a number with its sign.
+#[tactic(auto, unfolding(crate::specs::MapReading::signed))]
+pub fn signed(cursor: &mut Cursor<'_>) -> Result<Signed, ParseFault>
+    ensures { Reads (spec.signed cursor.old) result cursor.new }
+{
+    let negative = cursor.eat(Kind::Mark, b"-");
+    let n = cursor.number()?;
+    Ok(Signed { negative, n })
+}
+
+#[tactic(auto, unfolding(crate::specs::MapReading::last))]
+fn last(cursor: &mut Cursor<'_>) -> Result<Option<Signed>, ParseFault>
+    ensures { Reads (spec.last cursor.old) result cursor.new }
+{
+    if cursor.eat(Kind::Mark, b"..") {
+        Ok(Some(signed(cursor)?))
+    } else {
+        Ok(None)
+    }
+}
+
+#[tactic(auto, unfolding(crate::specs::MapReading::line))]
+fn line(cursor: &mut Cursor<'_>) -> Result<MapLine, ParseFault>
+    ensures { Reads (spec.line cursor.old) result cursor.new }
+{
+    let first = signed(cursor)?;
+    let last = last(cursor)?;
+    cursor.expect(Kind::Mark, b"=")?;
+    let image = signed(cursor)?;
+    Ok(MapLine { first, last, image })
+}
+
+fn lines(alloc: Global, cursor: &mut Cursor<'_>) -> Result<Row<MapLine>, ParseFault>
+    ensures { Reads (many spec.has_line spec.line cursor.old) result cursor.new }
+{
+    let mut lines = Row::new(alloc);
+    for _ in 0..cursor.left() {
+        if cursor.sees(Kind::Mark, b"}") {
+            return Ok(lines);
+        }
+        let line = line(cursor)?;
+        lines.push(line)?;
+    }
+    Ok(lines)
+}
+
+fn is_identifier(text: &[u8]) -> bool
+    ensures { result ≡ spelling.is_identifier text.now }
+{
+    match text {
+        [] => false,
+        [first, ..] => 97 <= *first && *first <= 122,
+    }
+}
+
+#[tactic(auto, unfolding(acn_cursor::specs::Steps::word))]
+fn identifier(alloc: Global, cursor: &mut Cursor<'_>) -> Result<Name, ParseFault>
+    ensures { Reads (word spelling.is_identifier cursor.old) result cursor.new }
+{
+    match cursor.text_of(Kind::Word) {
+        None => Err(cursor.refuse()),
+        Some(text) => {
+            if is_identifier(text) {
+                cursor.skip();
+                Ok(Name::copy(alloc, text)?)
+            } else {
+                Err(cursor.refuse())
+            }
+        }
+    }
+}
+
+#[tactic(auto, unfolding(crate::specs::MapReading::table))]
+fn table(alloc: Global, cursor: &mut Cursor<'_>) -> Result<MapTable, ParseFault>
+    ensures { Reads (spec.table cursor.old) result cursor.new }
+{
+    let name = identifier(alloc, cursor)?;
+    cursor.expect(Kind::Mark, b"{")?;
+    let lines = lines(alloc, cursor)?;
+    cursor.expect(Kind::Mark, b"}")?;
+    Ok(MapTable { name, lines })
+}
+
+fn all_tables(alloc: Global, cursor: &mut Cursor<'_>) -> Result<Row<MapTable>, ParseFault>
+    ensures { Reads (many spec.has_more spec.table cursor.old) result cursor.new }
+{
+    let mut tables = Row::new(alloc);
+    for _ in 0..cursor.left() {
+        if cursor.left() == 0 {
+            return Ok(tables);
+        }
+        let table = table(alloc, cursor)?;
+        tables.push(table)?;
+    }
+    Ok(tables)
+}
+
+#[tactic(auto, unfolding(crate::specs::MapReading::tables))]
+fn tables(alloc: Global, cursor: &mut Cursor<'_>) -> Result<MapTables, ParseFault>
+    ensures { Reads (spec.tables cursor.old) result cursor.new }
+{
+    let first = table(alloc, cursor)?;
+    let more = all_tables(alloc, cursor)?;
+    let tables = with_first(alloc, first, more)?;
+    Ok(MapTables { tables })
+}
+
+fn whole(alloc: Global, tokens: &[Token<'_>]) -> Result<MapTables, ParseFault>
+    requires { length tokens.now < 2 ^ 32 }
+    ensures { Whole (spec.tables (lexemes tokens.now)) result }
+{
+    let mut cursor = Cursor::new(tokens);
+    let tables = tables(alloc, &mut cursor)?;
+    if cursor.left() == 0 {
+        Ok(tables)
+    } else {
+        Err(cursor.refuse())
+    }
+}
+
+/// The tables of a mapping file, from its tokens, of which there are fewer than `2^32`.
+///
+/// `Ok` is the one proper tree that has these tokens. `TooDeep` comes exactly where the level of a token is over 64,
+/// and `Syntax` exactly where no level is and no proper tree has these tokens; each keeps its token's number. No word
+/// is left out of mapping files.
+pub fn parse_map(alloc: Global, tokens: &Tokens<'_>) -> Result<MapTables, ParseFault>
+    requires { length tokens.now.list < 2 ^ 32 }
+    ensures found { IsFound spelling.tokens_of spelling.IsProper (lexemes tokens.now.list) result }
+    ensures only { (t : MapTables) → spelling.IsProper t → lexemes tokens.now.list ≡ spelling.tokens_of t → IsOnly result t }
+    ensures left_out { IsLeftOut [] (lexemes tokens.now.list) result }
+    ensures too_deep { IsTooDeep [] (lexemes tokens.now.list) result }
+{
+    let list = tokens.list.items();
+    match screened(list, &[]) {
+        Ok(()) => whole(alloc, list),
+        Err(fault) => Err(fault),
+    }
+}

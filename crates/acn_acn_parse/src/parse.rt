@@ -1,0 +1,96 @@
+//! The parser of ACN files.
+
+ghost use Rattle.std.specs.Prelude.{◌≡◌, ◌^◌, ◌<◌, length};
+ghost use Rattle.acn_cursor.specs.Exact as exact;
+ghost use Rattle.acn_cursor.specs.Exact.{IsFound, IsLeftOut, IsOnly, IsTooDeep};
+ghost use Rattle.acn_lex.specs.Lexeme.{lexemes};
+ghost use Rattle.acn_acn_syntax.specs.ModuleTokens.{acn_tokens, IsProperAcn};
+ghost use Rattle.acn_acn_syntax.specs.View.{modules_of};
+ghost use Rattle.acn_acn_syntax.specs.declared.modules.AcnModules.{AcnModules};
+ghost use Rattle.acn_acn_parse.specs.FieldReading as spec;
+ghost use Rattle.acn_acn_parse.specs.FieldReading.{WholeAs, left_out_tokens};
+
+use crate::modules::modules;
+use acn_acn_syntax::AcnModules;
+use acn_cursor::{Cursor, ParseFault, Written, screened};
+use acn_lex::{Kind, Token, Tokens};
+use std::alloc::Global;
+
+// Refuses tokens with a word that is left out of ACN files, and then those with a level over 64.
+#[tactic(auto, unfolding(crate::specs::FieldReading::left_out_tokens))]
+fn screen(tokens: &[Token<'_>]) -> Result<(), ParseFault>
+    requires { length tokens.now < 2 ^ 32 }
+    ensures { exact.Screened (exact.screen left_out_tokens (lexemes tokens.now)) result }
+{
+    let words = [
+        Written {
+            kind: Kind::Word,
+            text: b"REAL",
+        },
+        Written {
+            kind: Kind::Word,
+            text: b"CONSTANT",
+        },
+        Written {
+            kind: Kind::Word,
+            text: b"IEEE754-1985-32",
+        },
+        Written {
+            kind: Kind::Word,
+            text: b"IEEE754-1985-64",
+        },
+        Written {
+            kind: Kind::Word,
+            text: b"post-encoding-function",
+        },
+        Written {
+            kind: Kind::Word,
+            text: b"save-position",
+        },
+        Written {
+            kind: Kind::Word,
+            text: b"and",
+        },
+        Written {
+            kind: Kind::Word,
+            text: b"or",
+        },
+        Written {
+            kind: Kind::Word,
+            text: b"not",
+        },
+    ];
+    screened(tokens, &words)
+}
+
+fn whole(alloc: Global, tokens: &[Token<'_>]) -> Result<AcnModules, ParseFault>
+    requires { length tokens.now < 2 ^ 32 }
+    ensures { WholeAs modules_of (spec.modules_at (length tokens.now) (lexemes tokens.now)) result }
+{
+    let mut cursor = Cursor::new(tokens);
+    let modules = modules(alloc, tokens.len(), &mut cursor)?;
+    if cursor.left() == 0 {
+        Ok(AcnModules { modules })
+    } else {
+        Err(cursor.refuse())
+    }
+}
+
+/// The modules of an ACN file, from its tokens, of which there are fewer than `2^32`.
+///
+/// `Ok` is the one proper tree that has these tokens. `LeftOut` comes exactly where one of the words stands that this
+/// profile leaves out of ACN; `TooDeep` exactly where none stands and the level of a token is over 64; `Syntax` exactly
+/// where neither holds and no proper tree has these tokens. Each keeps its token's number.
+pub fn parse_acn(alloc: Global, tokens: &Tokens<'_>) -> Result<AcnModules, ParseFault>
+    requires { length tokens.now.list < 2 ^ 32 }
+    ensures found { IsFound acn_tokens IsProperAcn (lexemes tokens.now.list) result }
+    ensures only { (t : AcnModules) → IsProperAcn t → lexemes tokens.now.list ≡ acn_tokens t → IsOnly result t }
+    ensures left_out { IsLeftOut left_out_tokens (lexemes tokens.now.list) result }
+    ensures too_deep { IsTooDeep left_out_tokens (lexemes tokens.now.list) result }
+{
+    let list = tokens.list.items();
+    match screen(list) {
+        Ok(()) => whole(alloc, list),
+        Err(fault) => Err(fault),
+    }
+}

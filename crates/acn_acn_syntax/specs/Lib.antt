@@ -1,0 +1,4 @@
+pub mod MapTokens
+pub mod Mirror
+pub mod ModuleTokens
+pub mod View

@@ -1,0 +1,13 @@
+//! Cursors over bits: a reader that never leaves its window, and a writer in place.
+#![tactic(auto)]
+
+mod part;
+mod read_cursor;
+mod word;
+mod write_cursor;
+
+pub use read_cursor::{ReadCursor, Short};
+pub use write_cursor::{Hole, WriteCursor};
+
+#[cfg(test)]
+mod tests;

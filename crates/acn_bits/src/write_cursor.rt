@@ -1,0 +1,117 @@
+ghost use Rattle.std.specs.Prelude.{◌≡◌, ◌+◌, ◌-◌, ◌*◌, ◌<◌, ◌≤◌, ◌^◌, false, replicate};
+ghost use Rattle.acn_num.specs.Bits.{low_bits};
+
+use crate::part::put_bits;
+use std::marker::Model;
+
+/// Bits that are zeros until they are filled. It can't be dropped or copied: only `fill` spends it.
+#[derive(Debug)]
+pub struct Hole {
+    place: u64,
+    width: u32,
+}
+
+impl Model for Hole {
+    ghost use Rattle.std.specs.Prelude.{◌≤◌};
+    ghost use Rattle.acn_bits.specs.Overwrite.{Gap};
+
+    ghost Value = { Gap };
+
+    ghost view = { λ h. record { place = h.place; width = h.width } };
+
+    ghost invariant = { λ h. h.width ≤ 64 };
+}
+
+impl Hole {
+    /// The number of its first bit in the buffer.
+    pub fn place(&self) -> u64
+        ensures { result ≡ self.now.place }
+    {
+        self.place
+    }
+
+    /// How many bits there are, at most 64.
+    pub fn width(&self) -> u32
+        ensures width { result ≡ self.now.width }
+        ensures small { result ≤ 64 }
+    {
+        self.width
+    }
+}
+
+/// A writer of bits in place, from the first bit of a buffer on, the most significant bit of each octet first.
+///
+/// Each call changes exactly the bits that it names, and takes no memory.
+#[derive(Drop)]
+pub struct WriteCursor<'a, const N: usize> {
+    buf: &'a mut [u8; N],
+    at: u64,
+    ghost small: { N ≤ 2 ^ 32 },
+    ghost within: { at ≤ 8 * N },
+}
+
+impl<'a, const N: usize> WriteCursor<'a, N> {
+    ghost use Rattle.acn_bits.specs.Writing.{place_of, Writes};
+
+    /// A writer at bit 0 of the buffer, which stays as it is.
+    pub fn new(buf: &'a mut [u8; N]) -> WriteCursor<'a, N>
+        requires { N ≤ 2 ^ 32 }
+        ensures same_buffer { result.buf.ghost_name ≡ buf.entry.ghost_name }
+        ensures kept { result.buf.now ≡ buf.old }
+        ensures front { place_of result ≡ 0 }
+    {
+        WriteCursor { buf, at: 0 }
+    }
+
+    /// How many bits were written or left as holes: the number of the next one.
+    pub fn at(&self) -> u64
+        ensures { result ≡ place_of self.now }
+    {
+        self.at
+    }
+
+    /// How many bits are left.
+    pub fn room(&self) -> u64
+        ensures { result ≡ 8 * N - place_of self.now }
+    {
+        8 * N as u64 - self.at
+    }
+
+    /// Writes `v` in the next `n` bits, at most 64, and changes no others.
+    pub fn put(&mut self, n: u32, v: u64)
+        requires width { n ≤ 64 }
+        requires fits { v < 2 ^ n }
+        requires room { place_of self.old + n ≤ 8 * N }
+        ensures { Writes self.old self.new (place_of self.old) (low_bits n v) (place_of self.old + n) }
+    {
+        let place = self.at;
+        let buf = &mut *self.buf;
+        put_bits(buf, place, n, v);
+        self.at += u64::from(n);
+    }
+
+    /// Leaves the next `n` bits, at most 64, as zeros that are to be filled.
+    pub fn hole(&mut self, n: u32) -> Hole
+        requires width { n ≤ 64 }
+        requires room { place_of self.old + n ≤ 8 * N }
+        ensures hole { result ≡ record { place = place_of self.old; width = n } }
+        ensures zeros { Writes self.old self.new (place_of self.old) (replicate n false) (place_of self.old + n) }
+    {
+        let place = self.at;
+        let buf = &mut *self.buf;
+        put_bits(buf, place, n, 0);
+        self.at += u64::from(n);
+        Hole { place, width: n }
+    }
+
+    /// Writes `v` in the bits of a hole, and changes no others. The next bit to be written stays the same.
+    pub fn fill(&mut self, hole: Hole, v: u64)
+        requires passed { hole.place + hole.width ≤ place_of self.old }
+        requires fits { v < 2 ^ hole.width }
+        ensures { Writes self.old self.new hole.place (low_bits hole.width v) (place_of self.old) }
+    {
+        let Hole { place, width } = hole;
+        let buf = &mut *self.buf;
+        put_bits(buf, place, width, v);
+    }
+}

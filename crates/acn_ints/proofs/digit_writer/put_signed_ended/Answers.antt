@@ -1,0 +1,9 @@
+use Rattle.std.proofs.Common.{◌<◌, ◌^◌, subst, sym, ℕ}
+use Rattle.acn_ints.proofs.DigitPuts.{signed_ended_puts, counts_from, signed_ended_fits}
+use Rattle.acn_ints.proofs.digit_writer.put_signed_ended.Goals as goal
+
+pub returns-clause-code : goal.returns-clause-code
+returns-clause-code g c =
+    let small = subst (λ (k : ℕ). k < 2 ^ 64) (sym c.magnitude-k.ensures) (signed_ended_fits c.args.end.now c.args.y.now c.requires.can) in
+    let n = counts_from c.digits_of.result c.magnitude-k.result c.from.result c.from.ensures small c.digits_of.ensures.some c.digits_of.ensures.holds c.digits_of.ensures.least in
+    signed_ended_puts c.args.end.now c.digits_of.result c.magnitude-k.result c.args.y.now c.is_negative.result c.args.cur.now c.put_sign.new.cur c.put_digits.new.cur c.put_end.new.cur n c.is_negative.ensures c.magnitude-k.ensures c.put_sign.ensures c.put_digits.ensures c.put_end.ensures

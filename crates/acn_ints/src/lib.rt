@@ -1,0 +1,24 @@
+//! Reads and writes the codes of numbers.
+#![tactic(auto)]
+
+mod counted;
+mod digit_writer;
+mod digits;
+mod ended;
+mod ended_codings;
+mod filler;
+mod fixed;
+mod known;
+mod most;
+mod ordered;
+mod piece;
+mod reader;
+mod said;
+mod writer;
+
+pub use filler::{fill_num, list_num};
+pub use reader::read_num;
+pub use writer::put_num;
+
+#[cfg(test)]
+mod tests;

@@ -1,6 +1,0 @@
-use Rattle.std.proofs.Common.{◌≡◌, ◌+◌, ◌-◌, length, map}
-use Rattle.acn_lex.specs.Lexing.{placed, with_front, lex_from}
-use Rattle.acn_lex.proofs.lexing.lex.Given as goal
-
-abbrev pub invariant-loop : goal.invariant-loop
-invariant-loop l = record { within : l.at + length l.rest ≡ length l.bytes; told : with_front (map placed l.list) (lex_from (l.end - l.counter) l.at l.rest) ≡ lex_from (length l.bytes) 0 l.bytes }

@@ -1,0 +1,7 @@
+use Rattle.std.proofs.Common.{◌≡◌, ◌+◌, drop}
+use Rattle.acn_lex.specs.Scan.{run_len}
+use Rattle.acn_lex.specs.Bytes.{is_bit_or_white}
+use Rattle.acn_lex.proofs.literal.bits_len.Given as goal
+
+abbrev pub invariant-loop-i : goal.invariant-loop-i
+invariant-loop-i l = l.i + run_len is_bit_or_white (drop l.i l.bytes) ≡ run_len is_bit_or_white l.bytes

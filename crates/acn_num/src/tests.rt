@@ -1,0 +1,104 @@
+use crate::{
+    BitList, Name, NoMemory, Path, RangeSet, Row, bits_for, digits_for, octets_for,
+    signed_octets_for,
+};
+
+// The set of `0..10 EXCEPT 3 | 20`.
+#[test]
+fn a_union_of_an_except_has_its_numbers(rt: HostRuntime) -> Result<(), NoMemory> {
+    let alloc = rt.alloc();
+    let to_ten = RangeSet::one(alloc, 0, 10)?;
+    let three = RangeSet::one(alloc, 3, 3)?;
+    let twenty = RangeSet::one(alloc, 20, 20)?;
+    let set = to_ten.except(alloc, &three)?.union(alloc, &twenty)?;
+    assert_eq!(rt; set.count(), 11);
+    assert_eq!(rt; set.nth(3), Some(4));
+    assert_eq!(rt; set.nth(10), Some(20));
+    assert_eq!(rt; set.nth(11), None);
+    assert_eq!(rt; set.least_except(&[0, 1, 2, 4]), Some(5));
+    assert_eq!(rt; set.least(), Some(0));
+    assert_eq!(rt; set.greatest(), Some(20));
+    assert!(rt; !set.holds(3));
+    assert!(rt; set.holds(20));
+    Ok(())
+}
+
+#[test]
+fn a_meet_and_a_copy_have_their_numbers(rt: HostRuntime) -> Result<(), NoMemory> {
+    let alloc = rt.alloc();
+    let low = RangeSet::one(alloc, -9223372036854775809, 10)?;
+    let high = RangeSet::one(alloc, 0, 18446744073709551616)?;
+    let both = low.meet(alloc, &high)?.copy(alloc)?;
+    assert_eq!(rt; both.count(), 11);
+    let all = low.union(alloc, &high)?;
+    assert_eq!(rt; all.count(), 27670116110564327426);
+    assert_eq!(rt; RangeSet::empty(alloc).least(), None);
+    assert_eq!(rt; all.except(alloc, &all)?.greatest(), None);
+    Ok(())
+}
+
+#[test]
+fn widths_are_the_least_ones(rt: HostRuntime) {
+    for (span, width) in [
+        (0, 0),
+        (1, 1),
+        (7, 3),
+        (8, 4),
+        (255, 8),
+        (256, 9),
+        (u64::MAX, 64),
+    ] {
+        assert_eq!(rt; bits_for(span), width, "at {span}");
+    }
+    for (x, octets) in [
+        (0, 1),
+        (255, 1),
+        (256, 2),
+        (65_535, 2),
+        (65_536, 3),
+        (u64::MAX, 8),
+    ] {
+        assert_eq!(rt; octets_for(x), octets, "at {x}");
+    }
+    for (x, octets) in [
+        (0, 1),
+        (127, 1),
+        (128, 2),
+        (-128, 1),
+        (-129, 2),
+        (i64::MAX, 8),
+        (i64::MIN, 8),
+    ] {
+        assert_eq!(rt; signed_octets_for(x), octets, "at {x}");
+    }
+    for (x, digits) in [(0, 1), (9, 1), (10, 2), (999, 3), (u64::MAX, 20)] {
+        assert_eq!(rt; digits_for(x), digits, "at {x}");
+    }
+}
+
+#[test]
+fn lists_keep_their_items(rt: HostRuntime) -> Result<(), NoMemory> {
+    let alloc = rt.alloc();
+    let mut row = Row::new(alloc);
+    row.push(7u32)?;
+    row.push(8)?;
+    assert_eq!(rt; row.items(), [7u32, 8].as_slice());
+    assert_eq!(rt; Row::from_vec(row.into_vec()).items(), [7u32, 8].as_slice());
+    assert_eq!(rt; Name::copy(alloc, b"apid")?.bytes(), b"apid".as_slice());
+    let mut bits = BitList::new(alloc);
+    bits.push(true)?;
+    let mut twice = BitList::new(alloc);
+    twice.append(&bits)?;
+    twice.append(&bits)?;
+    assert_eq!(rt; twice.len(), 2);
+    assert_eq!(rt; twice.get(1), Some(true));
+    assert_eq!(rt; twice.get(2), None);
+    let mut path = Path::new();
+    path.push(3);
+    path.push(0);
+    assert_eq!(rt; path.copy().steps(), [3u32, 0].as_slice());
+    assert_eq!(rt; path.pop(), Some(0));
+    assert_eq!(rt; path.pop(), Some(3));
+    assert_eq!(rt; path.pop(), None);
+    Ok(())
+}

@@ -1,0 +1,6 @@
+-- Counts of faults. They and their law are this program's own.
+use Rattle.std.specs.Prelude.{◌≡◌, ◌⊎◌, ℕ, ◌<◌}
+
+-- The count rose. One that stands at the greatest number of 64 bits is said to rise.
+abbrev pub Rose : ℕ → ℕ → Type 0
+Rose before after = (before < after) ⊎ (before ≡ 18446744073709551615)

@@ -1,0 +1,12 @@
+pub mod Decoding
+pub mod Form
+pub mod Input
+pub mod Line
+pub mod Order
+pub mod Packet
+pub mod Parsing
+pub mod Recording
+pub mod Reserved
+pub mod Run
+pub mod Text
+pub mod Words

@@ -1,0 +1,18 @@
+//! The top call: it reads the words of a command and does what they say with the files, the input and the outputs.
+#![tactic(auto)]
+
+mod components;
+mod decode;
+mod form;
+mod input;
+mod line;
+mod order;
+mod packet;
+mod reserved;
+mod top_call;
+mod words;
+
+pub use top_call::run;
+
+#[cfg(test)]
+mod tests;

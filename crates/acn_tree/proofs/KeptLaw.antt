@@ -1,0 +1,71 @@
+-- In a well-formed tree every number leaf keeps its rules, and so it is in the parts of a grammar that keeps them.
+use Rattle.std.proofs.Common.{◌≡◌, ℕ, ◌+◌, ◌<◌, List, ◌∷◌, length, get_or, drop, Option, sym, ap, subst, ◌∙◌, rules}
+use Rattle.std.proofs.lemmas.List.{drop_more}
+use Rattle.acn_tree.specs.Grammar.{Grammar, Form, Fields, Alternatives, node, num, octets, bits, text, seq, list, choice, contained, no_fields, component, inserted, no_alternatives, alternative}
+use Rattle.acn_tree.specs.KeptLeaves.{NumbersKept, FormKept, FieldKept, FieldsKept, AlternativesKept}
+use Rattle.acn_tree.specs.Tree.{IsTree}
+use Rattle.acn_tree.specs.View.{OneField, a_component, an_inserted, with_field, grammar_of, form_of, field_of, fields_view, alternative_of, alternatives_view}
+use Rattle.acn_tree.specs.declared.node.Alternative.{Alternative}
+use Rattle.acn_tree.specs.declared.node.Body.{Body, Seq as Seq_body, the_lemmas as node_lemmas}
+use Rattle.acn_tree.specs.declared.node.Field.{Field, Component, Inserted}
+use Rattle.acn_tree.specs.declared.node.Node.{Node}
+use Rattle.acn_tree.specs.declared.node.Presence.{Presence}
+use Rattle.acn_tree.specs.declared.node.Seq.{Seq as SeqNode}
+use Rattle.acn_tree.proofs.SpanLaw.{Fine, FormFine, FieldsFine, AlternativesFine}
+use Rattle.acn_tree.proofs.TreeRules.{tree_fine}
+use Rattle.acn_tree.proofs.Views.{view_node, view_seq_form, view_component, view_inserted}
+
+mutual
+  kept : (g : Grammar) → Fine g → NumbersKept g
+  kept (node align form) h = kept_form form h.1
+
+  kept_form : (form : Form) → FormFine form → FormKept form
+  kept_form (num leaf) h = h
+  kept_form (octets sizing) h = tt
+  kept_form (bits sizing) h = tt
+  kept_form (text leaf) h = tt
+  kept_form (seq fields home) h = kept_fields fields h
+  kept_form (list sizing g) h = kept g h.1
+  kept_form (choice cases rule) h = kept_alternatives cases h
+  kept_form (contained sizing g) h = kept g h.1
+
+  kept_fields : (fs : Fields) → FieldsFine fs → FieldsKept fs
+  kept_fields no_fields h = tt
+  kept_fields (component name g presence default fs) h = (kept g h.0, kept_fields fs h.1)
+  kept_fields (inserted name g slot fs) h = (kept g h.0, kept_fields fs h.1)
+
+  kept_alternatives : (as' : Alternatives) → AlternativesFine as' → AlternativesKept as'
+  kept_alternatives no_alternatives h = tt
+  kept_alternatives (alternative name g tests more) h = (kept g h.0, kept_alternatives more h.1)
+
+pub tree-kept : (root : Grammar) → IsTree root → NumbersKept root
+tree-kept root h = kept root (tree_fine root h)
+
+-- Parts.
+
+pub kept-node : (n : Node) → NumbersKept (grammar_of n) → FormKept (form_of n.body)
+kept-node n h = subst NumbersKept (view_node n) h
+
+pub kept-fields : (body : Body) (s : SeqNode) → body ≡ Seq_body s → FormKept (form_of body) → FieldsKept (fields_view s.fields)
+kept-fields body s e h = subst FormKept (ap form_of e ∙ view_seq_form s) h
+
+one_field : (f : OneField) (fs : Fields) → FieldsKept (with_field f fs) → FieldKept f × FieldsKept fs
+one_field (a_component name g presence default) fs h = h
+one_field (an_inserted name g slot) fs h = h
+
+pub kept-turn : (fs : List Field) (i : ℕ) (f : Field) → i < length fs → f ≡ get_or fs i f → FieldsKept (fields_view (drop i fs)) → FieldKept (field_of f) × FieldsKept (fields_view (drop (i + 1) fs))
+kept-turn fs i f h e k = one_field (field_of f) (fields_view (drop (i + 1) fs)) (subst (λ xs. FieldsKept (fields_view xs)) (drop_more fs i f h ∙ ap (λ x. x ∷ drop (i + 1) fs) (sym e)) k)
+
+pub kept-component : (f : Field) (name : List ℕ) (n : Node) (presence : Presence) (default : Option (List ℕ)) → f ≡ Component name n presence default → FieldKept (field_of f) → NumbersKept (grammar_of n)
+kept-component f name n presence default e h = subst FieldKept (ap field_of e ∙ view_component name n presence default) h
+
+pub kept-inserted : (f : Field) (name : List ℕ) (n : Node) (slot : Option ℕ) → f ≡ Inserted name n slot → FieldKept (field_of f) → NumbersKept (grammar_of n)
+kept-inserted f name n slot e h = subst FieldKept (ap field_of e ∙ view_inserted name n slot) h
+
+alternative-grammar : (a : Alternative) → (alternative_of a).grammar ≡ grammar_of a.node
+alternative-grammar a = search (rules, node_lemmas)
+
+pub kept-alternative : (as' : List Alternative) (i : ℕ) (a : Alternative) → i < length as' → a ≡ get_or as' i a → AlternativesKept (alternatives_view (drop i as')) → NumbersKept (grammar_of a.node) × AlternativesKept (alternatives_view (drop (i + 1) as'))
+kept-alternative as' i a h e k =
+    let r = subst (λ xs. AlternativesKept (alternatives_view xs)) (drop_more as' i a h ∙ ap (λ x. x ∷ drop (i + 1) as') (sym e)) k in
+    (subst NumbersKept (alternative-grammar a) r.0, r.1)

@@ -1,0 +1,415 @@
+ghost use Rattle.std.specs.Prelude.{◌≡◌, ◌+◌, ◌^◌, ◌<◌, ◌++◌, ◌∷◌, [], length, take, drop, get_or, OnOk, option_map, pos, not, position};
+ghost use Rattle.acn_num.specs.Bits.{number, weight as weight_of};
+ghost use Rattle.acn_num.specs.Ranges.{has};
+ghost use Rattle.acn_tree.specs.Asks.{same_name};
+ghost use Rattle.acn_tree.specs.Breaches.{found, found_at, first as first_why, refusal, place_breaches, why_of};
+ghost use Rattle.acn_tree.specs.Faults.{why_of as why_of_reason};
+ghost use Rattle.acn_tree.specs.Grammar.{list, list_of};
+ghost use Rattle.acn_tree.specs.Length.{number_of as number_of_data};
+ghost use Rattle.acn_tree.specs.Meets.{breach, breaches, form_breaches, field_breaches, alternative_breaches, run_breaches, first_of, unless, where_found, size_breach, end_breach, text_breach, first_end, bad_character, out_of_range, terminator_inside};
+ghost use Rattle.acn_tree.specs.Room.{InTree, HasRoom, FieldsHaveRoom, AlternativesHaveRoom, SizesAreSmall};
+ghost use Rattle.acn_tree.specs.Spell.{octet_numbers};
+ghost use Rattle.acn_tree.specs.View.{grammar_of, data_of, fields_view, places_view, elements_view, alternatives_view};
+
+use crate::node::{Alternative, Body, Field, Node, NumLeaf, Sizing, TextLeaf};
+use crate::pattern::Pattern;
+use crate::unfit::{Unfit, UnfitReason};
+use crate::value::Value;
+use acn_num::{Path, RangeSet};
+use arrayvec::ArrayVec;
+
+// What one place of a value breaks.
+#[derive(Clone, Copy)]
+enum Breach {
+    OutOfRange { value: i128 },
+    SizeOutOfRange { n: u64 },
+    BadCharacter { index: u64 },
+    TerminatorInside { index: u64 },
+}
+
+fn reason(breach: Breach) -> UnfitReason
+    ensures { why_of_reason result ≡ why_of breach }
+{
+    match breach {
+        Breach::OutOfRange { value } => UnfitReason::OutOfRange { value },
+        Breach::SizeOutOfRange { n } => UnfitReason::SizeOutOfRange { n },
+        Breach::BadCharacter { index } => UnfitReason::BadCharacter { index },
+        Breach::TerminatorInside { index } => UnfitReason::TerminatorInside { index },
+    }
+}
+
+fn number_of(v: &Value) -> i128
+    ensures { result ≡ number_of_data (data_of v.now) }
+{
+    match v {
+        Value::Int(x) => *x,
+        Value::Bool(b) => i128::from(*b),
+        Value::Item(i) => i128::from(*i),
+        _ => 0,
+    }
+}
+
+fn number_meets(leaf: &NumLeaf, v: &Value) -> Result<(), Breach>
+    ensures { found result ≡ first_why (unless (has leaf.now.set (number_of_data (data_of v.now))) (out_of_range (number_of_data (data_of v.now)))) }
+{
+    let value = number_of(v);
+    if leaf.set.holds(value) {
+        Ok(())
+    } else {
+        Err(Breach::OutOfRange { value })
+    }
+}
+
+// Whether the number is in the set.
+fn is_in(set: &RangeSet, n: u64) -> bool
+    ensures { result ≡ has set.now (pos n) }
+{
+    set.holds(i128::from(n))
+}
+
+fn size_meets(sizing: &Sizing, n: usize) -> Result<(), Breach>
+    ensures { found result ≡ first_why (size_breach sizing.now n) }
+{
+    let n = n as u64;
+    if is_in(&sizing.sizes, n) {
+        Ok(())
+    } else {
+        Err(Breach::SizeOutOfRange { n })
+    }
+}
+
+fn characters_meet(alphabet: &RangeSet, text: &[u8]) -> Result<(), Breach>
+    ensures { found result ≡ first_why (where_found (position (λ c. not (has alphabet.now (pos c))) text.now) bad_character) }
+{
+    let mut index = 0u64;
+    for c in text {
+        if !is_in(alphabet, u64::from(*c)) {
+            return Err(Breach::BadCharacter { index });
+        }
+        index += 1;
+    }
+    Ok(())
+}
+
+fn weight(bit: bool) -> u8
+    ensures { result ≡ weight_of bit }
+{
+    if bit { 1 } else { 0 }
+}
+
+// The number that the bits of an octet spell.
+fn octet(bits: &[bool]) -> u8
+    requires { length bits.now ≡ 8 }
+    ensures { result ≡ number bits.now }
+{
+    let mut octet = 0u8;
+    for bit in bits {
+        octet = octet * 2 + weight(*bit);
+    }
+    octet
+}
+
+// The octets of a terminator.
+fn octets(end: &Pattern) -> ArrayVec<u8, 8>
+    ensures { result.items ≡ octet_numbers end.now }
+{
+    let bits = end.bits();
+    let mut octets = ArrayVec::new();
+    for k in 0..bits.len() / 8 {
+        octets.push(octet(&bits[8 * k..8 * k + 8]));
+    }
+    octets
+}
+
+// The octet at a place of a text and the terminator behind it.
+fn octet_at(text: &[u8], end: &[u8], k: usize) -> u8
+    requires { k < length text.now + length end.now }
+    ensures { result ≡ get_or (text.now ++ end.now) k 0 }
+{
+    if k < text.len() {
+        text[k]
+    } else {
+        end[k - text.len()]
+    }
+}
+
+// Whether the terminator stands at a place of the text and the terminator behind it.
+fn ends_at(end: &[u8], text: &[u8], i: usize) -> bool
+    requires { i < length text.now }
+    ensures { result ≡ same_name (take (length end.now) (drop i (text.now ++ end.now))) end.now }
+{
+    for k in 0..end.len() {
+        if octet_at(text, end, i + k) != end[k] {
+            return false;
+        }
+    }
+    true
+}
+
+// Whether the terminator occurs first at the text's end.
+fn ends_last(end: &[u8], text: &[u8]) -> Result<(), Breach>
+    ensures { found result ≡ first_why (where_found (first_end end.now text.now) terminator_inside) }
+{
+    for i in 0..text.len() {
+        if ends_at(end, text, i) {
+            return Err(Breach::TerminatorInside { index: i as u64 });
+        }
+    }
+    Ok(())
+}
+
+fn end_meets(end: &Option<Pattern>, text: &[u8]) -> Result<(), Breach>
+    ensures { found result ≡ first_why (end_breach end.now text.now) }
+{
+    match end {
+        Some(end) => {
+            let end = octets(end);
+            ends_last(end.as_slice(), text)
+        }
+        None => Ok(()),
+    }
+}
+
+fn text_meets(leaf: &TextLeaf, text: &[u8]) -> Result<(), Breach>
+    ensures { found result ≡ first_why (text_breach leaf.now text.now) }
+{
+    size_meets(&leaf.sized, text.len())?;
+    characters_meet(&leaf.alphabet, text)?;
+    end_meets(&leaf.ended, text)
+}
+
+// The walk stays at the path of the first breach, or comes back to where it began.
+#[cycle(meet)]
+fn node_meets(node: &Node, v: &Value, path: &mut Path) -> Result<(), Breach>
+    requires { HasRoom (length path.old) (grammar_of node.now) }
+    ensures answer { found_at path.new result ≡ first_of (breaches path.old (grammar_of node.now) (data_of v.now)) }
+    ensures back { OnOk result (path.new ≡ path.old) }
+{
+    match &node.body {
+        Body::Num(leaf) => number_meets(leaf, v),
+        Body::Octets(sizing) => match v {
+            Value::Octets(octets) => size_meets(sizing, octets.items().len()),
+            _ => Ok(()),
+        },
+        Body::Bits(sizing) => match v {
+            Value::Bits(bits) => size_meets(sizing, bits.items().len()),
+            _ => Ok(()),
+        },
+        Body::Text(leaf) => match v {
+            Value::Text(text) => text_meets(leaf, text.items()),
+            _ => Ok(()),
+        },
+        Body::Seq(seq) => match v {
+            Value::Seq(places) => fields_meet(seq.fields.items(), places.items(), path),
+            _ => Ok(()),
+        },
+        Body::List(sizing, element) => match v {
+            Value::List(elements) => list_meets(sizing, element.get(), elements.items(), path),
+            _ => Ok(()),
+        },
+        Body::Choice(choice) => match v {
+            Value::Alt(at, inside) => {
+                alternative_meets(choice.alternatives.items(), *at, inside.get(), path)
+            }
+            _ => Ok(()),
+        },
+        Body::Contained(_, content) => inside_meets(content.get(), 0, v, path),
+    }
+}
+
+// One step inside.
+#[cycle(meet)]
+fn inside_meets(node: &Node, step: u32, v: &Value, path: &mut Path) -> Result<(), Breach>
+    requires { HasRoom (length path.old + 1) (grammar_of node.now) }
+    ensures answer { found_at path.new result ≡ first_of (breaches (path.old ++ step ∷ []) (grammar_of node.now) (data_of v.now)) }
+    ensures back { OnOk result (path.new ≡ path.old) }
+{
+    path.push(step);
+    node_meets(node, v, path)?;
+    path.pop();
+    Ok(())
+}
+
+#[cycle(meet)]
+fn place_meets(node: &Node, step: u32, place: &Option<Value>, path: &mut Path) -> Result<(), Breach>
+    requires { HasRoom (length path.old + 1) (grammar_of node.now) }
+    ensures answer { found_at path.new result ≡ first_of (place_breaches (path.old ++ step ∷ []) (grammar_of node.now) (option_map data_of place.now)) }
+    ensures back { OnOk result (path.new ≡ path.old) }
+{
+    match place {
+        Some(v) => inside_meets(node, step, v, path),
+        None => Ok(()),
+    }
+}
+
+#[cycle(meet)]
+fn fields_meet(fields: &[Field], places: &[Option<Value>], path: &mut Path) -> Result<(), Breach>
+    requires few { length fields.now < 2 ^ 32 }
+    requires room { FieldsHaveRoom (length path.old + 1) (fields_view fields.now) }
+    ensures answer { found_at path.new result ≡ first_of (field_breaches path.old 0 (fields_view fields.now) (places_view places.now)) }
+    ensures back { OnOk result (path.new ≡ path.old) }
+{
+    let mut step = 0u32;
+    let mut at = 0;
+    for field in fields {
+        let here = step;
+        step += 1;
+        match field {
+            Field::Component { node, .. } => {
+                if at == places.len() {
+                    return Ok(());
+                }
+                place_meets(node, here, &places[at], path)?;
+                at += 1;
+            }
+            Field::Inserted { .. } => {}
+        }
+    }
+    Ok(())
+}
+
+#[cycle(meet)]
+fn list_meets(
+    sizing: &Sizing,
+    element: &Node,
+    elements: &[Value],
+    path: &mut Path,
+) -> Result<(), Breach>
+    requires small { SizesAreSmall sizing.now }
+    requires room { HasRoom (length path.old + 1) (grammar_of element.now) }
+    ensures answer { found_at path.new result ≡ first_of (form_breaches path.old (list sizing.now (grammar_of element.now)) (list_of (elements_view elements.now))) }
+    ensures back { OnOk result (path.new ≡ path.old) }
+{
+    size_meets(sizing, elements.len())?;
+    elements_meet(element, elements, path)
+}
+
+#[cycle(meet)]
+fn elements_meet(element: &Node, elements: &[Value], path: &mut Path) -> Result<(), Breach>
+    requires few { length elements.now < 2 ^ 32 }
+    requires room { HasRoom (length path.old + 1) (grammar_of element.now) }
+    ensures answer { found_at path.new result ≡ first_of (run_breaches (λ k d. breaches (path.old ++ k ∷ []) (grammar_of element.now) d) 0 (elements_view elements.now)) }
+    ensures back { OnOk result (path.new ≡ path.old) }
+{
+    let mut step = 0u32;
+    for v in elements {
+        inside_meets(element, step, v, path)?;
+        step += 1;
+    }
+    Ok(())
+}
+
+#[cycle(meet)]
+fn alternative_meets(
+    alternatives: &[Alternative],
+    at: u32,
+    v: &Value,
+    path: &mut Path,
+) -> Result<(), Breach>
+    requires { AlternativesHaveRoom (length path.old + 1) (alternatives_view alternatives.now) }
+    ensures answer { found_at path.new result ≡ first_of (alternative_breaches path.old at (alternatives_view alternatives.now) at (data_of v.now)) }
+    ensures back { OnOk result (path.new ≡ path.old) }
+{
+    match alternatives.get(at as usize) {
+        Some(alternative) => inside_meets(&alternative.node, at, v, path),
+        None => Ok(()),
+    }
+}
+
+/// Whether the value, which has the node's shape, meets the constraints of the node and of what is inside it (X.680):
+/// each number, size and character is permitted, and the terminator of an ended text occurs first at its end.
+/// Err comes exactly where it doesn't, with the first place in preorder; at one text the size goes first, then the
+/// characters, then the terminator. It takes no memory.
+pub fn meets(node: &Node, v: &Value) -> Result<(), Unfit>
+    requires { InTree (grammar_of node.now) }
+    ensures { refusal result ≡ breach (grammar_of node.now) (data_of v.now) }
+{
+    let mut path = Path::new();
+    match node_meets(node, v, &mut path) {
+        Ok(()) => Ok(()),
+        Err(breach) => Err(Unfit {
+            path,
+            reason: reason(breach),
+        }),
+    }
+}
+
+#[cfg(test)]
+mod tests {
+    use super::*;
+    use crate::node::SizeRule;
+    use acn_num::NoMemory;
+    use std::alloc::Global;
+
+    // Texts of 1 to 3 characters from 0 to 127, ended by a carriage return and a line feed.
+    fn ended_by_a_line(alloc: Global) -> Result<TextLeaf, NoMemory> {
+        let mut end = [false; 16];
+        for at in [4, 5, 7, 12, 14] {
+            end[at] = true;
+        }
+        Ok(TextLeaf {
+            sized: Sizing {
+                sizes: RangeSet::one(alloc, 1, 3)?,
+                rule: SizeRule::Prefix { low: 0, width: 0 },
+            },
+            ended: Some(Pattern::new(&end)),
+            alphabet: RangeSet::one(alloc, 0, 127)?,
+            width: 8,
+            indexed: false,
+        })
+    }
+
+    // Texts of 2 characters from a to c.
+    fn pairs(alloc: Global) -> Result<TextLeaf, NoMemory> {
+        Ok(TextLeaf {
+            sized: Sizing {
+                sizes: RangeSet::one(alloc, 2, 2)?,
+                rule: SizeRule::Prefix { low: 2, width: 0 },
+            },
+            ended: None,
+            alphabet: RangeSet::one(alloc, 97, 99)?,
+            width: 2,
+            indexed: true,
+        })
+    }
+
+    #[test]
+    fn a_terminator_may_begin_in_the_text_and_end_behind_it(
+        rt: HostRuntime,
+    ) -> Result<(), NoMemory> {
+        let leaf = ended_by_a_line(rt.alloc())?;
+        assert!(rt; text_meets(&leaf, b"a\r").is_ok());
+        assert!(rt;
+            matches!(
+                text_meets(&leaf, b"\r\n"),
+                Err(Breach::TerminatorInside { index: 0 })
+            )
+        );
+        assert!(rt;
+            matches!(
+                text_meets(&leaf, b"a\r\n"),
+                Err(Breach::TerminatorInside { index: 1 })
+            )
+        );
+        Ok(())
+    }
+
+    #[test]
+    fn a_size_goes_before_a_character(rt: HostRuntime) -> Result<(), NoMemory> {
+        let leaf = pairs(rt.alloc())?;
+        assert!(rt; text_meets(&leaf, b"ca").is_ok());
+        assert!(rt;
+            matches!(
+                text_meets(&leaf, b"cd"),
+                Err(Breach::BadCharacter { index: 1 })
+            )
+        );
+        assert!(rt;
+            matches!(
+                text_meets(&leaf, b"cdd"),
+                Err(Breach::SizeOutOfRange { n: 3 })
+            )
+        );
+        Ok(())
+    }
+}
