@@ -5,3 +5,4 @@ pub mod Bases
 pub mod Types
 pub mod Headers
 pub mod Modules
+pub mod Whole

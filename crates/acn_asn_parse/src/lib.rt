@@ -5,4 +5,5 @@ mod bases;
 mod headers;
 mod heads;
 mod sets;
+mod types;
 mod values;
