@@ -1,0 +1,10 @@
+use Rattle.std.proofs.Common.{◌≡◌, true, rules}
+use Rattle.acn_cursor.specs.Steps.{word}
+use Rattle.acn_cursor.proofs.Turns.{goes_on}
+use Rattle.acn_asn_parse.specs.Headers.{has_part, oid_part}
+use Rattle.acn_asn_parse.proofs.headers.oid_parts.Goals as goal
+
+pub loop-preserved : goal.loop-preserved
+loop-preserved c =
+    let goes : has_part c.loop.cursor ≡ true = search rules in
+    rw c.in_ok-push.ensures.ok (goes_on has_part oid_part c.loop.row _ _ _ _ _ _ c.loop-test.true goes c.in_ok-next.ensures c.loop.invariant)

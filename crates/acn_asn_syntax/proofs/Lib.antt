@@ -1,0 +1,2 @@
+pub mod SetTokens
+pub mod TypeTokens
