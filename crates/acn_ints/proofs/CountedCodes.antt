@@ -7,15 +7,15 @@ use Rattle.acn_num.specs.Bits.{number, signed_number, IsNumber, IsSigned}
 use Rattle.acn_bits.specs.Reading.{Reading, passed}
 use Rattle.acn_bits.proofs.BitLists.{number_below}
 use Rattle.acn_bits.proofs.Loads.{take_add}
-use Rattle.acn_tree.specs.Code.{Any, CodingCode, Counted}
-use Rattle.acn_tree.specs.LeafFails.{NoneHas, CountedFails, Reason, short, not_minimal, out_of_range}
-use Rattle.acn_tree.specs.Length.{least_octets, least_signed_octets}
-use Rattle.acn_tree.specs.declared.node.NumLeaf.{NumLeaf}
-use Rattle.acn_tree.specs.declared.node.NumCoding.TheVariants.{CountedFrom, CountedSigned}
+use Rattle.acn_grammar.specs.Code.{Any, CodingCode, Counted}
+use Rattle.acn_grammar.specs.LeafFails.{NoneHas, CountedFails, Reason, short, not_minimal, out_of_range}
+use Rattle.acn_grammar.specs.Length.{least_octets, least_signed_octets}
+use Rattle.acn_grammar.specs.declared.node.NumLeaf.{NumLeaf}
+use Rattle.acn_grammar.specs.declared.node.NumCoding.TheVariants.{CountedFrom, CountedSigned}
 use Rattle.acn_ints.specs.Reads.{Reads, IsSaid, Refuses}
-use Rattle.acn_tree.specs.ReadFaults.{reason_of}
-use Rattle.acn_tree.specs.declared.read_fault.ReadFault.{ReadFault}
-use Rattle.acn_tree.specs.declared.read_fault.ReadFault.TheVariants.{Short}
+use Rattle.acn_grammar.specs.ReadFaults.{reason_of}
+use Rattle.acn_grammar.specs.declared.read_fault.ReadFault.{ReadFault}
+use Rattle.acn_grammar.specs.declared.read_fault.ReadFault.TheVariants.{Short}
 use Rattle.acn_ints.specs.FixedReads.{Taken, TooFew}
 use Rattle.acn_ints.specs.Counts.{IsCount, CountWrong}
 use Rattle.acn_ints.proofs.FixedCodes.{is_number}

@@ -6,11 +6,11 @@ use Rattle.std.specs.List.{list_all, list_any, flat_map}
 use Rattle.std.proofs.lemmas.Int.{ints}
 use Rattle.std.proofs.lemmas.Bool.Decides.{nat_tests}
 use Rattle.acn_num.specs.Ranges.{has, count, size_of}
-use Rattle.acn_tree.specs.Code.{image_in, on_line}
-use Rattle.acn_tree.specs.Images.{clipped}
-use Rattle.acn_tree.specs.Leaves.{line_fine, all_differ, share, is_number}
-use Rattle.acn_tree.proofs.Codings.{both_are, not_is}
-use Rattle.acn_tree.proofs.LeafLengths.{le_fact}
+use Rattle.acn_grammar.specs.Code.{image_in, on_line}
+use Rattle.acn_grammar.specs.Images.{clipped}
+use Rattle.acn_grammar.specs.Leaves.{line_fine, all_differ, share, is_number}
+use Rattle.acn_grammar.proofs.Codings.{both_are, not_is}
+use Rattle.acn_grammar.proofs.LeafLengths.{le_fact}
 
 abbrev Line : Type 0
 Line = ℤ × ℤ × ℤ

@@ -9,11 +9,11 @@ use Rattle.acn_num.specs.Bits.{low_bits, number}
 use Rattle.acn_bits.specs.Writing.{Writes, place_of}
 use Rattle.acn_bits.specs.declared.write_cursor.WriteCursor.{WriteCursor}
 use Rattle.acn_bits.proofs.BitLists.{length-low_bits, low_bits-number, number_below}
-use Rattle.acn_tree.specs.Code.{Written, CodingCode, decimal_number, AreDigits, IsMinimal, SignOctet, nibbles, digit_octets}
+use Rattle.acn_grammar.specs.Code.{Written, CodingCode, decimal_number, AreDigits, IsMinimal, SignOctet, nibbles, digit_octets}
 use Rattle.std.specs.Prelude.{nat_abs, int_lt, negsuc}
 use Rattle.std.proofs.lemmas.Int.{ints}
 use Rattle.std.proofs.lemmas.Bool.Decides.{nat_tests}
-use Rattle.acn_tree.specs.declared.node.NumCoding.TheVariants.{Bcd, BcdEnded, Ascii, AsciiEnded}
+use Rattle.acn_grammar.specs.declared.node.NumCoding.TheVariants.{Bcd, BcdEnded, Ascii, AsciiEnded}
 use Rattle.acn_ints.specs.DigitWrites.{low_digits}
 use Rattle.acn_ints.specs.EndedReads.{digit_codes, AreDecimal, sign_code}
 use Rattle.acn_ints.specs.Limits.{CanWrite, DigitsFit, SignedDigitsFit}

@@ -7,14 +7,14 @@ use Rattle.acn_num.specs.Bits.{number, low_bits}
 use Rattle.acn_bits.specs.Reading.{Reading}
 use Rattle.acn_bits.proofs.BitLists.{number_same, number-low_bits, length-low_bits}
 use Rattle.acn_bits.proofs.Loads.{small}
-use Rattle.acn_tree.specs.Code.{Any, CodingCode, IsMinimal, InMinimalDigits, nibbles, digit_octets}
-use Rattle.acn_tree.specs.Images.{images_of}
-use Rattle.acn_tree.specs.LeafFails.{Reason, bad_digit, too_long, not_minimal, out_of_range, DigitAt, EndAt, CharacterFails, EndedFails, NoneHas, Positive, most_digits}
-use Rattle.acn_tree.specs.ReadFaults.{reason_of}
-use Rattle.acn_tree.specs.declared.node.NumLeaf.{NumLeaf}
-use Rattle.acn_tree.specs.declared.node.NumCoding.TheVariants.{BcdEnded, AsciiEnded}
-use Rattle.acn_tree.specs.declared.read_fault.ReadFault.{ReadFault}
-use Rattle.acn_tree.specs.declared.read_fault.ReadFault.TheVariants.{NotMinimal}
+use Rattle.acn_grammar.specs.Code.{Any, CodingCode, IsMinimal, InMinimalDigits, nibbles, digit_octets}
+use Rattle.acn_grammar.specs.Images.{images_of}
+use Rattle.acn_grammar.specs.LeafFails.{Reason, bad_digit, too_long, not_minimal, out_of_range, DigitAt, EndAt, CharacterFails, EndedFails, NoneHas, Positive, most_digits}
+use Rattle.acn_grammar.specs.ReadFaults.{reason_of}
+use Rattle.acn_grammar.specs.declared.node.NumLeaf.{NumLeaf}
+use Rattle.acn_grammar.specs.declared.node.NumCoding.TheVariants.{BcdEnded, AsciiEnded}
+use Rattle.acn_grammar.specs.declared.read_fault.ReadFault.{ReadFault}
+use Rattle.acn_grammar.specs.declared.read_fault.ReadFault.TheVariants.{NotMinimal}
 use Rattle.acn_ints.specs.declared.said.Said.{Said}
 use Rattle.acn_ints.specs.EndedReads.{digit_codes, AreDecimal, NoDigit, PassedEnded, CharacterWrong, EndedWrong, IsSignedValue}
 use Rattle.acn_ints.specs.Reads.{Reads, IsSaid, Refuses}

@@ -7,11 +7,11 @@ use Rattle.acn_num.specs.Bits.{number, low_bits}
 use Rattle.acn_bits.specs.Reading.{Reading, passed}
 use Rattle.acn_bits.proofs.BitLists.{number_same, number-low_bits, length-low_bits}
 use Rattle.acn_bits.proofs.Loads.{take_add, small}
-use Rattle.acn_tree.specs.Code.{decimal_number, IsMinimal}
-use Rattle.acn_tree.specs.LeafFails.{Reason, bad_digit, too_long, EndAt}
-use Rattle.acn_tree.proofs.Counts.{digits-below}
+use Rattle.acn_grammar.specs.Code.{decimal_number, IsMinimal}
+use Rattle.acn_grammar.specs.LeafFails.{Reason, bad_digit, too_long, EndAt}
+use Rattle.acn_grammar.proofs.Counts.{digits-below}
 use Rattle.std.specs.Prelude.{Result, Ok, Err, IfOk, OnErr}
-use Rattle.acn_tree.specs.declared.read_fault.ReadFault.{ReadFault}
+use Rattle.acn_grammar.specs.declared.read_fault.ReadFault.{ReadFault}
 use Rattle.acn_ints.specs.declared.ended.Ended.{Ended}
 use Rattle.acn_ints.specs.FixedReads.{Taken}
 use Rattle.acn_ints.specs.Reads.{Reads, Stays}

@@ -6,9 +6,9 @@ use mir.Val.{bool_byte}
 use Rattle.acn_num.specs.Bits.{number, signed_number, IsNumber}
 use Rattle.acn_bits.specs.Reading.{Reading}
 use Rattle.acn_bits.proofs.BitLists.{number_below, number_same, number-append}
-use Rattle.acn_tree.specs.Code.{in_order}
-use Rattle.acn_tree.specs.LeafFails.{bad_pattern}
-use Rattle.acn_tree.specs.declared.node.NumCoding.TheVariants.{Range, PosInt, Twos, Flag, Fixed}
+use Rattle.acn_grammar.specs.Code.{in_order}
+use Rattle.acn_grammar.specs.LeafFails.{bad_pattern}
+use Rattle.acn_grammar.specs.declared.node.NumCoding.TheVariants.{Range, PosInt, Twos, Flag, Fixed}
 use Rattle.acn_ints.proofs.SaidLemmas.{taken_stays}
 use Rattle.acn_ints.specs.FixedReads.{Taken, FixedSaid, FixedWrong}
 

@@ -9,20 +9,20 @@ use Rattle.std.proofs.Math.Nat.{pow-le-pow_right, div-add-mod, mul-le-mul_left}
 use native.Mathlib.Decide.{dec_lt}
 use Rattle.acn_num.specs.Bits.{is_least_width}
 use Rattle.acn_num.specs.Ranges.{distance, are_ranges, are_ranges_above, count, has, bottom, Above, AreRanges}
-use Rattle.acn_tree.specs.Images.{images_by, ends}
-use Rattle.acn_tree.specs.Leaves.{num_fine, takes, coding_fine, implies, can_be_little, from_to, is_terminator, is_pattern, begins_number, flag_patterns_fine, same_bits, has_size, table_fine, line_fine, all_differ, share, is_number, values_fine, set_fine, is_range, no_items, items_fine, integer_set_fine, can_write_all}
-use Rattle.acn_tree.specs.Spell.{octet_numbers}
-use Rattle.acn_tree.specs.declared.node.Items.{Items}
-use Rattle.acn_tree.specs.declared.node.NumCoding.{NumCoding}
-use Rattle.acn_tree.specs.declared.node.NumCoding.TheVariants.{Range, CountedFrom, CountedSigned, PosInt, Twos, Bcd, BcdEnded, Ascii, AsciiEnded, Flag, Fixed}
-use Rattle.acn_tree.specs.declared.node.NumKind.{NumKind}
-use Rattle.acn_tree.specs.declared.node.NumKind.TheVariants.{Integer, Boolean, Enumerated, Null}
-use Rattle.acn_tree.specs.declared.node.NumLeaf.{NumLeaf}
-use Rattle.acn_tree.specs.declared.node.Table.{Table}
-use Rattle.acn_tree.proofs.Codings.{both_are, not_is, equal_numbers}
-use Rattle.acn_tree.proofs.FineLeaves.{rules_of}
-use Rattle.acn_tree.proofs.Within.{ends-has}
-use Rattle.acn_tree.proofs.LeafLengths.{some_ends, int_ends, le_fact, lt_fact, eq_fact, is_plain, counted_kind}
+use Rattle.acn_grammar.specs.Images.{images_by, ends}
+use Rattle.acn_grammar.specs.Leaves.{num_fine, takes, coding_fine, implies, can_be_little, from_to, is_terminator, is_pattern, begins_number, flag_patterns_fine, same_bits, has_size, table_fine, line_fine, all_differ, share, is_number, values_fine, set_fine, is_range, no_items, items_fine, integer_set_fine, can_write_all}
+use Rattle.acn_grammar.specs.Spell.{octet_numbers}
+use Rattle.acn_grammar.specs.declared.node.Items.{Items}
+use Rattle.acn_grammar.specs.declared.node.NumCoding.{NumCoding}
+use Rattle.acn_grammar.specs.declared.node.NumCoding.TheVariants.{Range, CountedFrom, CountedSigned, PosInt, Twos, Bcd, BcdEnded, Ascii, AsciiEnded, Flag, Fixed}
+use Rattle.acn_grammar.specs.declared.node.NumKind.{NumKind}
+use Rattle.acn_grammar.specs.declared.node.NumKind.TheVariants.{Integer, Boolean, Enumerated, Null}
+use Rattle.acn_grammar.specs.declared.node.NumLeaf.{NumLeaf}
+use Rattle.acn_grammar.specs.declared.node.Table.{Table}
+use Rattle.acn_grammar.proofs.Codings.{both_are, not_is, equal_numbers}
+use Rattle.acn_grammar.proofs.FineLeaves.{rules_of}
+use Rattle.acn_grammar.proofs.Within.{ends-has}
+use Rattle.acn_grammar.proofs.LeafLengths.{some_ends, int_ends, le_fact, lt_fact, eq_fact, is_plain, counted_kind}
 use Rattle.acn_ints.specs.Limits.{IsNear, IsEnd, AreNear, IsNearTable, ArePairsNear, PlainEnded, OrderFits, DigitsFit, SignedDigitsFit, EndFits, PatternsFit, CodingFits, LeafFits}
 
 from_to_is : (low high n : ℕ) → from_to low high n ≡ true → (low ≤ n) × (n ≤ high)

@@ -8,17 +8,17 @@ use Rattle.std.proofs.lemmas.Bool.Decides.{nat_tests}
 use Rattle.acn_num.specs.Bits.{bits, number}
 use Rattle.acn_bits.proofs.BitLists.{length-bits}
 use Rattle.acn_bits.specs.Reading.{Reading, passed}
-use Rattle.acn_tree.specs.Code.{image_of}
-use Rattle.acn_tree.specs.Interval.{width_of, fixed_width}
-use Rattle.acn_tree.specs.Leaves.{num_fine, coding_fine, from_to, is_pattern, flag_patterns_fine, same_bits}
-use Rattle.acn_tree.specs.Length.{num_length, coding_length, least_octets, least_signed_octets, digit_count, flag_width, sign_width, fits_octets}
-use Rattle.acn_tree.specs.declared.node.NumCoding.{NumCoding}
-use Rattle.acn_tree.specs.declared.node.NumCoding.TheVariants.{Range, CountedFrom, CountedSigned, PosInt, Twos, Bcd, BcdEnded, Ascii, AsciiEnded, Flag, Fixed}
-use Rattle.acn_tree.specs.declared.node.NumLeaf.{NumLeaf}
-use Rattle.acn_tree.proofs.Codings.{both_are}
-use Rattle.acn_tree.proofs.FineLeaves.{rules_of}
-use Rattle.acn_tree.proofs.WidthLaw.{by_width}
-use Rattle.acn_tree.proofs.Within.{image_has}
+use Rattle.acn_grammar.specs.Code.{image_of}
+use Rattle.acn_grammar.specs.Interval.{width_of, fixed_width}
+use Rattle.acn_grammar.specs.Leaves.{num_fine, coding_fine, from_to, is_pattern, flag_patterns_fine, same_bits}
+use Rattle.acn_grammar.specs.Length.{num_length, coding_length, least_octets, least_signed_octets, digit_count, flag_width, sign_width, fits_octets}
+use Rattle.acn_grammar.specs.declared.node.NumCoding.{NumCoding}
+use Rattle.acn_grammar.specs.declared.node.NumCoding.TheVariants.{Range, CountedFrom, CountedSigned, PosInt, Twos, Bcd, BcdEnded, Ascii, AsciiEnded, Flag, Fixed}
+use Rattle.acn_grammar.specs.declared.node.NumLeaf.{NumLeaf}
+use Rattle.acn_grammar.proofs.Codings.{both_are}
+use Rattle.acn_grammar.proofs.FineLeaves.{rules_of}
+use Rattle.acn_laws.proofs.WidthLaw.{by_width}
+use Rattle.acn_grammar.proofs.Within.{image_has}
 use Rattle.acn_ints.specs.Limits.{CodingFits, LeafFits}
 use Rattle.acn_ints.specs.Pieces.{CanCode}
 use Rattle.std.specs.Prelude.{IsTrue}

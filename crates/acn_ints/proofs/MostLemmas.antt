@@ -3,9 +3,9 @@ use Rattle.std.proofs.Common.{◌≡◌, ℕ, ◌+◌, ◌-◌, ◌^◌, ◌<◌
 use Rattle.std.specs.List.{flat_map}
 use Rattle.std.proofs.lemmas.List.{drop_more}
 use Rattle.std.proofs.Math.Nat.{pow-le-pow_right}
-use Rattle.acn_tree.specs.LeafFails.{most_digits}
-use Rattle.acn_tree.specs.Length.{digit_count}
-use Rattle.acn_tree.proofs.Counts.{counts, le_true, le_false}
+use Rattle.acn_grammar.specs.LeafFails.{most_digits}
+use Rattle.acn_grammar.specs.Length.{digit_count}
+use Rattle.acn_grammar.proofs.Counts.{counts, le_true, le_false}
 
 pub most-some : (rs : List (ℤ × ℤ)) → 1 ≤ most_digits rs
 most-some [] = omega arith

@@ -7,21 +7,21 @@ use Rattle.std.proofs.lemmas.Int.{ints}
 use Rattle.std.proofs.lemmas.Bool.Decides.{nat_tests}
 use Rattle.acn_num.specs.Bits.{is_least_width}
 use Rattle.acn_num.specs.Ranges.{In, has, distance, count, are_ranges, bottom, top, Above, AreRanges}
-use Rattle.acn_tree.specs.Code.{image_of, image_by, item_number}
-use Rattle.acn_tree.specs.Images.{images_by, images_of, ends, written_ends}
-use Rattle.acn_tree.specs.Leaves.{num_fine, takes, set_fine, table_fine, line_fine, all_differ, share, has_size, can_write, is_range, no_items, items_fine, integer_set_fine}
-use Rattle.acn_tree.specs.declared.node.Items.{Items}
-use Rattle.acn_tree.specs.declared.node.NumCoding.{NumCoding}
-use Rattle.acn_tree.specs.declared.node.NumCoding.TheVariants.{Range, CountedFrom, CountedSigned, PosInt, Twos, Bcd, BcdEnded, Ascii, AsciiEnded, Flag, Fixed}
-use Rattle.acn_tree.specs.declared.node.NumKind.{NumKind}
-use Rattle.acn_tree.specs.declared.node.NumKind.TheVariants.{Integer, Boolean, Enumerated, Null}
-use Rattle.acn_tree.specs.declared.node.NumLeaf.{NumLeaf}
-use Rattle.acn_tree.specs.declared.node.Table.{Table}
-use Rattle.acn_tree.proofs.Codings.{both_are, not_is, equal_numbers}
-use Rattle.acn_tree.proofs.Counts.{fits_is}
-use Rattle.acn_tree.proofs.FineLeaves.{rules_of}
-use Rattle.acn_tree.proofs.LeafLengths.{some_ends, le_fact, lt_fact, eq_fact, limits_of, Limits}
-use Rattle.acn_tree.proofs.Within.{image_has, ends-has}
+use Rattle.acn_grammar.specs.Code.{image_of, image_by, item_number}
+use Rattle.acn_grammar.specs.Images.{images_by, images_of, ends, written_ends}
+use Rattle.acn_grammar.specs.Leaves.{num_fine, takes, set_fine, table_fine, line_fine, all_differ, share, has_size, can_write, is_range, no_items, items_fine, integer_set_fine}
+use Rattle.acn_grammar.specs.declared.node.Items.{Items}
+use Rattle.acn_grammar.specs.declared.node.NumCoding.{NumCoding}
+use Rattle.acn_grammar.specs.declared.node.NumCoding.TheVariants.{Range, CountedFrom, CountedSigned, PosInt, Twos, Bcd, BcdEnded, Ascii, AsciiEnded, Flag, Fixed}
+use Rattle.acn_grammar.specs.declared.node.NumKind.{NumKind}
+use Rattle.acn_grammar.specs.declared.node.NumKind.TheVariants.{Integer, Boolean, Enumerated, Null}
+use Rattle.acn_grammar.specs.declared.node.NumLeaf.{NumLeaf}
+use Rattle.acn_grammar.specs.declared.node.Table.{Table}
+use Rattle.acn_grammar.proofs.Codings.{both_are, not_is, equal_numbers}
+use Rattle.acn_grammar.proofs.Counts.{fits_is}
+use Rattle.acn_grammar.proofs.FineLeaves.{rules_of}
+use Rattle.acn_grammar.proofs.LeafLengths.{some_ends, le_fact, lt_fact, eq_fact, limits_of, Limits}
+use Rattle.acn_grammar.proofs.Within.{image_has, ends-has}
 use Rattle.acn_ints.specs.Limits.{IsNear, CanWrite}
 use Rattle.acn_ints.specs.Pieces.{CanCode}
 use Rattle.acn_ints.proofs.Covered.{image_there}

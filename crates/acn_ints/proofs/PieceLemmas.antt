@@ -9,10 +9,10 @@ use Rattle.std.proofs.Math.Nat.{pow-le-pow_right, pow-suc}
 use Rattle.acn_num.specs.Bits.{number, signed_number, low_bits, bits, IsNumber}
 use Rattle.acn_bits.proofs.BitLists.{number_below, number-low_bits, length-low_bits, low_bits-number, length-bits}
 use Rattle.acn_bits.proofs.Loads.{small}
-use Rattle.acn_tree.specs.Code.{Written, CodingCode, in_order, opposite}
-use Rattle.acn_tree.specs.Length.{coding_length}
+use Rattle.acn_grammar.specs.Code.{Written, CodingCode, in_order, opposite}
+use Rattle.acn_grammar.specs.Length.{coding_length}
 use Rattle.acn_ints.specs.Limits.{CanWrite}
-use Rattle.acn_tree.specs.declared.node.NumCoding.TheVariants.{Range, PosInt, Twos, Flag, Fixed}
+use Rattle.acn_grammar.specs.declared.node.NumCoding.TheVariants.{Range, PosInt, Twos, Flag, Fixed}
 use Rattle.acn_ints.specs.Limits.{IsEnd, OrderFits, PatternsFit}
 use Rattle.acn_ints.specs.Pieces.{IsPiece, IsBits}
 use Rattle.acn_ints.proofs.Orders.{octets_of, length-octets_of, bits-octets_of, octets_below, in_order_bits, signed_high}

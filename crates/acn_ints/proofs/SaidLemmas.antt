@@ -4,13 +4,13 @@ use Rattle.std.specs.Prelude.{IfErr, OnErr, Some}
 use Rattle.std.proofs.lemmas.List.{length-take-le}
 use Rattle.acn_bits.specs.Reading.{Reading, passed}
 use Rattle.acn_num.specs.Ranges.{In}
-use Rattle.acn_tree.specs.Code.{Code, Any, CodingCode, image_of}
-use Rattle.acn_tree.specs.LeafFails.{CodingFails, FixedFails, Reason, says, wrong, out_of_range, most_digits}
-use Rattle.acn_tree.specs.Images.{images_of}
-use Rattle.acn_tree.specs.ReadFaults.{reason_of}
-use Rattle.acn_tree.specs.declared.read_fault.ReadFault.{ReadFault}
-use Rattle.acn_tree.specs.declared.node.NumLeaf.{NumLeaf}
-use Rattle.acn_tree.specs.declared.node.NumCoding.{NumCoding}
+use Rattle.acn_grammar.specs.Code.{Code, Any, CodingCode, image_of}
+use Rattle.acn_grammar.specs.LeafFails.{CodingFails, FixedFails, Reason, says, wrong, out_of_range, most_digits}
+use Rattle.acn_grammar.specs.Images.{images_of}
+use Rattle.acn_grammar.specs.ReadFaults.{reason_of}
+use Rattle.acn_grammar.specs.declared.read_fault.ReadFault.{ReadFault}
+use Rattle.acn_grammar.specs.declared.node.NumLeaf.{NumLeaf}
+use Rattle.acn_grammar.specs.declared.node.NumCoding.{NumCoding}
 use Rattle.acn_ints.specs.declared.said.Said.{Said}
 use Rattle.acn_ints.specs.Reads.{Reads, Stays, IsSaid, Refuses}
 use Rattle.acn_ints.specs.FixedReads.{Taken, TooFew, FixedSaid, FixedWrong}

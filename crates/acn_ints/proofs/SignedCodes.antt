@@ -5,13 +5,13 @@ use Rattle.std.proofs.lemmas.List.{length-take-le, drop-take, take-take}
 use Rattle.acn_num.specs.Bits.{number, low_bits}
 use Rattle.acn_bits.specs.Reading.{Reading, passed}
 use Rattle.acn_bits.proofs.BitLists.{number_same}
-use Rattle.acn_tree.specs.Code.{Any, CodingCode, InMinimalDigits, SignOctet, digit_octets}
-use Rattle.acn_tree.specs.Images.{images_of}
-use Rattle.acn_tree.specs.LeafFails.{Reason, bad_digit, not_minimal, out_of_range, says, wrong, NoneHas, Positive, Negative, most_digits, EndedFails, AllDigits, value_of, octet_values, SignedWire}
-use Rattle.acn_tree.specs.ReadFaults.{reason_of}
-use Rattle.acn_tree.specs.declared.node.NumLeaf.{NumLeaf}
-use Rattle.acn_tree.specs.declared.node.NumCoding.TheVariants.{Ascii, AsciiEnded}
-use Rattle.acn_tree.specs.declared.read_fault.ReadFault.{ReadFault}
+use Rattle.acn_grammar.specs.Code.{Any, CodingCode, InMinimalDigits, SignOctet, digit_octets}
+use Rattle.acn_grammar.specs.Images.{images_of}
+use Rattle.acn_grammar.specs.LeafFails.{Reason, bad_digit, not_minimal, out_of_range, says, wrong, NoneHas, Positive, Negative, most_digits, EndedFails, AllDigits, value_of, octet_values, SignedWire}
+use Rattle.acn_grammar.specs.ReadFaults.{reason_of}
+use Rattle.acn_grammar.specs.declared.node.NumLeaf.{NumLeaf}
+use Rattle.acn_grammar.specs.declared.node.NumCoding.TheVariants.{Ascii, AsciiEnded}
+use Rattle.acn_grammar.specs.declared.read_fault.ReadFault.{ReadFault}
 use Rattle.acn_ints.specs.declared.said.Said.{Said}
 use Rattle.acn_ints.specs.EndedReads.{PassedEnded, EndedWrong, PassedSign, SignWrong, IsSignedValue, sign_code}
 use Rattle.acn_ints.specs.DigitReads.{groups, AreRead}

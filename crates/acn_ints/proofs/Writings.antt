@@ -7,10 +7,10 @@ use Rattle.acn_bits.specs.Writing.{Writes, place_of}
 use Rattle.acn_bits.specs.declared.write_cursor.WriteCursor.{WriteCursor}
 use Rattle.acn_bits.proofs.BitLists.{length-low_bits, number_below}
 use Rattle.acn_bits.proofs.Parts.{overwritten-append, length-overwritten}
-use Rattle.acn_tree.specs.Code.{Written, CodingCode, Counted}
-use Rattle.acn_tree.specs.Length.{least_octets, least_signed_octets}
+use Rattle.acn_grammar.specs.Code.{Written, CodingCode, Counted}
+use Rattle.acn_grammar.specs.Length.{least_octets, least_signed_octets}
 use Rattle.acn_ints.specs.Limits.{CanWrite}
-use Rattle.acn_tree.specs.declared.node.NumCoding.TheVariants.{CountedFrom, CountedSigned}
+use Rattle.acn_grammar.specs.declared.node.NumCoding.TheVariants.{CountedFrom, CountedSigned}
 use Rattle.acn_ints.specs.Pieces.{Puts}
 use Rattle.acn_ints.proofs.PieceLemmas.{low_is_number, low_same}
 use Rattle.acn_ints.proofs.CountedCodes.{least_octets_le, least_signed_le, signed_within}

@@ -3,8 +3,8 @@ use Rattle.std.specs.Prelude.{◌≡◌, ℕ, ◌+◌, ◌-◌, ◌<◌, ◌≤�
 use Rattle.std.specs.List.{AllByRecursion, flat_map}
 use Rattle.acn_num.specs.Bits.{number, low_bits}
 use Rattle.acn_bits.specs.Reading.{Reading, passed}
-use Rattle.acn_tree.specs.Code.{decimal_number, IsMinimal}
-use Rattle.acn_tree.specs.LeafFails.{Reason, short, bad_digit, too_long, EndAt}
+use Rattle.acn_grammar.specs.Code.{decimal_number, IsMinimal}
+use Rattle.acn_grammar.specs.LeafFails.{Reason, short, bad_digit, too_long, EndAt}
 use Rattle.acn_ints.specs.Reads.{Reads}
 use Rattle.acn_ints.specs.declared.ended.Character.{Character}
 use Rattle.acn_ints.specs.declared.ended.Character.TheVariants.{Digit, End}

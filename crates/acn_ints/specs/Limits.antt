@@ -1,9 +1,9 @@
 -- What a leaf must keep to be read and written here: widths, ends and tables that fit.
 use Rattle.std.specs.Prelude.{◌≡◌, ℕ, ◌*◌, ◌/◌, ◌-◌, ◌^◌, ◌%◌, ◌<◌, ◌≤◌, ℤ, pos, negsuc, neg_ℤ, ◌+ℤ◌, ◌<ℤ◌, ◌⊎◌, ◌≤ℤ◌, Bool, true, false, List, length, slice_index_or, Option, Some, None}
-use Rattle.acn_tree.specs.declared.node.NumLeaf.{NumLeaf}
-use Rattle.acn_tree.specs.declared.node.NumCoding.{NumCoding}
-use Rattle.acn_tree.specs.declared.node.NumCoding.TheVariants.{Range, CountedFrom, CountedSigned, PosInt, Twos, Bcd, BcdEnded, Ascii, AsciiEnded, Flag, Fixed}
-use Rattle.acn_tree.specs.declared.node.Table.{Table}
+use Rattle.acn_grammar.specs.declared.node.NumLeaf.{NumLeaf}
+use Rattle.acn_grammar.specs.declared.node.NumCoding.{NumCoding}
+use Rattle.acn_grammar.specs.declared.node.NumCoding.TheVariants.{Range, CountedFrom, CountedSigned, PosInt, Twos, Bcd, BcdEnded, Ascii, AsciiEnded, Flag, Fixed}
+use Rattle.acn_grammar.specs.declared.node.Table.{Table}
 
 -- between -2^70 and 2^70, where sums of a few fit 128 bits
 abbrev pub IsNear : ℤ → Type 0

@@ -4,11 +4,11 @@ use Rattle.acn_num.specs.Bits.{low_bits, number}
 use Rattle.acn_num.specs.Ranges.{In}
 use Rattle.acn_bits.specs.Writing.{Writes, place_of}
 use Rattle.acn_bits.specs.declared.write_cursor.WriteCursor.{WriteCursor}
-use Rattle.acn_tree.specs.Code.{Written, CodingCode, image_of}
-use Rattle.acn_tree.specs.Length.{coding_length}
+use Rattle.acn_grammar.specs.Code.{Written, CodingCode, image_of}
+use Rattle.acn_grammar.specs.Length.{coding_length}
 use Rattle.acn_ints.specs.Limits.{CanWrite}
-use Rattle.acn_tree.specs.declared.node.NumLeaf.{NumLeaf}
-use Rattle.acn_tree.specs.declared.node.NumCoding.{NumCoding}
+use Rattle.acn_grammar.specs.declared.node.NumLeaf.{NumLeaf}
+use Rattle.acn_grammar.specs.declared.node.NumCoding.{NumCoding}
 use Rattle.acn_ints.specs.Limits.{IsNear}
 
 -- a permitted number, and what is written for it, which the coding can write

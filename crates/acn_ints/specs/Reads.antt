@@ -1,10 +1,10 @@
 -- What reading a number leaf gives.
 use Rattle.std.specs.Prelude.{◌≡◌, ℕ, ◌+◌, ℤ, Bool, List, ◌++◌, length}
 use Rattle.acn_bits.specs.Reading.{Reading}
-use Rattle.acn_tree.specs.Code.{Any, CodingCode}
-use Rattle.acn_tree.specs.LeafFails.{NoneHas, Reason, LeafFails, CodingFails, out_of_range}
-use Rattle.acn_tree.specs.declared.node.NumLeaf.{NumLeaf}
-use Rattle.acn_tree.specs.declared.node.NumCoding.{NumCoding}
+use Rattle.acn_grammar.specs.Code.{Any, CodingCode}
+use Rattle.acn_grammar.specs.LeafFails.{NoneHas, Reason, LeafFails, CodingFails, out_of_range}
+use Rattle.acn_grammar.specs.declared.node.NumLeaf.{NumLeaf}
+use Rattle.acn_grammar.specs.declared.node.NumCoding.{NumCoding}
 
 -- the reader has passed exactly a front that has the property
 pub record Reads (P : List Bool → Type 0) (old new : Reading) : Type 0 where

@@ -1,9 +1,9 @@
 ghost use Rattle.std.specs.Prelude.{◌≡◌, ◌≤◌, ◌<◌, ◌^◌, ◌*◌, ◌&&◌, int_le, int_lt, neg_ℤ, pos, ℕ, ℤ, IfOk, IfErr, OnErr};
-ghost use Rattle.acn_tree.specs.declared.node.NumLeaf.{NumLeaf};
-ghost use Rattle.acn_tree.specs.declared.node.NumCoding.TheVariants.{CountedFrom, CountedSigned, Twos};
-ghost use Rattle.acn_tree.specs.Length.{least_octets, least_signed_octets};
+ghost use Rattle.acn_grammar.specs.declared.node.NumLeaf.{NumLeaf};
+ghost use Rattle.acn_grammar.specs.declared.node.NumCoding.TheVariants.{CountedFrom, CountedSigned, Twos};
+ghost use Rattle.acn_grammar.specs.Length.{least_octets, least_signed_octets};
 ghost use Rattle.acn_ints.specs.Limits.{CanWrite};
-ghost use Rattle.acn_tree.specs.ReadFaults.{reason_of};
+ghost use Rattle.acn_grammar.specs.ReadFaults.{reason_of};
 ghost use Rattle.acn_ints.specs.Limits.{IsNear, IsEnd};
 ghost use Rattle.acn_ints.specs.FixedReads.{Taken};
 ghost use Rattle.acn_ints.specs.Reads.{Stays, IsSaid, Refuses};
@@ -13,7 +13,7 @@ use crate::fixed::bits_of;
 use crate::ordered::twos;
 use crate::said::Said;
 use acn_bits::ReadCursor;
-use acn_tree::ReadFault;
+use acn_grammar::ReadFault;
 
 /// The least count of octets that holds the number, at least 1.
 pub fn octets_for(v: u64) -> u32

@@ -1,9 +1,9 @@
 ghost use Rattle.std.specs.Prelude.{◌≡◌, ◌+◌, ◌-◌, ◌*◌, ◌/◌, ◌%◌, ◌^◌, ◌<◌, ◌≤◌, ℤ, pos, length, true, false, nat_abs, int_lt};
 ghost use Rattle.acn_bits.specs.Writing.{place_of, Writes};
 ghost use Rattle.acn_num.specs.Bits.{low_bits};
-ghost use Rattle.acn_tree.specs.Code.{Written, CodingCode};
-ghost use Rattle.acn_tree.specs.Length.{coding_length, digit_count};
-ghost use Rattle.acn_tree.specs.declared.node.NumCoding.TheVariants.{Bcd, BcdEnded, Ascii, AsciiEnded};
+ghost use Rattle.acn_grammar.specs.Code.{Written, CodingCode};
+ghost use Rattle.acn_grammar.specs.Length.{coding_length, digit_count};
+ghost use Rattle.acn_grammar.specs.declared.node.NumCoding.TheVariants.{Bcd, BcdEnded, Ascii, AsciiEnded};
 ghost use Rattle.acn_ints.specs.DigitWrites.{low_digits};
 ghost use Rattle.acn_ints.specs.EndedReads.{digit_codes, sign_code};
 ghost use Rattle.acn_ints.specs.Limits.{CanWrite, DigitsFit, SignedDigitsFit, EndFits};
@@ -12,7 +12,7 @@ ghost use Rattle.acn_ints.specs.Pieces.{Puts};
 use crate::most::digits_of;
 use crate::ordered::pattern_number;
 use acn_bits::WriteCursor;
-use acn_tree::Pattern;
+use acn_grammar::Pattern;
 
 /// The power of ten.
 fn power_of_ten(n: u32) -> u64

@@ -1,14 +1,14 @@
 ghost use Rattle.std.specs.Prelude.{◌≡◌, ◌+◌, ◌-◌, ◌*◌, MatchOption, ◌<◌, ◌≤◌, ◌^◌, ◌∷◌, [], ◌++◌, List, ℕ, true, length, take, drop, IfOk, IfErr, OnOk, OnErr};
 ghost use Rattle.acn_num.specs.Bits.{number};
-ghost use Rattle.acn_tree.specs.Code.{IsMinimal};
-ghost use Rattle.acn_tree.specs.ReadFaults.{reason_of};
+ghost use Rattle.acn_grammar.specs.Code.{IsMinimal};
+ghost use Rattle.acn_grammar.specs.ReadFaults.{reason_of};
 ghost use Rattle.acn_ints.specs.EndedReads.{AreSoFar, PassedCharacter, PassedRest, PassedEnded, RestWrong, CharacterWrong, EndedWrong};
 ghost use Rattle.acn_ints.specs.Reads.{Stays};
 
 use crate::fixed::bits_of;
 use crate::ordered::pattern_number;
 use acn_bits::ReadCursor;
-use acn_tree::ReadFault;
+use acn_grammar::ReadFault;
 
 /// What stands at one place of an ended number.
 #[derive(Clone, Copy, Debug, PartialEq, Eq)]

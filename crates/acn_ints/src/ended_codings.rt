@@ -1,9 +1,9 @@
 ghost use Rattle.std.specs.Prelude.{◌≡◌, ◌≤◌, ◌<◌, ◌^◌, true, false, length, IfOk, IfErr, OnErr};
-ghost use Rattle.acn_tree.specs.Images.{images_of};
-ghost use Rattle.acn_tree.specs.LeafFails.{most_digits};
-ghost use Rattle.acn_tree.specs.ReadFaults.{reason_of};
-ghost use Rattle.acn_tree.specs.declared.node.NumLeaf.{NumLeaf};
-ghost use Rattle.acn_tree.specs.declared.node.NumCoding.TheVariants.{BcdEnded, Ascii, AsciiEnded};
+ghost use Rattle.acn_grammar.specs.Images.{images_of};
+ghost use Rattle.acn_grammar.specs.LeafFails.{most_digits};
+ghost use Rattle.acn_grammar.specs.ReadFaults.{reason_of};
+ghost use Rattle.acn_grammar.specs.declared.node.NumLeaf.{NumLeaf};
+ghost use Rattle.acn_grammar.specs.declared.node.NumCoding.TheVariants.{BcdEnded, Ascii, AsciiEnded};
 ghost use Rattle.acn_ints.specs.EndedReads.{PassedSign, SignWrong, IsSignedValue};
 ghost use Rattle.acn_ints.specs.FixedReads.{FixedSaid, FixedWrong};
 ghost use Rattle.acn_ints.specs.Limits.{IsNear, SignedDigitsFit, EndFits};
@@ -14,7 +14,7 @@ use crate::ended::{Ended, read_ended};
 use crate::fixed::bits_of;
 use crate::said::Said;
 use acn_bits::ReadCursor;
-use acn_tree::{Pattern, ReadFault};
+use acn_grammar::{Pattern, ReadFault};
 
 /// Whether a minus stands next, or a plus.
 fn take_sign(cur: &mut ReadCursor<'_>) -> Result<bool, ReadFault>

@@ -1,11 +1,11 @@
 ghost use Rattle.std.specs.Prelude.{◌≡◌, ℕ, ◌<◌, ◌^◌, ℤ, ◌+ℤ◌, ◌-ℤ◌, IfSome, IfNone, IsTrue, ◌↔◌, MatchBool, true, length};
 ghost use Rattle.acn_num.specs.Ranges.{In};
-ghost use Rattle.acn_tree.specs.Code.{on_line, image_in, image_of, item_number};
-ghost use Rattle.acn_tree.specs.LeafFails.{NoneHas};
+ghost use Rattle.acn_grammar.specs.Code.{on_line, image_in, image_of, item_number};
+ghost use Rattle.acn_grammar.specs.LeafFails.{NoneHas};
 ghost use Rattle.acn_ints.specs.Limits.{IsNear, AreNear, IsNearTable};
 
+use acn_grammar::NumLeaf;
 use acn_num::{Name, RangeSet};
-use acn_tree::NumLeaf;
 
 type Line = (i128, i128, i128);
 

@@ -1,13 +1,13 @@
 ghost use Rattle.std.specs.Prelude.{◌≡◌, ◌≤◌, ◌<◌, ◌^◌, ◌-◌, max, false, nat_abs, ℕ, ℤ, length, List, Some, None};
 ghost use Rattle.std.specs.List.{flat_map};
 ghost use Rattle.std.specs.Int.{int_max, int_min};
-ghost use Rattle.acn_tree.specs.Images.{clipped, images_by, images_of};
-ghost use Rattle.acn_tree.specs.LeafFails as spec;
-ghost use Rattle.acn_tree.specs.Length.{digit_count};
+ghost use Rattle.acn_grammar.specs.Images.{clipped, images_by, images_of};
+ghost use Rattle.acn_grammar.specs.LeafFails as spec;
+ghost use Rattle.acn_grammar.specs.Length.{digit_count};
 ghost use Rattle.acn_ints.specs.Limits.{IsNear, AreNear, ArePairsNear, IsNearTable};
 
 use crate::known::moved;
-use acn_tree::NumLeaf;
+use acn_grammar::NumLeaf;
 
 type Line = (i128, i128, i128);
 

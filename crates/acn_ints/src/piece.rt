@@ -1,13 +1,13 @@
 ghost use Rattle.std.specs.Prelude.{◌≡◌, ◌<◌, ◌≤◌, ◌^◌, length, ℕ, ℤ, pos, ◌⊎◌, Bool, List};
-ghost use Rattle.acn_tree.specs.declared.node.NumCoding.TheVariants.{Range, PosInt, Twos, Flag, Fixed};
+ghost use Rattle.acn_grammar.specs.declared.node.NumCoding.TheVariants.{Range, PosInt, Twos, Flag, Fixed};
 ghost use Rattle.acn_num.specs.Bits.{number, signed_number, IsNumber};
-ghost use Rattle.acn_tree.specs.Code.{opposite};
+ghost use Rattle.acn_grammar.specs.Code.{opposite};
 ghost use Rattle.acn_ints.specs.Limits.{CanWrite};
 ghost use Rattle.acn_ints.specs.Limits.{IsEnd, OrderFits, PatternsFit};
 ghost use Rattle.acn_ints.specs.Pieces.{IsPiece, IsBits};
 
 use crate::ordered::{ordered, pattern_number};
-use acn_tree::Pattern;
+use acn_grammar::Pattern;
 
 /// A code of at most 64 bits: the lowest bits of a value.
 #[derive(Clone, Copy, Debug, PartialEq, Eq)]

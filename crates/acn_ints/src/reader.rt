@@ -1,7 +1,7 @@
 ghost use Rattle.std.specs.Prelude.{◌≡◌, IsTrue, IfOk, IfErr, OnErr};
-ghost use Rattle.acn_tree.specs.Leaves.{num_fine};
-ghost use Rattle.acn_tree.specs.Code.{Code, Any};
-ghost use Rattle.acn_tree.specs.ReadFaults.{reason_of};
+ghost use Rattle.acn_grammar.specs.Leaves.{num_fine};
+ghost use Rattle.acn_grammar.specs.Code.{Code, Any};
+ghost use Rattle.acn_grammar.specs.ReadFaults.{reason_of};
 ghost use Rattle.acn_ints.specs.Limits.{LeafFits, IsNear};
 ghost use Rattle.acn_ints.specs.Reads.{Reads, Stays, IsSaid, Refuses, Refused};
 
@@ -15,7 +15,7 @@ use crate::known::{item_count, number_of};
 use crate::most::most_digits;
 use crate::said::Said;
 use acn_bits::ReadCursor;
-use acn_tree::{NumCoding, NumLeaf, ReadFault};
+use acn_grammar::{NumCoding, NumLeaf, ReadFault};
 
 /// What the next bits say by the leaf's coding.
 fn read_coding(cur: &mut ReadCursor<'_>, leaf: &NumLeaf) -> Result<Said, ReadFault>

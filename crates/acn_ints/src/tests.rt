@@ -1,11 +1,11 @@
 ghost use Rattle.std.specs.Prelude.{◌≡◌, ◌≤◌, ◌*◌, ◌∷◌, [], IfOk, IsTrue, length, pos, false, None, ◌≤ℤ◌};
 ghost use Rattle.acn_num.specs.Ranges.{bottom, top};
-ghost use Rattle.acn_tree.specs.Leaves.{num_fine};
+ghost use Rattle.acn_grammar.specs.Leaves.{num_fine};
 
 use super::*;
 use acn_bits::{ReadCursor, WriteCursor};
+use acn_grammar::{Items, NumCoding, NumKind, NumLeaf, Pattern, ReadFault, Table};
 use acn_num::{BitList, Name, NoMemory, RangeSet, Row};
-use acn_tree::{Items, NumCoding, NumKind, NumLeaf, Pattern, ReadFault, Table};
 use std::alloc::Global;
 use std::test::Fail;
 
@@ -209,6 +209,30 @@ fn reads_and_lists_patterns(rt: HostRuntime) -> Result<(), Fail> {
     let leaf = plain(rt.alloc(), NumKind::Null, 0, 0, fixed, false)?;
     assert!(rt; read(&leaf, &[0xc0]) == Ok(0));
     assert!(rt; read(&leaf, &[0x40]) == Err(ReadFault::BadPattern));
+    Ok(())
+}
+
+#[test]
+fn reads_and_lists_the_index_of_an_item(rt: HostRuntime) -> Result<(), Fail> {
+    let mut items = Row::new(rt.alloc());
+    items.push((Name::copy(rt.alloc(), b"b")?, 0i128))?;
+    items.push((Name::copy(rt.alloc(), b"c")?, 1i128))?;
+    items.push((Name::copy(rt.alloc(), b"a")?, 5i128))?;
+    let leaf = NumLeaf {
+        kind: NumKind::Enumerated,
+        set: RangeSet::one(rt.alloc(), 0, 2)?,
+        coding: NumCoding::Range { low: 0, width: 2 },
+        little: false,
+        table: None,
+        items: Items {
+            items,
+            values: false,
+        },
+    };
+    let list = list_num(rt.alloc(), &leaf, 2)?;
+    assert!(rt; is_list(&list, 2, &[0x80]));
+    assert!(rt; read(&leaf, &[0x80]) == Ok(2));
+    assert!(rt; read(&leaf, &[0xc0]) == Err(ReadFault::OutOfRange { wire: 3 }));
     Ok(())
 }
 

@@ -2,11 +2,11 @@ ghost use Rattle.std.specs.Prelude.{◌≡◌, ◌+◌, ◌*◌, ◌^◌, ◌<�
 ghost use Rattle.acn_bits.specs.Writing.{place_of, Writes};
 ghost use Rattle.acn_num.specs.Bits.{low_bits};
 ghost use Rattle.acn_num.specs.Ranges.{In};
-ghost use Rattle.acn_tree.specs.Interval.{width_of};
-ghost use Rattle.acn_tree.specs.Leaves.{num_fine};
-ghost use Rattle.acn_tree.specs.declared.node.NumCoding.TheVariants.{CountedFrom, CountedSigned};
-ghost use Rattle.acn_tree.specs.Code.{Code, Written, CodingCode};
-ghost use Rattle.acn_tree.specs.Length.{coding_length, num_length};
+ghost use Rattle.acn_grammar.specs.Interval.{width_of};
+ghost use Rattle.acn_grammar.specs.Leaves.{num_fine};
+ghost use Rattle.acn_grammar.specs.declared.node.NumCoding.TheVariants.{CountedFrom, CountedSigned};
+ghost use Rattle.acn_grammar.specs.Code.{Code, Written, CodingCode};
+ghost use Rattle.acn_grammar.specs.Length.{coding_length, num_length};
 ghost use Rattle.acn_ints.specs.Limits.{CanWrite, LeafFits, IsEnd};
 ghost use Rattle.acn_ints.specs.Pieces.{CanCode, Puts};
 
@@ -19,7 +19,7 @@ use crate::piece::{
     Piece, flag_piece, pattern_piece, range_piece, twos_piece, unsigned_piece, wrapped,
 };
 use acn_bits::WriteCursor;
-use acn_tree::{NumCoding, NumLeaf};
+use acn_grammar::{NumCoding, NumLeaf};
 
 /// Writes a code of at most 64 bits.
 fn put_piece<const N: usize>(cur: &mut WriteCursor<'_, N>, piece: Piece)

@@ -7,12 +7,12 @@ use Rattle.std.proofs.lemmas.Int.{ints}
 use Rattle.acn_num.specs.Bits.{number, octets}
 use Rattle.acn_num.specs.Ranges.{In}
 use Rattle.acn_num.proofs.Members.{le_true, true_le}
-use Rattle.acn_tree.specs.Grammar.{Grammar, Data, Places, int, boolean, item, null, octet_string, bit_string, characters, record_of, list_of, alt, no_places, empty, filled, node, num, seq}
-use Rattle.acn_tree.specs.Code.{Any, Code, NumberOf}
-use Rattle.acn_tree.specs.Env.{Env}
-use Rattle.acn_tree.specs.Front.{Front}
-use Rattle.acn_tree.specs.Length.{presence_bits}
-use Rattle.acn_tree.specs.Spell.{Spell, FieldsPart, FormPart}
+use Rattle.acn_grammar.specs.Grammar.{Grammar, Data, Places, int, boolean, item, null, octet_string, bit_string, characters, record_of, list_of, alt, no_places, empty, filled, node, num, seq}
+use Rattle.acn_grammar.specs.Code.{Any, Code, NumberOf}
+use Rattle.acn_grammar.specs.Env.{Env}
+use Rattle.acn_grammar.specs.Front.{Front}
+use Rattle.acn_grammar.specs.Length.{presence_bits}
+use Rattle.acn_grammar.specs.Spell.{Spell, FieldsPart, FormPart}
 use Rattle.acn_run.specs.declared.components.Component.{Component}
 use Rattle.acn_run.specs.Packet.{leaf_of, fields_of, grammar_of, places_of, value_of, width_of, offset_of, fits, numbers_of}
 

@@ -9,19 +9,19 @@ use Rattle.std.proofs.lemmas.Int.{ints}
 use Rattle.std.proofs.Math.ListN.{drop_of_length-le}
 use Rattle.acn_num.specs.Bits.{is_least_width}
 use Rattle.acn_num.specs.Ranges.{distance}
-use Rattle.acn_tree.specs.Asks.{same_name}
-use Rattle.acn_tree.specs.Grammar.{Grammar, Fields, node, num, seq}
-use Rattle.acn_tree.specs.View as view
-use Rattle.acn_tree.proofs.Views.{view_component}
-use Rattle.acn_tree.specs.declared.node.Body.{Body, Num as Num_body, Seq as Seq_body, the_lemmas as node_lemmas}
-use Rattle.acn_tree.specs.declared.node.Field.{Field, Component as Component_field}
-use Rattle.acn_tree.specs.declared.node.Node.{Node, roll-Node}
-use Rattle.acn_tree.specs.declared.node.NumLeaf.{NumLeaf}
-use Rattle.acn_tree.specs.declared.node.Seq.{roll-Seq}
-use Rattle.acn_tree.specs.declared.node.Presence.TheVariants.{Always}
-use Rattle.acn_tree.specs.Leaves.{num_fine, all_differ}
-use Rattle.acn_tree.specs.Tree.{is_tree, field_names, slots_of, stand_rules, all_true}
-use Rattle.acn_tree.specs.Walk.{Stand, field_nodes, nodes_of}
+use Rattle.acn_grammar.specs.Asks.{same_name}
+use Rattle.acn_grammar.specs.Grammar.{Grammar, Fields, node, num, seq}
+use Rattle.acn_grammar.specs.View as view
+use Rattle.acn_grammar.proofs.Views.{view_component}
+use Rattle.acn_grammar.specs.declared.node.Body.{Body, Num as Num_body, Seq as Seq_body, the_lemmas as node_lemmas}
+use Rattle.acn_grammar.specs.declared.node.Field.{Field, Component as Component_field}
+use Rattle.acn_grammar.specs.declared.node.Node.{Node, roll-Node}
+use Rattle.acn_grammar.specs.declared.node.NumLeaf.{NumLeaf}
+use Rattle.acn_grammar.specs.declared.node.Seq.{roll-Seq}
+use Rattle.acn_grammar.specs.declared.node.Presence.TheVariants.{Always}
+use Rattle.acn_grammar.specs.Leaves.{num_fine, all_differ}
+use Rattle.acn_grammar.specs.Tree.{is_tree, field_names, slots_of, stand_rules, all_true}
+use Rattle.acn_grammar.specs.Walk.{Stand, field_nodes, nodes_of}
 use Rattle.acn_run.specs.declared.components.Component.{Component}
 use Rattle.acn_run.specs.Form.{width_from, least_width, IsComponent, has_name, names_differ, has_bits, are_fit}
 use Rattle.acn_run.specs.Packet.{leaf_of, field_of, fields_of, grammar_of}

@@ -2,8 +2,8 @@
 use Rattle.std.proofs.Common.{◌≡◌, ℕ, List, [], ◌∷◌, ◌++◌, Option, None, Some, length, take, drop, subst, sym, ap, refl, ◌∙◌, arith, take-append-drop, length-take, append_assoc, append-nil}
 use Rattle.std.proofs.lemmas.Grind.{flat_map-append}
 use Rattle.acn_num.specs.Bits.{bits, octets}
-use Rattle.acn_tree.specs.Grammar.{Grammar, Data}
-use Rattle.acn_tree.specs.Front.{Front}
+use Rattle.acn_grammar.specs.Grammar.{Grammar, Data}
+use Rattle.acn_grammar.specs.Front.{Front}
 use Rattle.acn_outside.specs.Moves.{Gains}
 use Rattle.acn_outside.specs.Whole.{GainsFront}
 use Rattle.acn_outside.proofs.Joined.{gains_more}

@@ -1,6 +1,6 @@
 -- How decoding ends.
 use Rattle.std.specs.Prelude.{◌≡◌, ℕ, ◌<◌, List, [], length, Option, Result, Ok, Err}
-use Rattle.acn_tree.specs.Grammar.{Grammar}
+use Rattle.acn_grammar.specs.Grammar.{Grammar}
 use Rattle.acn_outside.specs.Moves.{Gains}
 use Rattle.acn_outside.specs.Whole.{GainsFront}
 use Rattle.acn_run.specs.Recording.{Decoded, IsStuck}

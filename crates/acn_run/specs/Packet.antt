@@ -1,12 +1,12 @@
 -- The grammar of the form, and the numbers that bits spell in it.
 use Rattle.std.specs.Prelude.{ℕ, ◌+◌, pos, false, Bool, nat_le, ◌&&◌, List, [], ◌∷◌, length, take, drop, Option, Some, None, option_map, if◌then◌else◌, Result, Ok, Err}
 use Rattle.acn_num.specs.Bits.{number}
-use Rattle.acn_tree.specs.Grammar.{Grammar, Fields, Data, Places, node, num, seq, no_fields, component, int, record_of, no_places, filled}
-use Rattle.acn_tree.specs.View.{OneField, a_component}
-use Rattle.acn_tree.specs.declared.node.NumLeaf.{NumLeaf}
-use Rattle.acn_tree.specs.declared.node.NumKind.TheVariants.{Integer}
-use Rattle.acn_tree.specs.declared.node.NumCoding.TheVariants.{Range}
-use Rattle.acn_tree.specs.declared.node.Presence.TheVariants.{Always}
+use Rattle.acn_grammar.specs.Grammar.{Grammar, Fields, Data, Places, node, num, seq, no_fields, component, int, record_of, no_places, filled}
+use Rattle.acn_grammar.specs.View.{OneField, a_component}
+use Rattle.acn_grammar.specs.declared.node.NumLeaf.{NumLeaf}
+use Rattle.acn_grammar.specs.declared.node.NumKind.TheVariants.{Integer}
+use Rattle.acn_grammar.specs.declared.node.NumCoding.TheVariants.{Range}
+use Rattle.acn_grammar.specs.declared.node.Presence.TheVariants.{Always}
 use Rattle.acn_run.specs.declared.components.Component.{Component}
 use Rattle.acn_run.specs.declared.packet.NoPacket.{NoPacket}
 use Rattle.acn_run.specs.declared.packet.NoPacket.TheVariants.{Refused, NoMemory}

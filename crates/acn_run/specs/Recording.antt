@@ -1,8 +1,8 @@
 -- Recordings of packets, and what is written for them.
 use Rattle.std.specs.Prelude.{◌≡◌, ℕ, ◌<◌, ◌≤◌, List, [], ◌∷◌, ◌++◌, length}
 use Rattle.acn_num.specs.Bits.{bits, octets}
-use Rattle.acn_tree.specs.Grammar.{Grammar, Data}
-use Rattle.acn_tree.specs.Front.{Front}
+use Rattle.acn_grammar.specs.Grammar.{Grammar, Data}
+use Rattle.acn_grammar.specs.Front.{Front}
 use Rattle.acn_run.specs.Text.{line_of, lines_of}
 
 -- The bytes are joined pieces, one for each value, and a rest. Each piece has the octets of a front of it and what follows.

@@ -4,8 +4,8 @@ use Rattle.acn_outside.specs.Moves.{Takes, IsUsedUp}
 use Rattle.acn_outside.specs.Whole.{IsWhole, IsTooLong}
 use Rattle.acn_outside.specs.declared.whole.WholeFault.{WholeFault}
 use Rattle.acn_outside.specs.declared.whole.WholeFault.TheVariants as whole
-use Rattle.acn_tree.specs.Grammar.{Grammar}
-use Rattle.acn_tree.specs.Tree.{IsTree}
+use Rattle.acn_grammar.specs.Grammar.{Grammar}
+use Rattle.acn_grammar.specs.Tree.{IsTree}
 use Rattle.acn_run.specs.declared.components.Component.{Component}
 use Rattle.acn_run.specs.declared.input.InputFault.{InputFault}
 use Rattle.acn_run.specs.declared.input.InputFault.TheVariants as input

@@ -2,7 +2,7 @@
 use Rattle.std.specs.Prelude.{ℕ, Bool, true, false, nat_lt, nat_eq, ◌&&◌, ◌||◌, List, [], ◌∷◌, ◌++◌, if◌then◌else◌}
 use Rattle.std.specs.List.{flat_map}
 use Rattle.std.specs.Fmt.{signed_decimal}
-use Rattle.acn_tree.specs.Grammar.{Grammar, Form, Fields, Data, Places, node, num, seq, component, inserted, int, record_of, filled, empty}
+use Rattle.acn_grammar.specs.Grammar.{Grammar, Form, Fields, Data, Places, node, num, seq, component, inserted, int, record_of, filled, empty}
 
 -- byte order
 abbrev pub comes_before : List ℕ → List ℕ → Bool

@@ -1,8 +1,8 @@
 ghost use Rattle.std.specs.Prelude.{◌≡◌, ◌<◌, ◌≤◌, ◌++◌, ℕ, List, true, [], length, IfOk, OnOk, OnErr, IsErrOf, Option};
 ghost use Rattle.std.specs.List.{AllByRecursion};
 ghost use Rattle.acn_num.specs.Bits.{bits};
-ghost use Rattle.acn_tree.specs.Front.{Front};
-ghost use Rattle.acn_tree.specs.Grammar.{Data};
+ghost use Rattle.acn_grammar.specs.Front.{Front};
+ghost use Rattle.acn_grammar.specs.Grammar.{Data};
 ghost use Rattle.acn_outside.specs.Counts.{Rose};
 ghost use Rattle.acn_outside.specs.Moves.{Gains};
 ghost use Rattle.acn_run.specs.Form.{IsComponent, has_bits};

@@ -1,6 +1,6 @@
 ghost use Rattle.std.specs.Prelude.{◌≡◌, true, IfOk};
 ghost use Rattle.std.specs.List.{AllByRecursion};
-ghost use Rattle.acn_tree.specs.View as view;
+ghost use Rattle.acn_grammar.specs.View as view;
 ghost use Rattle.acn_run.specs.Form.{IsComponent, are_fit};
 ghost use Rattle.acn_run.specs.Packet as spec;
 

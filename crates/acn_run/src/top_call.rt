@@ -1,7 +1,7 @@
 ghost use Rattle.std.specs.Prelude.{◌≡◌, ◌↔◌, ◌⊎◌, ◌≤◌, List, ℕ, [], true, false, length, map, string_bytes, IfOk, OnOk, IsErrOf};
 ghost use Rattle.std.specs.List.{AllByRecursion};
 ghost use Rattle.acn_outside.specs.Counts.{Rose};
-ghost use Rattle.acn_tree.specs.View as view;
+ghost use Rattle.acn_grammar.specs.View as view;
 ghost use Rattle.acn_run.specs.Form.{IsComponent, are_fit, has_bits};
 ghost use Rattle.acn_run.specs.Packet.{grammar_of};
 ghost use Rattle.acn_run.specs.Words.{is_decode, module_word, type_word, file_word};

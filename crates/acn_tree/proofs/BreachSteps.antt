@@ -3,20 +3,20 @@ use Rattle.std.proofs.Common.{◌≡◌, ℕ, zero, suc, ◌+◌, ◌^◌, ◌<�
 use Rattle.std.proofs.lemmas.Bool.Decides.{nat_tests}
 use Rattle.std.proofs.lemmas.List.{drop_more, drop_all}
 use Rattle.acn_tree.specs.Breaches.{first, why_of, place_breaches}
-use Rattle.acn_tree.specs.Grammar.{Grammar, Data, element_count, node, list, list_of}
-use Rattle.acn_tree.specs.Meets.{Unfit, Why, at_path, size_breach, first_of, breaches, run_breaches, form_breaches, field_breaches, alternative_breaches}
+use Rattle.acn_grammar.specs.Grammar.{Grammar, Data, element_count, node, list, list_of}
+use Rattle.acn_grammar.specs.Meets.{Unfit, Why, at_path, size_breach, first_of, breaches, run_breaches, form_breaches, field_breaches, alternative_breaches}
 use Rattle.acn_tree.specs.Room.{HasRoom, FieldsHaveRoom, AlternativesHaveRoom, field_count}
-use Rattle.acn_tree.specs.View.{OneField, alternative_of, a_component, an_inserted, with_field, data_of, grammar_of, form_of, field_of, fields_view, places_view, elements_view, alternatives_view}
+use Rattle.acn_grammar.specs.View.{OneField, alternative_of, a_component, an_inserted, with_field, data_of, grammar_of, form_of, field_of, fields_view, places_view, elements_view, alternatives_view}
 use Rattle.acn_tree.specs.declared.breach.Breach.{Breach}
-use Rattle.acn_tree.specs.declared.node.Alternative.{Alternative}
-use Rattle.acn_tree.specs.declared.node.Body.{Seq as Seq_body, List as List_body, the_lemmas as node_lemmas}
-use Rattle.acn_tree.specs.declared.node.Field.{Field, Component, Inserted}
-use Rattle.acn_tree.specs.declared.node.Sizing.{Sizing}
-use Rattle.acn_tree.specs.declared.node.Node.{Node}
-use Rattle.acn_tree.specs.declared.node.Presence.{Presence}
-use Rattle.acn_tree.specs.declared.node.Seq.{Seq as SeqNode}
-use Rattle.acn_tree.specs.declared.value.Value.{Value, List as List_value, the_lemmas as value_lemmas}
-use Rattle.acn_tree.proofs.Views.{view_node, view_seq_form, view_component, view_inserted}
+use Rattle.acn_grammar.specs.declared.node.Alternative.{Alternative}
+use Rattle.acn_grammar.specs.declared.node.Body.{Seq as Seq_body, List as List_body, the_lemmas as node_lemmas}
+use Rattle.acn_grammar.specs.declared.node.Field.{Field, Component, Inserted}
+use Rattle.acn_grammar.specs.declared.node.Sizing.{Sizing}
+use Rattle.acn_grammar.specs.declared.node.Node.{Node}
+use Rattle.acn_grammar.specs.declared.node.Presence.{Presence}
+use Rattle.acn_grammar.specs.declared.node.Seq.{Seq as SeqNode}
+use Rattle.acn_grammar.specs.declared.value.Value.{Value, List as List_value, the_lemmas as value_lemmas}
+use Rattle.acn_grammar.proofs.Views.{view_node, view_seq_form, view_component, view_inserted}
 
 -- The first of two lists in turn.
 

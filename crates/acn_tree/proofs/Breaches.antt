@@ -5,9 +5,9 @@ use Rattle.std.proofs.lemmas.Grind.{common_steps}
 use Rattle.std.proofs.lemmas.List.{drop_more, take_more, get_or-take, get_or-drop, drop-drop}
 use Rattle.std.proofs.Math.Nat.{pow-le-pow_right, pow-succ'}
 use Rattle.acn_num.specs.Bits.{number, weight}
-use Rattle.acn_tree.specs.Asks.{same_name}
-use Rattle.acn_tree.specs.Spell.{octet_numbers}
-use Rattle.acn_tree.proofs.Numbers.{number-below}
+use Rattle.acn_grammar.specs.Asks.{same_name}
+use Rattle.acn_grammar.specs.Spell.{octet_numbers}
+use Rattle.acn_grammar.proofs.Numbers.{number-below}
 
 -- two texts from a place on
 pub same_name-turn : (xs ys : List ℕ) (k : ℕ) → k < length xs → k < length ys → same_name (drop k xs) (drop k ys) ≡ (nat_eq (get_or xs k 0) (get_or ys k 0) && same_name (drop (k + 1) xs) (drop (k + 1) ys))

@@ -1,19 +1,19 @@
 -- In a well-formed tree every number leaf keeps its rules, and so it is in the parts of a grammar that keeps them.
 use Rattle.std.proofs.Common.{◌≡◌, ℕ, ◌+◌, ◌<◌, List, ◌∷◌, length, get_or, drop, Option, sym, ap, subst, ◌∙◌, rules}
 use Rattle.std.proofs.lemmas.List.{drop_more}
-use Rattle.acn_tree.specs.Grammar.{Grammar, Form, Fields, Alternatives, node, num, octets, bits, text, seq, list, choice, contained, no_fields, component, inserted, no_alternatives, alternative}
+use Rattle.acn_grammar.specs.Grammar.{Grammar, Form, Fields, Alternatives, node, num, octets, bits, text, seq, list, choice, contained, no_fields, component, inserted, no_alternatives, alternative}
 use Rattle.acn_tree.specs.KeptLeaves.{NumbersKept, FormKept, FieldKept, FieldsKept, AlternativesKept}
-use Rattle.acn_tree.specs.Tree.{IsTree}
-use Rattle.acn_tree.specs.View.{OneField, a_component, an_inserted, with_field, grammar_of, form_of, field_of, fields_view, alternative_of, alternatives_view}
-use Rattle.acn_tree.specs.declared.node.Alternative.{Alternative}
-use Rattle.acn_tree.specs.declared.node.Body.{Body, Seq as Seq_body, the_lemmas as node_lemmas}
-use Rattle.acn_tree.specs.declared.node.Field.{Field, Component, Inserted}
-use Rattle.acn_tree.specs.declared.node.Node.{Node}
-use Rattle.acn_tree.specs.declared.node.Presence.{Presence}
-use Rattle.acn_tree.specs.declared.node.Seq.{Seq as SeqNode}
-use Rattle.acn_tree.proofs.SpanLaw.{Fine, FormFine, FieldsFine, AlternativesFine}
-use Rattle.acn_tree.proofs.TreeRules.{tree_fine}
-use Rattle.acn_tree.proofs.Views.{view_node, view_seq_form, view_component, view_inserted}
+use Rattle.acn_grammar.specs.Tree.{IsTree}
+use Rattle.acn_grammar.specs.View.{OneField, a_component, an_inserted, with_field, grammar_of, form_of, field_of, fields_view, alternative_of, alternatives_view}
+use Rattle.acn_grammar.specs.declared.node.Alternative.{Alternative}
+use Rattle.acn_grammar.specs.declared.node.Body.{Body, Seq as Seq_body, the_lemmas as node_lemmas}
+use Rattle.acn_grammar.specs.declared.node.Field.{Field, Component, Inserted}
+use Rattle.acn_grammar.specs.declared.node.Node.{Node}
+use Rattle.acn_grammar.specs.declared.node.Presence.{Presence}
+use Rattle.acn_grammar.specs.declared.node.Seq.{Seq as SeqNode}
+use Rattle.acn_grammar.proofs.SpanLaw.{Fine, FormFine, FieldsFine, AlternativesFine}
+use Rattle.acn_grammar.proofs.TreeRules.{tree_fine}
+use Rattle.acn_grammar.proofs.Views.{view_node, view_seq_form, view_component, view_inserted}
 
 mutual
   kept : (g : Grammar) → Fine g → NumbersKept g

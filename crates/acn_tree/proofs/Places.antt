@@ -1,11 +1,11 @@
 -- The node at a place, from the rows of fields and alternatives.
 use Rattle.std.proofs.Common.{◌≡◌, ℕ, zero, suc, ◌<◌, ◌≤◌, List, [], ◌∷◌, length, get_or, Some, None, refl, ◌∙◌, arith, rules}
-use Rattle.acn_tree.specs.Grammar.{Fields}
+use Rattle.acn_grammar.specs.Grammar.{Fields}
 use Rattle.acn_tree.specs.NodeAt.{grammar_in, field_at, alternative_at}
-use Rattle.acn_tree.specs.View.{OneField, a_component, an_inserted, with_field, grammar_of, field_of, fields_view, alternatives_view}
-use Rattle.acn_tree.specs.declared.node.Alternative.{Alternative}
-use Rattle.acn_tree.specs.declared.node.Field.{Field}
-use Rattle.acn_tree.specs.declared.node.Body.{the_lemmas as node_lemmas}
+use Rattle.acn_grammar.specs.View.{OneField, a_component, an_inserted, with_field, grammar_of, field_of, fields_view, alternatives_view}
+use Rattle.acn_grammar.specs.declared.node.Alternative.{Alternative}
+use Rattle.acn_grammar.specs.declared.node.Field.{Field}
+use Rattle.acn_grammar.specs.declared.node.Body.{the_lemmas as node_lemmas}
 
 first_field : (f : OneField) (fs : Fields) → field_at (with_field f fs) zero ≡ Some (grammar_in f)
 first_field (a_component name g presence default) fs = refl

@@ -5,16 +5,16 @@ use Rattle.std.specs.List.{list_all, range_with_len}
 use Rattle.std.proofs.lemmas.Bool.Decides.{nat_tests}
 use Rattle.std.proofs.lemmas.Int.{ints}
 use Rattle.acn_num.specs.Ranges.{has, are_ranges, all_within}
-use Rattle.acn_tree.specs.Grammar.{Grammar, Form, Fields, Alternatives, node, num, octets, bits, text, seq, list, choice, contained, no_fields, component, inserted, no_alternatives, alternative}
-use Rattle.acn_tree.specs.Leaves.{sizing_fine, sizes_fine, rule_fine}
+use Rattle.acn_grammar.specs.Grammar.{Grammar, Form, Fields, Alternatives, node, num, octets, bits, text, seq, list, choice, contained, no_fields, component, inserted, no_alternatives, alternative}
+use Rattle.acn_grammar.specs.Leaves.{sizing_fine, sizes_fine, rule_fine}
 use Rattle.acn_tree.specs.NodeAt.{node_at, child, field_at, alternative_at, only, if_some}
 use Rattle.acn_tree.specs.Room.{InTree, HasRoom, FormHasRoom, FieldsHaveRoom, AlternativesHaveRoom, SizesAreSmall, field_count}
-use Rattle.acn_tree.specs.Tree.{IsTree, form_fine, stand_rules, all_true, same_numbers, slots_of}
-use Rattle.acn_tree.specs.Walk.{Stand, Role, a_component, an_inserted, an_alternative, an_element, a_content, root_node, nodes, form_nodes, field_nodes, alternative_nodes, nodes_of}
-use Rattle.acn_tree.specs.declared.node.Sizing.{Sizing}
-use Rattle.acn_tree.proofs.Codings.{both_are}
-use Rattle.acn_tree.proofs.TreeRules.{stand_fine, list_all-append}
-use Rattle.acn_tree.proofs.Within.{between}
+use Rattle.acn_grammar.specs.Tree.{IsTree, form_fine, stand_rules, all_true, same_numbers, slots_of}
+use Rattle.acn_grammar.specs.Walk.{Stand, Role, a_component, an_inserted, an_alternative, an_element, a_content, root_node, nodes, form_nodes, field_nodes, alternative_nodes, nodes_of}
+use Rattle.acn_grammar.specs.declared.node.Sizing.{Sizing}
+use Rattle.acn_grammar.proofs.Codings.{both_are}
+use Rattle.acn_grammar.proofs.TreeRules.{stand_fine, list_all-append}
+use Rattle.acn_grammar.proofs.Within.{between}
 
 at_most : (a b : ℕ) → nat_le a b ≡ true → a ≤ b
 at_most a b h = grind (arith, nat_tests)

@@ -2,12 +2,12 @@
 use Rattle.std.proofs.Common.{◌≡◌, ℕ, ◌+◌, ◌^◌, ◌<◌, ◌≤◌, List, length, get_or, drop, refl, arith, rules}
 use Rattle.std.specs.Prelude.{max}
 use Rattle.std.proofs.lemmas.List.{drop_more}
-use Rattle.acn_tree.specs.Grammar.{Fields, no_fields, component, inserted}
-use Rattle.acn_tree.specs.Interval.{held, value_count, field_values, alternative_values, with_field_values}
-use Rattle.acn_tree.specs.View.{OneField, a_component, an_inserted, with_field, grammar_of, field_of, fields_view, alternative_of, alternatives_view}
-use Rattle.acn_tree.specs.declared.node.Alternative.{Alternative}
-use Rattle.acn_tree.specs.declared.node.Body.{the_lemmas as node_lemmas}
-use Rattle.acn_tree.specs.declared.node.Field.{Field}
+use Rattle.acn_grammar.specs.Grammar.{Fields, no_fields, component, inserted}
+use Rattle.acn_grammar.specs.Interval.{held, value_count, field_values, alternative_values, with_field_values}
+use Rattle.acn_grammar.specs.View.{OneField, a_component, an_inserted, with_field, grammar_of, field_of, fields_view, alternative_of, alternatives_view}
+use Rattle.acn_grammar.specs.declared.node.Alternative.{Alternative}
+use Rattle.acn_grammar.specs.declared.node.Body.{the_lemmas as node_lemmas}
+use Rattle.acn_grammar.specs.declared.node.Field.{Field}
 
 pub fields-held : (fs : Fields) → field_values fs ≤ 2 ^ 40
 fields-held no_fields = omega arith

@@ -1,12 +1,12 @@
 -- What the calls on constraints answer.
 use Rattle.std.specs.Prelude.{ℕ, List, [], ◌∷◌, Option, Some, None, Result, Ok, Err}
-use Rattle.acn_tree.specs.Faults.{unfit_of}
-use Rattle.acn_tree.specs.Grammar.{Grammar, Data}
-use Rattle.acn_tree.specs.Meets.{Why, out_of_range, size_out_of_range, bad_character, terminator_inside, breaches}
-use Rattle.acn_tree.specs.Meets as meets
+use Rattle.acn_grammar.specs.Faults.{unfit_of}
+use Rattle.acn_grammar.specs.Grammar.{Grammar, Data}
+use Rattle.acn_grammar.specs.Meets.{Why, out_of_range, size_out_of_range, bad_character, terminator_inside, breaches}
+use Rattle.acn_grammar.specs.Meets as meets
 use Rattle.acn_tree.specs.declared.breach.Breach.{Breach}
 use Rattle.acn_tree.specs.declared.breach.Breach.TheVariants.{OutOfRange, SizeOutOfRange, BadCharacter, TerminatorInside}
-use Rattle.acn_tree.specs.declared.unfit.Unfit.{Unfit}
+use Rattle.acn_grammar.specs.declared.unfit.Unfit.{Unfit}
 
 -- the first of some, if there is one
 abbrev pub first : {A : Type 0} → List A → Option A

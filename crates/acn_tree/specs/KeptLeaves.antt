@@ -1,8 +1,8 @@
 -- The rules of number leaves, in a whole grammar.
 use Rattle.std.specs.Prelude.{IsTrue}
-use Rattle.acn_tree.specs.Grammar.{Grammar, Form, Fields, Alternatives, node, num, seq, list, choice, contained, no_fields, component, inserted, no_alternatives, alternative}
-use Rattle.acn_tree.specs.Leaves.{num_fine}
-use Rattle.acn_tree.specs.View.{OneField, a_component, an_inserted}
+use Rattle.acn_grammar.specs.Grammar.{Grammar, Form, Fields, Alternatives, node, num, seq, list, choice, contained, no_fields, component, inserted, no_alternatives, alternative}
+use Rattle.acn_grammar.specs.Leaves.{num_fine}
+use Rattle.acn_grammar.specs.View.{OneField, a_component, an_inserted}
 
 abbrev mutual
   -- every number leaf inside keeps its rules

@@ -2,11 +2,11 @@
 use Rattle.std.specs.Prelude.{ℕ, zero, suc, ◌+◌, ◌*◌, ◌/◌, ◌%◌, ◌^◌, ℤ, pos, nat_abs, min, nat_eq, if◌then◌else◌, Bool, true, List, [], ◌∷◌, unwrap_or}
 use Rattle.std.specs.Ordering.{int_eq}
 use Rattle.acn_num.specs.Ranges.{count, nth}
-use Rattle.acn_tree.specs.Grammar.{Grammar, Form, Fields, Alternatives, Data, Places, Elements, node, num, octets, bits, text, seq, list, choice, contained, no_fields, component, inserted, no_alternatives, alternative, int, boolean, item, null, octet_string, bit_string, characters, record_of, list_of, alt, no_places, empty, filled, no_elements, element}
-use Rattle.acn_tree.specs.declared.node.NumKind.{NumKind}
-use Rattle.acn_tree.specs.declared.node.NumKind.TheVariants.{Integer, Boolean, Enumerated, Null}
-use Rattle.acn_tree.specs.declared.node.Presence.{Presence}
-use Rattle.acn_tree.specs.declared.node.Presence.TheVariants.{Always}
+use Rattle.acn_grammar.specs.Grammar.{Grammar, Form, Fields, Alternatives, Data, Places, Elements, node, num, octets, bits, text, seq, list, choice, contained, no_fields, component, inserted, no_alternatives, alternative, int, boolean, item, null, octet_string, bit_string, characters, record_of, list_of, alt, no_places, empty, filled, no_elements, element}
+use Rattle.acn_grammar.specs.declared.node.NumKind.{NumKind}
+use Rattle.acn_grammar.specs.declared.node.NumKind.TheVariants.{Integer, Boolean, Enumerated, Null}
+use Rattle.acn_grammar.specs.declared.node.Presence.{Presence}
+use Rattle.acn_grammar.specs.declared.node.Presence.TheVariants.{Always}
 
 -- the number behind a number
 abbrev pub step : ℕ → ℕ

@@ -1,8 +1,8 @@
 -- The node of a path. A step is the number of a field or of an alternative, in order from 0;
 -- the step to the element of a list, and to the content of contained octets, is 0. (This profile's own.)
 use Rattle.std.specs.Prelude.{ℕ, zero, suc, List, [], ◌∷◌, Option, Some, None}
-use Rattle.acn_tree.specs.View.{OneField, a_component, an_inserted}
-use Rattle.acn_tree.specs.Grammar.{Grammar, Form, Fields, Alternatives, node, seq, list, choice, contained, no_fields, component, inserted, no_alternatives, alternative}
+use Rattle.acn_grammar.specs.View.{OneField, a_component, an_inserted}
+use Rattle.acn_grammar.specs.Grammar.{Grammar, Form, Fields, Alternatives, node, seq, list, choice, contained, no_fields, component, inserted, no_alternatives, alternative}
 
 abbrev pub grammar_in : OneField → Grammar
 grammar_in (a_component name g presence default) = g

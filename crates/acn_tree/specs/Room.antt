@@ -1,10 +1,10 @@
 -- Which nodes are parts of a well-formed grammar, and that the places of their values can be named. (This profile's own.)
 use Rattle.std.specs.Prelude.{◌≡◌, ℕ, suc, ◌<◌, ◌≤◌, ◌^◌, pos, List, Some}
 use Rattle.acn_num.specs.Ranges.{In}
-use Rattle.acn_tree.specs.Grammar.{Grammar, Form, Fields, Alternatives, node, seq, list, choice, contained, no_fields, component, inserted, no_alternatives, alternative}
+use Rattle.acn_grammar.specs.Grammar.{Grammar, Form, Fields, Alternatives, node, seq, list, choice, contained, no_fields, component, inserted, no_alternatives, alternative}
 use Rattle.acn_tree.specs.NodeAt.{node_at}
-use Rattle.acn_tree.specs.Tree.{IsTree}
-use Rattle.acn_tree.specs.declared.node.Sizing.{Sizing}
+use Rattle.acn_grammar.specs.Tree.{IsTree}
+use Rattle.acn_grammar.specs.declared.node.Sizing.{Sizing}
 
 -- the node is one of a well-formed tree
 pub record InTree (g : Grammar) : Type 0 where

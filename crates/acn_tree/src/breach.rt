@@ -1,20 +1,19 @@
 ghost use Rattle.std.specs.Prelude.{◌≡◌, ◌+◌, ◌^◌, ◌<◌, ◌++◌, ◌∷◌, [], length, take, drop, get_or, OnOk, option_map, pos, not, position};
 ghost use Rattle.acn_num.specs.Bits.{number, weight as weight_of};
 ghost use Rattle.acn_num.specs.Ranges.{has};
-ghost use Rattle.acn_tree.specs.Asks.{same_name};
+ghost use Rattle.acn_grammar.specs.Asks.{same_name};
 ghost use Rattle.acn_tree.specs.Breaches.{found, found_at, first as first_why, refusal, place_breaches, why_of};
-ghost use Rattle.acn_tree.specs.Faults.{why_of as why_of_reason};
-ghost use Rattle.acn_tree.specs.Grammar.{list, list_of};
-ghost use Rattle.acn_tree.specs.Length.{number_of as number_of_data};
-ghost use Rattle.acn_tree.specs.Meets.{breach, breaches, form_breaches, field_breaches, alternative_breaches, run_breaches, first_of, unless, where_found, size_breach, end_breach, text_breach, first_end, bad_character, out_of_range, terminator_inside};
+ghost use Rattle.acn_grammar.specs.Faults.{why_of as why_of_reason};
+ghost use Rattle.acn_grammar.specs.Grammar.{list, list_of};
+ghost use Rattle.acn_grammar.specs.Length.{number_of as number_of_data};
+ghost use Rattle.acn_grammar.specs.Meets.{breach, breaches, form_breaches, field_breaches, alternative_breaches, run_breaches, first_of, unless, where_found, size_breach, end_breach, text_breach, first_end, bad_character, out_of_range, terminator_inside};
 ghost use Rattle.acn_tree.specs.Room.{InTree, HasRoom, FieldsHaveRoom, AlternativesHaveRoom, SizesAreSmall};
-ghost use Rattle.acn_tree.specs.Spell.{octet_numbers};
-ghost use Rattle.acn_tree.specs.View.{grammar_of, data_of, fields_view, places_view, elements_view, alternatives_view};
+ghost use Rattle.acn_grammar.specs.Spell.{octet_numbers};
+ghost use Rattle.acn_grammar.specs.View.{grammar_of, data_of, fields_view, places_view, elements_view, alternatives_view};
 
-use crate::node::{Alternative, Body, Field, Node, NumLeaf, Sizing, TextLeaf};
-use crate::pattern::Pattern;
-use crate::unfit::{Unfit, UnfitReason};
-use crate::value::Value;
+use acn_grammar::{
+    Alternative, Body, Field, Node, NumLeaf, Pattern, Sizing, TextLeaf, Unfit, UnfitReason, Value,
+};
 use acn_num::{Path, RangeSet};
 use arrayvec::ArrayVec;
 
@@ -337,7 +336,7 @@ pub fn meets(node: &Node, v: &Value) -> Result<(), Unfit>
 #[cfg(test)]
 mod tests {
     use super::*;
-    use crate::node::SizeRule;
+    use acn_grammar::SizeRule;
     use acn_num::NoMemory;
     use std::alloc::Global;
 

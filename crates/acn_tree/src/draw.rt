@@ -25,6 +25,15 @@ impl Draw {
         Draw { number: start }
     }
 
+    /// A draw that stands where this one stands.
+    pub fn copy(&self) -> Draw
+        ensures { result ≡ self.now }
+    {
+        Draw {
+            number: self.number,
+        }
+    }
+
     // The upper half of the next number.
     fn step(&mut self) -> u64
         ensures number { self.new ≡ made.step self.old }

@@ -1,18 +1,16 @@
 ghost use Rattle.std.specs.Prelude.{◌≡◌, ◌^◌, ◌<◌, ◌≤◌, IsTrue};
-ghost use Rattle.acn_tree.specs.Interval.{span, form_span, num_span, text_span, component_span, field_span, fields_span, alternatives_span, end_width, exactly as just, plus as sum_of, times as product_of, hull as hull_of, hold as held, optional as perhaps, in_octets as whole_octets, size_of, sizes_of, from_one_octet as counted_from_one, code_lengths as lengths_of_codes};
+ghost use Rattle.acn_grammar.specs.Interval.{span, form_span, num_span, text_span, component_span, field_span, fields_span, alternatives_span, end_width, exactly as just, plus as sum_of, times as product_of, hull as hull_of, hold as held, optional as perhaps, in_octets as whole_octets, size_of, sizes_of, from_one_octet as counted_from_one, code_lengths as lengths_of_codes};
 ghost use Rattle.acn_tree.specs.KeptLeaves.{NumbersKept, FormKept, FieldKept, FieldsKept, AlternativesKept};
-ghost use Rattle.acn_tree.specs.Leaves.{num_fine};
-ghost use Rattle.acn_tree.specs.Length.{rule_width, index_width};
-ghost use Rattle.acn_tree.specs.View.{grammar_of, form_of, field_of, fields_view, alternatives_view};
+ghost use Rattle.acn_grammar.specs.Leaves.{num_fine};
+ghost use Rattle.acn_grammar.specs.Length.{rule_width, index_width};
+ghost use Rattle.acn_grammar.specs.View.{grammar_of, form_of, field_of, fields_view, alternatives_view};
 
-use crate::bounds::Bounds;
-use crate::code_lengths::{code_lengths, fixed_width};
-use crate::node::{
-    Alternative, Body, ChoiceRule, Field, Node, NumCoding, NumLeaf, Presence, SizeRule, Sizing,
-    TextLeaf,
-};
-use crate::pattern::Pattern;
 use crate::tree::Tree;
+use acn_grammar::{
+    Alternative, Body, Bounds, ChoiceRule, Field, Node, NumCoding, NumLeaf, Pattern, Presence,
+    SizeRule, Sizing, TextLeaf,
+};
+use acn_leaf::{code_lengths, fixed_width};
 use acn_num::RangeSet;
 
 /// Sums and products are held down to this.

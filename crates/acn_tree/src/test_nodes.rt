@@ -1,8 +1,8 @@
-use crate::node::{
+use crate::tree::Tree;
+use acn_grammar::{
     Alternative, Body, Choice, ChoiceRule, Field, Items, Node, NumCoding, NumKind, NumLeaf,
     Presence, Seq, SizeRule, Sizing,
 };
-use crate::tree::Tree;
 use acn_num::{Boxed, Name, NoMemory, RangeSet, Row};
 use std::alloc::Global;
 

@@ -1,11 +1,9 @@
-use crate::bounds::Bounds;
 use crate::extent::interval;
-use crate::node::{Body, Node, Presence, SizeRule, TextLeaf};
-use crate::pattern::Pattern;
 use crate::test_nodes::{
     boolean, component, node, pair, ranged, sizing, tree, two_integers, up_to, up_to_five,
 };
 use crate::values::value_count;
+use acn_grammar::{Body, Bounds, Node, Pattern, Presence, SizeRule, TextLeaf};
 use acn_num::NoMemory;
 use std::alloc::Global;
 

@@ -1,8 +1,8 @@
-use crate::node::{Body, Field, Node, NumCoding, Presence, SizeRule, Sizing, TextLeaf};
 use crate::test_nodes::{
     by_item, component, inserted, integer, node, pair, ranged, sequence, sizing, tree,
     two_integers, up_to, x_or_y,
 };
+use acn_grammar::{Body, Field, Node, NumCoding, Presence, SizeRule, Sizing, TextLeaf};
 use acn_num::{NoMemory, RangeSet, Row};
 use std::alloc::Global;
 

@@ -1,9 +1,7 @@
 use crate::breach::meets;
-use crate::node::{Body, Node};
 use crate::place::node_at;
 use crate::test_nodes::{tree, two_integers, up_to_five};
-use crate::unfit::{Unfit, UnfitReason};
-use crate::value::Value;
+use acn_grammar::{Body, Node, Unfit, UnfitReason, Value};
 use acn_num::{NoMemory, Path, Row};
 use std::alloc::Global;
 

@@ -1,10 +1,10 @@
 ghost use Rattle.std.specs.Prelude.{◌≡◌, ◌^◌, ◌≤◌, ◌+◌, ◌*◌};
-ghost use Rattle.acn_tree.specs.Interval.{held, string_values as values_of_string, value_count as count_of, form_values, field_values, alternative_values, with_field_values};
-ghost use Rattle.acn_tree.specs.View.{grammar_of, form_of, field_of, fields_view, alternatives_view};
+ghost use Rattle.acn_grammar.specs.Interval.{held, string_values as values_of_string, value_count as count_of, form_values, field_values, alternative_values, with_field_values};
+ghost use Rattle.acn_grammar.specs.View.{grammar_of, form_of, field_of, fields_view, alternatives_view};
 
 use crate::extent::size;
-use crate::node::{Alternative, Body, Field, Node, Sizing};
 use crate::tree::Tree;
+use acn_grammar::{Alternative, Body, Field, Node, Sizing};
 
 /// Sums and products are held down to this.
 const MOST: u64 = 1 << 40;

@@ -3,8 +3,8 @@ use Rattle.std.proofs.Common.{arith, ap, pos, nat_abs, ◌*◌, ◌+ℤ◌}
 use Rattle.std.proofs.lemmas.Int.{ints}
 use Rattle.acn_ints.proofs.CountedCodes.{parts_of, from_said, count_not_minimal, count_wrong, body_short}
 use Rattle.acn_num.specs.Bits.{number}
-use Rattle.acn_tree.specs.Length.{least_octets}
-use Rattle.acn_tree.specs.ReadFaults.{reason_of}
+use Rattle.acn_grammar.specs.Length.{least_octets}
+use Rattle.acn_grammar.specs.ReadFaults.{reason_of}
 use Rattle.acn_ints.proofs.counted.read_counted_from.Goals as goal
 
 pub returns-then-octets_for-c-clause-stays : goal.returns-then-octets_for-c-clause-stays

@@ -1,5 +1,5 @@
 use Rattle.acn_ints.proofs.EndedLemmas.{digit_passed, end_stands, rest_wrong, stays_rest}
-use Rattle.acn_tree.specs.ReadFaults.{reason_of}
+use Rattle.acn_grammar.specs.ReadFaults.{reason_of}
 use Rattle.acn_ints.proofs.ended.next_character.Goals as goal
 
 pub returns-in-Some-clause-character : goal.returns-in-Some-clause-character

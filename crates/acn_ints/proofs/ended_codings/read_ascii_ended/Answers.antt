@@ -1,5 +1,5 @@
 use Rattle.std.proofs.Common.{subst, List, Bool}
-use Rattle.acn_tree.specs.ReadFaults.{reason_of}
+use Rattle.acn_grammar.specs.ReadFaults.{reason_of}
 use Rattle.acn_ints.specs.EndedReads.{PassedEnded, EndedWrong}
 use Rattle.acn_ints.proofs.EndedCodes.{plain_said_at, plain_not_minimal_at, plain_wrong}
 use Rattle.acn_ints.proofs.ended_codings.read_ascii_ended.Goals as goal

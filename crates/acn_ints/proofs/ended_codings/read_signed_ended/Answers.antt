@@ -1,5 +1,5 @@
 use Rattle.std.proofs.Common.{subst, List, Bool}
-use Rattle.acn_tree.specs.ReadFaults.{reason_of}
+use Rattle.acn_grammar.specs.ReadFaults.{reason_of}
 use Rattle.acn_ints.specs.EndedReads.{PassedEnded, EndedWrong}
 use Rattle.acn_ints.specs.Reads.{Stays}
 use Rattle.acn_ints.proofs.EndedLemmas.{stays_at}

@@ -2,8 +2,8 @@ use Rattle.std.proofs.Common.{sym}
 use Rattle.std.specs.Int.{w128}
 use Rattle.std.proofs.lemmas.Int.{to_z-of_z}
 use Rattle.acn_num.specs.Bits.{bits}
-use Rattle.acn_tree.specs.Code.{Code, Written}
-use Rattle.acn_tree.specs.Length.{num_length}
+use Rattle.acn_grammar.specs.Code.{Code, Written}
+use Rattle.acn_grammar.specs.Length.{num_length}
 use Rattle.acn_ints.proofs.Writings.{front_code}
 use Rattle.acn_ints.proofs.filler.code_number.Goals as goal
 

@@ -1,8 +1,8 @@
 use Rattle.std.proofs.Common.{rules}
 use Rattle.std.specs.Int.{w128}
 use Rattle.std.proofs.lemmas.Int.{to_z-of_z}
-use Rattle.acn_tree.specs.Code.{Code, Written}
-use Rattle.acn_tree.specs.Length.{num_length}
+use Rattle.acn_grammar.specs.Code.{Code, Written}
+use Rattle.acn_grammar.specs.Length.{num_length}
 use Rattle.acn_ints.proofs.Writings.{alone}
 use Rattle.acn_ints.proofs.filler.write_alone.Goals as goal
 

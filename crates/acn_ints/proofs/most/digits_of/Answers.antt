@@ -1,5 +1,5 @@
 use Rattle.std.proofs.Common.{subst, ◌≡◌, arith}
-use Rattle.acn_tree.specs.Length.{digit_count}
+use Rattle.acn_grammar.specs.Length.{digit_count}
 use Rattle.acn_ints.proofs.MostLemmas.{digits_are}
 use Rattle.acn_ints.proofs.most.digits_of.Goals as goal
 

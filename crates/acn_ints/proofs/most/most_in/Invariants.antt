@@ -1,5 +1,5 @@
 use Rattle.std.proofs.Common.{◌≡◌, ◌≤◌, drop, max}
-use Rattle.acn_tree.specs.LeafFails.{most_digits}
+use Rattle.acn_grammar.specs.LeafFails.{most_digits}
 use Rattle.acn_ints.proofs.most.most_in.Given as goal
 
 abbrev pub invariant-loop-range : goal.invariant-loop-range

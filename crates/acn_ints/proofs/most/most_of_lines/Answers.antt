@@ -1,5 +1,5 @@
 use Rattle.std.proofs.Common.{arith, pos}
-use Rattle.acn_tree.specs.Images.{clipped}
+use Rattle.acn_grammar.specs.Images.{clipped}
 use Rattle.acn_ints.proofs.MostLemmas.{most_step}
 use Rattle.acn_ints.proofs.most.most_of_lines.Goals as goal
 

@@ -1,7 +1,7 @@
 use Rattle.std.proofs.Common.{◌≡◌, ◌≤◌, drop, max}
 use Rattle.std.specs.List.{flat_map}
-use Rattle.acn_tree.specs.Images.{clipped}
-use Rattle.acn_tree.specs.LeafFails.{most_digits}
+use Rattle.acn_grammar.specs.Images.{clipped}
+use Rattle.acn_grammar.specs.LeafFails.{most_digits}
 use Rattle.acn_ints.proofs.most.most_of_lines.Given as goal
 
 abbrev pub invariant-loop-line : goal.invariant-loop-line

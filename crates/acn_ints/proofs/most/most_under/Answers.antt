@@ -1,6 +1,6 @@
 use Rattle.std.proofs.Common.{refl, arith, pos}
 use Rattle.std.specs.List.{flat_map}
-use Rattle.acn_tree.specs.Images.{clipped}
+use Rattle.acn_grammar.specs.Images.{clipped}
 use Rattle.acn_ints.proofs.MostLemmas.{most_first, most_step}
 use Rattle.acn_ints.proofs.most.most_under.Goals as goal
 

@@ -1,7 +1,7 @@
 use Rattle.std.proofs.Common.{◌∙◌, ap, true, false, length, subst}
-use Rattle.acn_tree.specs.Length.{flag_width}
-use Rattle.acn_tree.specs.declared.node.NumCoding.{NumCoding}
-use Rattle.acn_tree.specs.declared.node.NumCoding.TheVariants.{Range, PosInt, Twos, Bcd, BcdEnded, Flag, Fixed, CountedFrom, CountedSigned, Ascii, AsciiEnded}
+use Rattle.acn_grammar.specs.Length.{flag_width}
+use Rattle.acn_grammar.specs.declared.node.NumCoding.{NumCoding}
+use Rattle.acn_grammar.specs.declared.node.NumCoding.TheVariants.{Range, PosInt, Twos, Bcd, BcdEnded, Flag, Fixed, CountedFrom, CountedSigned, Ascii, AsciiEnded}
 use Rattle.acn_ints.specs.Limits.{PlainEnded}
 use Rattle.acn_ints.proofs.SaidLemmas.{fixed_said_at, fixed_wrong_at, fixed_stays_at, wrong_at, ended_wrong_at}
 use Rattle.acn_ints.proofs.reader.read_coding.Goals as goal

@@ -1,5 +1,5 @@
 use Rattle.std.proofs.Common.{◌≡◌, ◌++◌, drop, map}
-use Rattle.acn_tree.specs.View as view
+use Rattle.acn_grammar.specs.View as view
 use Rattle.acn_run.specs.Packet as spec
 use Rattle.acn_run.proofs.grammar.fields.Given as goal
 

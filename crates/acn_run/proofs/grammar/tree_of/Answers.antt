@@ -1,5 +1,5 @@
 use Rattle.std.proofs.Common.{◌∙◌, ap}
-use Rattle.acn_tree.specs.View as view
+use Rattle.acn_grammar.specs.View as view
 use Rattle.acn_run.proofs.Grammars.{root_as, not_refused}
 use Rattle.acn_run.proofs.grammar.tree_of.Goals as goal
 

@@ -1,10 +1,10 @@
 use Rattle.std.proofs.Common.{◌+◌, length, drop, sym, subst, ◌∙◌, arith, rules}
 use Rattle.std.proofs.lemmas.Grind.{common_steps}
 use Rattle.acn_tree.specs.Room.{FieldsHaveRoom}
-use Rattle.acn_tree.specs.View.{grammar_of, fields_view, field_of}
-use Rattle.acn_tree.specs.declared.node.Node.{the_lemmas}
+use Rattle.acn_grammar.specs.View.{grammar_of, fields_view, field_of}
+use Rattle.acn_grammar.specs.declared.node.Node.{the_lemmas}
 use Rattle.acn_tree.proofs.BreachSteps.{below, size-here, size-later, element-here, element-later, component-here, component-later, inserted-later, alternative-at, alternative-past, room-fields, room-turn, room-rest, room-chosen, list-breaches}
-use Rattle.acn_tree.proofs.Views.{view_seq, view_node, view_seq_form}
+use Rattle.acn_grammar.proofs.Views.{view_seq, view_node, view_seq_form}
 use Rattle.acn_tree.proofs.breach.+meet.Goals.{fields_meet-in-Component+else-at-places+in_ok-place_meets-in-Component, fields_meet-in-Inserted}
 use Rattle.acn_tree.proofs.breach.+meet.Goals as goal
 

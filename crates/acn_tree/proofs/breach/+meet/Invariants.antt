@@ -1,7 +1,7 @@
 use Rattle.std.proofs.Common.{◌≡◌, ◌+◌, ◌≤◌, ◌++◌, ◌∷◌, [], length, drop}
-use Rattle.acn_tree.specs.Meets.{breaches, first_of, run_breaches, field_breaches}
+use Rattle.acn_grammar.specs.Meets.{breaches, first_of, run_breaches, field_breaches}
 use Rattle.acn_tree.specs.Room.{FieldsHaveRoom}
-use Rattle.acn_tree.specs.View.{grammar_of, fields_view, places_view, elements_view}
+use Rattle.acn_grammar.specs.View.{grammar_of, fields_view, places_view, elements_view}
 use Rattle.acn_tree.proofs.breach.+meet.Given as goal
 
 abbrev pub invariant-elements_meet-loop-v : goal.invariant-elements_meet-loop-v

@@ -1,5 +1,5 @@
 use Rattle.std.proofs.Common.{◌≡◌, ◌++◌, length, take, drop}
-use Rattle.acn_tree.specs.Asks.{same_name}
+use Rattle.acn_grammar.specs.Asks.{same_name}
 use Rattle.acn_tree.proofs.breach.ends_at.Given as goal
 
 abbrev pub invariant-loop-k : goal.invariant-loop-k

@@ -1,7 +1,7 @@
 use Rattle.std.proofs.Common.{◌-◌, ◌+◌, ◌++◌, length, take, drop, arith}
 use Rattle.std.proofs.lemmas.Grind.{common_steps}
 use Rattle.std.proofs.lemmas.Bool.Decides.{nat_tests}
-use Rattle.acn_tree.specs.Asks.{same_name}
+use Rattle.acn_grammar.specs.Asks.{same_name}
 use Rattle.acn_tree.proofs.Breaches.{find-turn}
 use Rattle.acn_tree.proofs.breach.ends_last.Goals as goal
 

@@ -1,7 +1,7 @@
 use Rattle.std.proofs.Common.{◌≡◌, ◌-◌, ◌++◌, length, take, drop}
 use Rattle.std.specs.List.{find, range_with_len}
-use Rattle.acn_tree.specs.Asks.{same_name}
-use Rattle.acn_tree.specs.Meets.{first_end}
+use Rattle.acn_grammar.specs.Asks.{same_name}
+use Rattle.acn_grammar.specs.Meets.{first_end}
 use Rattle.acn_tree.proofs.breach.ends_last.Given as goal
 
 abbrev pub invariant-loop-i : goal.invariant-loop-i

@@ -1,6 +1,6 @@
 use Rattle.std.proofs.Common.{sym, subst, length}
 use Rattle.acn_tree.specs.Room.{HasRoom}
-use Rattle.acn_tree.specs.View.{grammar_of}
+use Rattle.acn_grammar.specs.View.{grammar_of}
 use Rattle.acn_tree.proofs.RoomLaw.{room-in-tree}
 use Rattle.acn_tree.proofs.breach.meets.Goals as goal
 

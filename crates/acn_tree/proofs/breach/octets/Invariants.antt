@@ -1,5 +1,5 @@
 use Rattle.std.proofs.Common.{◌≡◌, ◌*◌, ◌++◌, length, drop}
-use Rattle.acn_tree.specs.Spell.{octet_numbers}
+use Rattle.acn_grammar.specs.Spell.{octet_numbers}
 use Rattle.acn_tree.proofs.breach.octets.Given as goal
 
 abbrev pub invariant-loop-k : goal.invariant-loop-k

@@ -1,7 +1,7 @@
 use Rattle.std.proofs.Common.{◌∙◌, sym, ap, arith, drop, ◌+◌}
-use Rattle.acn_tree.specs.Interval.{fields_span, alternatives_span, plus, hull}
-use Rattle.acn_tree.specs.View.{fields_view, alternatives_view}
-use Rattle.acn_tree.proofs.Intervals.{none_hull, none_plus, alternatives_held, fields_held, plus_assoc, hull_assoc, fields_span-drop, alternatives_span-drop}
+use Rattle.acn_grammar.specs.Interval.{fields_span, alternatives_span, plus, hull}
+use Rattle.acn_grammar.specs.View.{fields_view, alternatives_view}
+use Rattle.acn_grammar.proofs.Intervals.{none_hull, none_plus, alternatives_held, fields_held, plus_assoc, hull_assoc, fields_span-drop, alternatives_span-drop}
 use Rattle.acn_tree.proofs.KeptLaw.{kept-turn, kept-alternative}
 use Rattle.acn_tree.proofs.extent.+interval.Goals as goal
 

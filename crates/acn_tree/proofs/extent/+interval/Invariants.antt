@@ -1,7 +1,7 @@
 use Rattle.std.proofs.Common.{◌≡◌, ◌≤◌, ◌^◌, drop}
-use Rattle.acn_tree.specs.Interval.{fields_span, alternatives_span, plus, hull}
+use Rattle.acn_grammar.specs.Interval.{fields_span, alternatives_span, plus, hull}
 use Rattle.acn_tree.specs.KeptLeaves.{FieldsKept, AlternativesKept}
-use Rattle.acn_tree.specs.View.{fields_view, alternatives_view}
+use Rattle.acn_grammar.specs.View.{fields_view, alternatives_view}
 use Rattle.acn_tree.proofs.extent.+interval.Given as goal
 
 abbrev pub invariant-fields-loop-one : goal.invariant-fields-loop-one

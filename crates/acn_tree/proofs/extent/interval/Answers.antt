@@ -1,4 +1,4 @@
-use Rattle.acn_tree.specs.View.{grammar_of}
+use Rattle.acn_grammar.specs.View.{grammar_of}
 use Rattle.acn_tree.proofs.KeptLaw.{tree-kept}
 use Rattle.acn_tree.proofs.extent.interval.Goals as goal
 

@@ -1,6 +1,6 @@
 use Rattle.std.proofs.Common.{◌≡◌, drop}
 use Rattle.acn_tree.specs.NodeAt.{node_at}
-use Rattle.acn_tree.specs.View.{grammar_of}
+use Rattle.acn_grammar.specs.View.{grammar_of}
 use Rattle.acn_tree.proofs.place.node_at.Given as goal
 
 abbrev pub invariant-loop-step : goal.invariant-loop-step

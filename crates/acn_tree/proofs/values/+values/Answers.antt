@@ -1,6 +1,6 @@
 use Rattle.std.proofs.Common.{◌∙◌, arith}
 use Rattle.std.proofs.lemmas.Grind.{common_steps}
-use Rattle.acn_tree.specs.View.{fields_view}
+use Rattle.acn_grammar.specs.View.{fields_view}
 use Rattle.acn_tree.proofs.ValueCounts.{fields-held, values-turn, alternatives-turn}
 use Rattle.acn_tree.proofs.values.+values.Goals as goal
 

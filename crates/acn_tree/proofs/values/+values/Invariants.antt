@@ -1,7 +1,7 @@
 use Rattle.std.proofs.Common.{◌≡◌, ◌+◌, ◌^◌, ◌≤◌, drop}
 use Rattle.std.specs.Prelude.{max}
-use Rattle.acn_tree.specs.Interval.{held, field_values, alternative_values}
-use Rattle.acn_tree.specs.View.{fields_view, alternatives_view}
+use Rattle.acn_grammar.specs.Interval.{held, field_values, alternative_values}
+use Rattle.acn_grammar.specs.View.{fields_view, alternatives_view}
 use Rattle.acn_tree.proofs.values.+values.Given as goal
 
 abbrev pub invariant-fields_values-loop-field : goal.invariant-fields_values-loop-field

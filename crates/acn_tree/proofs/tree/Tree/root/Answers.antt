@@ -1,5 +1,5 @@
 use Rattle.std.proofs.Common.{[], refl}
-use Rattle.acn_tree.specs.View.{grammar_of}
+use Rattle.acn_grammar.specs.View.{grammar_of}
 use Rattle.acn_tree.proofs.tree.Tree.root.Goals as goal
 
 pub returns-clause-part : goal.returns-clause-part

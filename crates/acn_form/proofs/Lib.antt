@@ -1,0 +1,7 @@
+pub mod AlternativeRows
+pub mod KeptRuns
+pub mod Listed
+pub mod RangeSteps
+pub mod SeenRuns
+pub mod TallyRuns
+pub mod WellFormed

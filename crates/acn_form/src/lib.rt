@@ -1,0 +1,9 @@
+//! Whether a grammar is that of a well-formed tree.
+#![tactic(auto)]
+
+mod homes;
+mod node_rules;
+mod tallies;
+mod well_formed;
+
+pub use well_formed::is_well_formed;

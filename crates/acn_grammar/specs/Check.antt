@@ -1,0 +1,165 @@
+-- What keeps a grammar from being decoded, with its evidence.
+use Rattle.std.specs.Prelude.{◌≡◌, ℕ, ◌+◌, ◌<◌, ◌≤◌, ℤ, Bool, false, List, [], ◌∷◌, ◌++◌, length, map, Some, slice_get, nat_eq, ◌⊎◌, count_by, Contains}
+use Rattle.std.specs.List.{AllByRecursion, flat_map}
+use Rattle.acn_num.specs.Ranges.{In}
+use Rattle.acn_grammar.specs.Grammar.{Grammar, Form, Alternatives, seq, choice, no_alternatives, alternative}
+use Rattle.acn_grammar.specs.Code.{Any, Code}
+use Rattle.acn_grammar.specs.Env.{AllHold}
+use Rattle.acn_grammar.specs.Interval.{span, value_count}
+use Rattle.acn_grammar.specs.Slots.{slot_leaf, domain_of, items_of}
+use Rattle.acn_grammar.specs.Walk.{Stand, Role, a_component, Use, condition, item_of, size_of, nodes_of, uses, slot_of, slot_here, presence_tests}
+use Rattle.acn_grammar.specs.declared.node.NumKind.{NumKind}
+use Rattle.acn_grammar.specs.declared.node.NumKind.TheVariants.{Integer, Boolean, Enumerated}
+use Rattle.acn_grammar.specs.declared.node.NumLeaf.{NumLeaf}
+use Rattle.acn_grammar.specs.declared.node.Test.{Test}
+use Rattle.acn_grammar.specs.declared.node.Test.TheVariants.{Flag, Equals}
+use Rattle.acn_grammar.specs.declared.node.ChoiceRule.{ChoiceRule}
+use Rattle.acn_grammar.specs.declared.node.ChoiceRule.TheVariants.{Tests, Item}
+
+pub data CheckFault : Type 0 where
+  forward : (user det : List ℕ) → CheckFault
+  det_kind : (user det : List ℕ) → CheckFault
+  det_width : (det : List ℕ) → CheckFault
+  overlap : (choice : List ℕ) → (first second : ℕ) → (values : List (ℕ × ℤ)) → CheckFault
+  absent_unclear : (at : List ℕ) → CheckFault
+  unused : (det : List ℕ) → CheckFault
+  no_item : (choice : List ℕ) → (which : ℕ) → CheckFault
+  mixed_choice : (choice : List ℕ) → CheckFault
+  too_long : (bits : ℕ) → CheckFault
+  too_many_open : (at : List ℕ) → (count : ℕ) → CheckFault
+  too_many_conditions : (det : List ℕ) → (count : ℕ) → CheckFault
+  too_many_values : (count : ℕ) → CheckFault
+
+abbrev pub number_of_fault : CheckFault → ℕ
+number_of_fault (forward user det) = 1
+number_of_fault (det_kind user det) = 2
+number_of_fault (det_width det) = 3
+number_of_fault (overlap at i j values) = 4
+number_of_fault (absent_unclear at) = 5
+number_of_fault (unused det) = 6
+number_of_fault (no_item at i) = 7
+number_of_fault (mixed_choice at) = 8
+number_of_fault (too_long n) = 9
+number_of_fault (too_many_open at n) = 10
+number_of_fault (too_many_conditions det n) = 11
+number_of_fault (too_many_values n) = 12
+
+-- the kind of leaf that a use asks for
+abbrev pub AsksFor : Use → NumKind → Type 0
+AsksFor (condition (Flag s)) Boolean = Unit {0}
+AsksFor (condition (Equals s k)) Integer = Unit {0}
+AsksFor (item_of s) Enumerated = Unit {0}
+AsksFor (size_of s) Integer = Unit {0}
+AsksFor _ _ = ⊥
+
+-- all codes of the leaf have this length
+abbrev pub HasWidth : NumLeaf → ℕ → Type 0
+HasWidth leaf w = (x : ℤ) (bs : List Bool) → Code Any leaf x bs → length bs ≡ w
+
+abbrev pub conditions_of : Alternatives → List (List ℕ × List Test)
+conditions_of no_alternatives = []
+conditions_of (alternative name g ts more) = (name, ts) ∷ conditions_of more
+
+abbrev pub test_slot : Test → ℕ
+test_slot (Flag s) = s
+test_slot (Equals s k) = s
+
+abbrev pub is_equals_on : ℕ → Use → Bool
+is_equals_on s (condition (Equals t k)) = nat_eq s t
+is_equals_on s _ = false
+
+abbrev pub home_size : Form → ℕ
+home_size (seq _ home) = length home
+home_size _ = 0
+
+-- how many slots the homes on the path to a node have, itself included
+abbrev pub open_at : Stand → ℕ
+open_at at = home_size at.form + length at.around
+
+abbrev pub IsStrictly : List ℕ → Type 0
+IsStrictly [] = Unit {0}
+IsStrictly (a ∷ []) = Unit {0}
+IsStrictly (a ∷ b ∷ rest) = (a < b) × IsStrictly (b ∷ rest)
+
+module _ (root : Grammar) where
+  -- the node of a number in preorder
+  abbrev pub NodeAt : ℕ → Stand → Type 0
+  NodeAt k at = slice_get (nodes_of root) k ≡ Some at
+
+  -- a use of a slot at node k, and the slot's inserted field at node j
+  pub record UseOf (k u : ℕ) (user det : List ℕ) (use' : Use) (j : ℕ) : Type 0 where
+    pub at : Stand
+    pub field : Stand
+    pub is_at : NodeAt k at
+    pub is_use : slice_get (uses at) u ≡ Some use'
+    pub is_field : NodeAt j field
+    pub slot : slot_here field.role ≡ Some (slot_of use')
+    pub user_path : at.path ≡ user
+    pub det_path : field.path ≡ det
+
+  -- both alternatives have conditions, and these numbers, one for each slot that either names, meet them all
+  pub record Overlaps (cases : Alternatives) (i j : ℕ) (values : List (ℕ × ℤ)) : Type 0 where
+    pub in_order : i < j
+    pub one : List ℕ × List Test
+    pub other : List ℕ × List Test
+    pub is_one : slice_get (conditions_of cases) i ≡ Some one
+    pub is_other : slice_get (conditions_of cases) j ≡ Some other
+    pub some_one : 0 < length one.1
+    pub some_other : 0 < length other.1
+    pub slots : (s : ℕ) → Contains (map (λ e. e.0) values) s → Contains (map test_slot (one.1 ++ other.1)) s
+    pub all_slots : (s : ℕ) → Contains (map test_slot (one.1 ++ other.1)) s → Contains (map (λ e. e.0) values) s
+    pub ascending : IsStrictly (map (λ e. e.0) values)
+    pub permitted : AllByRecursion (λ e. In (domain_of root e.0) e.1) values
+    pub holds : AllHold values (one.1 ++ other.1)
+
+  abbrev pub IsChoice : Form → Alternatives → ChoiceRule → Type 0
+  IsChoice (choice cases rule) cases' rule' = (cases ≡ cases') × (rule ≡ rule')
+  IsChoice _ cases' rule' = ⊥
+
+  pub record ChoiceAt (k : ℕ) (path : List ℕ) (cases : Alternatives) (rule : ChoiceRule) : Type 0 where
+    pub at : Stand
+    pub is_at : NodeAt k at
+    pub path_is : at.path ≡ path
+    pub form_is : IsChoice at.form cases rule
+
+  abbrev pub equals_on : ℕ → ℕ
+  equals_on s = count_by (is_equals_on s) (flat_map uses (nodes_of root))
+
+  -- the fault holds at node k and its use u
+  abbrev pub Evidence : CheckFault → (k u : ℕ) → Type 0
+  Evidence (forward user det) k u = (use' : Use) × (j : ℕ) × UseOf k u user det use' j × (k < j)
+  Evidence (det_kind user det) k u = (use' : Use) × (j : ℕ) × (leaf : NumLeaf) × UseOf k u user det use' j × (slot_leaf root (slot_of use') ≡ Some leaf) × (AsksFor use' leaf.kind → ⊥)
+  Evidence (det_width det) k u = (at : Stand) × (s : ℕ) × (leaf : NumLeaf) × NodeAt k at × (at.path ≡ det) × (slot_here at.role ≡ Some s) × (slot_leaf root s ≡ Some leaf) × (((w : ℕ) × HasWidth leaf w × (w ≤ 64)) → ⊥)
+  Evidence (overlap path i j values) k u = (cases : Alternatives) × ChoiceAt k path cases Tests × Overlaps cases i j values
+  Evidence (absent_unclear path) k u = (at : Stand) × NodeAt k at × (at.path ≡ path) × MoreThanOne at.role
+    where
+      MoreThanOne : Role → Type 0
+      MoreThanOne (a_component n presence) = 1 < length (presence_tests presence)
+      MoreThanOne _ = ⊥
+  Evidence (unused det) k u = (at : Stand) × (s : ℕ) × NodeAt k at × (at.path ≡ det) × (slot_here at.role ≡ Some s) × (Contains (map slot_of (flat_map uses (nodes_of root))) s → ⊥)
+  Evidence (no_item path i) k u = (cases : Alternatives) × (s : ℕ) × (name : List ℕ) × (ts : List Test) × ChoiceAt k path cases (Item s) × (slice_get (conditions_of cases) i ≡ Some (name, ts)) × (Contains (map (λ e. e.0) (items_of root s)) name → ⊥)
+  Evidence (mixed_choice path) k u = (cases : Alternatives) × (rule : ChoiceRule) × ChoiceAt k path cases rule × (i : ℕ) × (one : List ℕ × List Test) × (slice_get (conditions_of cases) i ≡ Some one) × (0 < length one.1)
+      × (((s : ℕ) × (rule ≡ Item s)) ⊎ ((j : ℕ) × (other : List ℕ × List Test) × (slice_get (conditions_of cases) j ≡ Some other) × (other.1 ≡ [])))
+  Evidence (too_long n) k u = (k ≡ 0) × (n ≡ (span root).greatest) × (524336 < n)
+  Evidence (too_many_open path n) k u = (at : Stand) × NodeAt k at × (at.path ≡ path) × (n ≡ open_at at) × (256 < n)
+  Evidence (too_many_conditions det n) k u = (at : Stand) × (s : ℕ) × NodeAt k at × (at.path ≡ det) × (slot_here at.role ≡ Some s) × (n ≡ equals_on s) × (64 < n)
+  Evidence (too_many_values n) k u = (k ≡ 0) × (n ≡ value_count root) × (1048576 < n)
+
+  abbrev pub Undecodable : CheckFault → Type 0
+  Undecodable f = (k u : ℕ) × Evidence f k u
+
+  -- the order of faults: number, node, use, alternatives
+  abbrev pub rank : CheckFault → (k u : ℕ) → List ℕ
+  rank (overlap path i j values) k u = 4 ∷ k ∷ 0 ∷ i ∷ j ∷ []
+  rank (no_item path i) k u = 7 ∷ k ∷ 0 ∷ i ∷ 0 ∷ []
+  rank f k u = number_of_fault f ∷ k ∷ u ∷ 0 ∷ 0 ∷ []
+
+  abbrev pub Before : List ℕ → List ℕ → Type 0
+  Before (a ∷ as') (b ∷ bs) = (a < b) ⊎ ((a ≡ b) × Before as' bs)
+  Before _ _ = ⊥
+
+  pub record FirstFault (f : CheckFault) : Type 0 where
+    pub node : ℕ
+    pub use_here : ℕ
+    pub holds : Evidence f node use_here
+    pub first : (g : CheckFault) (k u : ℕ) → Evidence g k u → Before (rank g k u) (rank f node use_here) → ⊥

@@ -1,0 +1,215 @@
+-- Where and why a packet can't be read, beside the grammar of what can.
+use Rattle.std.specs.Prelude.{◌≡◌, ℕ, zero, suc, ◌+◌, ◌*◌, ◌<◌, ◌≤◌, ℤ, pos, negsuc, Bool, true, false, List, [], ◌∷◌, ◌++◌, length, take, drop, Option, Some, None, ◌⊎◌}
+use Rattle.std.specs.List.{AllByRecursion, zip, find, range_with_len}
+use Rattle.acn_num.specs.Bits.{number}
+use Rattle.acn_num.specs.Ranges.{In, greatest}
+use Rattle.acn_grammar.specs.Grammar.{Grammar, Form, Fields, Alternatives, Data, node, num, octets, bits, text, seq, list, choice, contained, no_fields, component, inserted, no_alternatives, alternative, null}
+use Rattle.acn_grammar.specs.Code.{Any}
+use Rattle.acn_grammar.specs.Env.{Env, at_slot, AllHold}
+use Rattle.acn_grammar.specs.Asks.{same_name}
+use Rattle.acn_grammar.specs.Interval.{size_of}
+use Rattle.acn_grammar.specs.Length.{padding, index_width}
+use Rattle.acn_grammar.specs.LeafFails.{Reason, short, size_out_of_range, too_long, bad_character, no_alternative, content_size, past_content, octet_values, LeafFails}
+use Rattle.acn_grammar.specs.Slots.{domain_of}
+use Rattle.acn_grammar.specs.Spell.{Part, Padding, SizePart, CharactersPart, octet_numbers, Spell, SlotField, with_home, Chosen}
+use Rattle.acn_grammar.specs.declared.node.TextLeaf.{TextLeaf}
+use Rattle.acn_grammar.specs.declared.node.Sizing.{Sizing}
+use Rattle.acn_grammar.specs.declared.node.SizeRule.{SizeRule}
+use Rattle.acn_grammar.specs.declared.node.SizeRule.TheVariants.{Prefix, Slot}
+use Rattle.acn_grammar.specs.declared.node.ChoiceRule.{ChoiceRule}
+use Rattle.acn_grammar.specs.declared.node.ChoiceRule.TheVariants.{Index}
+use Rattle.acn_grammar.specs.declared.node.Presence.{Presence}
+use Rattle.acn_grammar.specs.declared.node.Presence.TheVariants.{Always, Bit, When}
+
+pub record Fault : Type 0 where
+  pub path : List ℕ
+  pub reason : Reason
+  pub at : ℕ
+
+-- From a position, on what is left of the input: the fault, and how many of these bits it rests on.
+abbrev pub Failing : Type 1
+Failing = ℕ → List Bool → Fault → (reach : ℕ) → Type 0
+
+-- one part spells a front, and what is behind it fails
+pub record Behind (P : Part) (F : Failing) (at : ℕ) (rest : List Bool) (fault : Fault) (reach : ℕ) : Type 0 where
+  pub front : List Bool
+  pub back : List Bool
+  pub whole : rest ≡ front ++ back
+  pub spelled : P at front
+  pub more : ℕ
+  pub fails : F (at + length front) back fault more
+  pub reaches : reach ≡ length front + more
+
+-- The node that a reason is named for: its path, the bit at which it begins, and whether a window is round it.
+pub record Here : Type 0 where
+  pub path : List ℕ
+  pub place : ℕ
+  pub inside : Bool
+
+abbrev pub seen : (inside : Bool) → Reason → Reason
+seen true short = past_content
+seen _ r = r
+
+abbrev pub Says : Here → Reason → Fault → Type 0
+Says here r fault = fault ≡ record { path = here.path; reason = seen here.inside r; at = here.place }
+
+-- fewer bits than these are left: it rests on all that is left, and on its length
+abbrev pub Short : Here → ℕ → Failing
+Short here n at rest fault reach = (length rest < n) × Says here short fault × (reach ≡ length rest)
+
+-- the size that a slot's number is
+abbrev pub kept : ℤ → ℕ
+kept (pos n) = n
+kept (negsuc n) = 0
+
+abbrev pub RuleFails : Here → Sizing → SizeRule → Env → Failing
+RuleFails here sizing (Prefix low width) env at rest fault reach =
+    Short here width at rest fault reach
+    ⊎ ((width ≤ length rest) × (In sizing.sizes (pos (low + number (take width rest))) → ⊥) × Says here (size_out_of_range (low + number (take width rest))) fault × (reach ≡ width))
+RuleFails here sizing (Slot s) env at rest fault reach = (x : ℤ) × (at_slot env s ≡ Some x) × (In sizing.sizes x → ⊥) × Says here (size_out_of_range (kept x)) fault × (reach ≡ 0)
+
+abbrev pub SizeFails : Here → Sizing → Env → Failing
+SizeFails here sizing env = RuleFails here sizing sizing.rule env
+
+-- a size that is permitted, and then what fails behind it
+pub record Sized (sizing : Sizing) (env : Env) (F : ℕ → Failing) (at : ℕ) (rest : List Bool) (fault : Fault) (reach : ℕ) : Type 0 where
+  pub n : ℕ
+  pub behind : Behind (SizePart sizing env n) (F n) at rest fault reach
+
+abbrev pub PartsFail : Here → (each : ℕ) → Sizing → Env → Failing
+PartsFail here each sizing env at rest fault reach = SizeFails here sizing env at rest fault reach ⊎ Sized sizing env (λ n. Short here (each * n)) at rest fault reach
+
+-- Texts.
+
+abbrev pub NoText : TextLeaf → List Bool → Type 0
+NoText leaf bs = (cs : List ℕ) (at : ℕ) → CharactersPart leaf cs at bs → ⊥
+
+abbrev pub CharactersFail : Here → TextLeaf → ℕ → Failing
+CharactersFail here leaf n at rest fault reach =
+    Short here (leaf.width * n) at rest fault reach
+    ⊎ ((leaf.width * n ≤ length rest) × NoText leaf (take (leaf.width * n) rest) × Says here bad_character fault × (reach ≡ leaf.width * n))
+
+-- the first place among the octets at which the terminator stands whole
+abbrev pub found_end : List ℕ → List ℕ → Option ℕ
+found_end end os = find (λ i. same_name (take (length end) (drop i os)) end) (range_with_len 0 (length os))
+
+abbrev pub FoundFails : Here → TextLeaf → (ending : ℕ) → (most : ℕ) → (available : ℕ) → List Bool → Option ℕ → Fault → (reach : ℕ) → Type 0
+FoundFails here leaf ending most available rest None fault reach =
+    ((available < most) × Says here short fault × (reach ≡ length rest)) ⊎ ((most ≤ available) × Says here too_long fault × (reach ≡ 8 * most))
+FoundFails here leaf ending most available rest (Some i) fault reach =
+    ((In leaf.sized.sizes (pos i) → ⊥) × Says here (size_out_of_range i) fault × (reach ≡ 8 * i + ending))
+    ⊎ (In leaf.sized.sizes (pos i) × NoText leaf (take (8 * i) rest) × Says here bad_character fault × (reach ≡ 8 * i + ending))
+
+abbrev pub TextFails : Here → Option (List Bool) → TextLeaf → Env → Failing
+TextFails here None leaf env at rest fault reach = SizeFails here leaf.sized env at rest fault reach ⊎ Sized leaf.sized env (CharactersFail here leaf) at rest fault reach
+TextFails here (Some end) leaf env at rest fault reach =
+    let most = size_of (greatest leaf.sized.sizes) + length (octet_numbers end) in
+    FoundFails here leaf (length end) most (length (octet_values rest)) rest (found_end (octet_numbers end) (take most (octet_values rest))) fault reach
+
+-- Components: the bits at the front and the conditions say which are there.
+
+abbrev pub presence_count : Fields → ℕ
+presence_count no_fields = 0
+presence_count (component name g Bit default fs) = suc (presence_count fs)
+presence_count (component name g _ default fs) = presence_count fs
+presence_count (inserted name g slot fs) = presence_count fs
+
+abbrev pub IsThere : Env → Presence → List Bool → Type 0
+IsThere env Always flags = Unit {0}
+IsThere env Bit (true ∷ flags) = Unit {0}
+IsThere env Bit _ = ⊥
+IsThere env (When ts) flags = AllHold env ts
+
+abbrev pub flags_behind : Presence → List Bool → List Bool
+flags_behind Bit (b ∷ flags) = flags
+flags_behind _ flags = flags
+
+abbrev pub count_of : Alternatives → ℕ
+count_of no_alternatives = 0
+count_of (alternative name g tests more) = suc (count_of more)
+
+-- n more elements, the next of which is element k
+abbrev pub RunFails : (Data → Part) → (ℕ → Failing) → (n k : ℕ) → Failing
+RunFails each fails zero k at rest fault reach = ⊥
+RunFails each fails (suc n) k at rest fault reach = fails k at rest fault reach ⊎ ((d : Data) × Behind (each d) (RunFails each fails n (suc k)) at rest fault reach)
+
+-- behind as many bits, which say something, it fails
+abbrev pub After : ℕ → Failing → Failing
+After n F at rest fault reach = (n ≤ length rest) × ((more : ℕ) × F (at + n) (drop n rest) fault more × (reach ≡ n + more))
+
+module _ (root : Grammar) where
+  -- contents that leave a byte or more of their window
+  pub record Overlong (here : Here) (n : ℕ) (content : Part) (window : List Bool) (fault : Fault) : Type 0 where
+    pub used : List Bool
+    pub left : List Bool
+    pub whole : window ≡ used ++ left
+    pub spelled : content 0 used
+    pub byte : 8 ≤ length left
+    pub says : Says here (content_size n (length used)) fault
+
+  -- no alternative is chosen
+  abbrev pub NoneChosen : Alternatives → ChoiceRule → Env → Type 0
+  NoneChosen no_alternatives rule env = Unit {0}
+  NoneChosen (alternative name g tests more) rule env = (Chosen root rule env name tests → ⊥) × NoneChosen more rule env
+
+  abbrev pub IndexFails : Here → ChoiceRule → Alternatives → Env → Failing
+  IndexFails here (Index width) cases env at rest fault reach =
+      Short here width at rest fault reach ⊎ ((width ≤ length rest) × (count_of cases ≤ number (take width rest)) × Says here no_alternative fault × (reach ≡ width))
+  IndexFails here rule cases env at rest fault reach = NoneChosen cases rule env × Says here no_alternative fault × (reach ≡ 0)
+
+  abbrev pub IndexIs : ChoiceRule → List Bool → ℕ → Type 0
+  IndexIs (Index width) rest i = number (take width rest) ≡ i
+  IndexIs _ rest i = Unit {0}
+
+  abbrev mutual
+    -- origin is the bit of the packet at which position 0 lies
+    pub Fails : Grammar → Env → (inside : Bool) → (origin : ℕ) → List ℕ → Failing
+    Fails (node align form) env inside origin path at rest fault reach =
+        let here : Here = record { path = path; place = origin + at; inside = inside } in
+        Short here (padding align at) at rest fault reach ⊎ Behind (Padding Any align) (FormFails form env here origin) at rest fault reach
+
+    pub FormFails : Form → Env → Here → (origin : ℕ) → Failing
+    FormFails (num leaf) env here origin at rest fault reach = (r : Reason) × LeafFails leaf rest r reach × Says here r fault
+    FormFails (octets sizing) env here origin at rest fault reach = PartsFail here 8 sizing env at rest fault reach
+    FormFails (bits sizing) env here origin at rest fault reach = PartsFail here 1 sizing env at rest fault reach
+    FormFails (text leaf) env here origin at rest fault reach = TextFails here leaf.ended leaf env at rest fault reach
+    FormFails (seq fields home) env here origin at rest fault reach =
+        let n = presence_count fields in
+        Short here n at rest fault reach
+        ⊎ ((xs : List ℤ) × (length xs ≡ length home) × AllByRecursion (λ e. In (domain_of root e.0) e.1) (zip home xs)
+        × After n (FieldsFail fields (with_home home xs env) (take n rest) here origin 0) at rest fault reach)
+    FormFails (list sizing g) env here origin at rest fault reach =
+        SizeFails here sizing env at rest fault reach
+        ⊎ Sized sizing env (λ n. RunFails (Spell root Any g env) (λ k. Fails g env here.inside origin (here.path ++ k ∷ [])) n 0) at rest fault reach
+    FormFails (choice cases rule) env here origin at rest fault reach =
+        IndexFails here rule cases env at rest fault reach
+        ⊎ ((i : ℕ) × IndexIs rule rest i × After (index_width rule) (AlternativeFails cases rule env here origin i i) at rest fault reach)
+    FormFails (contained sizing g) env here origin at rest fault reach =
+        SizeFails here sizing env at rest fault reach
+        ⊎ Sized sizing env (λ n at' back fault' reach'.
+        Short here (8 * n) at' back fault' reach'
+        ⊎ ((8 * n ≤ length back) × (((inner : ℕ) × Fails g env true (origin + at') (here.path ++ 0 ∷ []) 0 (take (8 * n) back) fault' inner)
+        ⊎ ((d : Data) × Overlong here n (Spell root Any g env d) (take (8 * n) back) fault')) × (reach' ≡ 8 * n))) at rest fault reach
+
+    pub FieldsFail : Fields → Env → (flags : List Bool) → Here → (origin : ℕ) → (k : ℕ) → Failing
+    FieldsFail (component name g presence default fs) env flags here origin k at rest fault reach =
+        (IsThere env presence flags × (Fails g env here.inside origin (here.path ++ k ∷ []) at rest fault reach
+        ⊎ ((d : Data) × Behind (Spell root Any g env d) (FieldsFail fs env (flags_behind presence flags) here origin (suc k)) at rest fault reach)))
+        ⊎ ((IsThere env presence flags → ⊥) × FieldsFail fs env (flags_behind presence flags) here origin (suc k) at rest fault reach)
+    FieldsFail (inserted name g (Some s) fs) env flags here origin k at rest fault reach =
+        Fails g env here.inside origin (here.path ++ k ∷ []) at rest fault reach
+        ⊎ Behind (SlotField root Any g env s) (FieldsFail fs env flags here origin (suc k)) at rest fault reach
+    FieldsFail (inserted name g None fs) env flags here origin k at rest fault reach =
+        Fails g env here.inside origin (here.path ++ k ∷ []) at rest fault reach
+        ⊎ Behind (Spell root Any g env null) (FieldsFail fs env flags here origin (suc k)) at rest fault reach
+    FieldsFail no_fields env flags here origin k at rest fault reach = ⊥
+
+    pub AlternativeFails : Alternatives → ChoiceRule → Env → Here → (origin : ℕ) → (i j : ℕ) → Failing
+    AlternativeFails (alternative name g tests more) rule env here origin i zero at rest fault reach =
+        Chosen root rule env name tests × Fails g env here.inside origin (here.path ++ i ∷ []) at rest fault reach
+    AlternativeFails (alternative name g tests more) rule env here origin i (suc j) at rest fault reach = AlternativeFails more rule env here origin i j at rest fault reach
+    AlternativeFails no_alternatives rule env here origin i j at rest fault reach = ⊥
+
+  -- A packet that can't be read: the fault, and how many bits from the packet's first on it rests on.
+  abbrev pub Refusal : List Bool → Fault → (reach : ℕ) → Type 0
+  Refusal input fault reach = Fails root [] false 0 [] 0 input fault reach

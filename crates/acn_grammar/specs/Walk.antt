@@ -1,0 +1,101 @@
+-- The nodes of a grammar in preorder, and what each uses.
+use Rattle.std.specs.Prelude.{ℕ, suc, List, [], ◌∷◌, ◌++◌, Option, None, map}
+use Rattle.acn_grammar.specs.Grammar.{Grammar, Form, Fields, Alternatives, node, octets, bits, text, seq, list, choice, contained, no_fields, component, inserted, no_alternatives, alternative}
+use Rattle.acn_grammar.specs.declared.node.Presence.{Presence}
+use Rattle.acn_grammar.specs.declared.node.Presence.TheVariants.{When}
+use Rattle.acn_grammar.specs.declared.node.Test.{Test}
+use Rattle.acn_grammar.specs.declared.node.Test.TheVariants.{Flag, Equals}
+use Rattle.acn_grammar.specs.declared.node.SizeRule.{SizeRule}
+use Rattle.acn_grammar.specs.declared.node.SizeRule.TheVariants.{Prefix, Slot}
+use Rattle.acn_grammar.specs.declared.node.ChoiceRule.{ChoiceRule}
+use Rattle.acn_grammar.specs.declared.node.ChoiceRule.TheVariants.{Item}
+
+-- where a node stands in the one above it
+pub data Role : Type 0 where
+  root_node : Role
+  a_component : (name : List ℕ) → Presence → Role
+  an_inserted : (name : List ℕ) → (slot : Option ℕ) → Role
+  an_alternative : (name : List ℕ) → List Test → Role
+  an_element : Role
+  a_content : Role
+
+pub record Stand : Type 0 where
+  pub path : List ℕ
+  -- the slots at home in the SEQUENCEs round the node, those of the nearest first
+  pub around : List ℕ
+  pub role : Role
+  pub align : ℕ
+  pub form : Form
+
+abbrev mutual
+  pub nodes : Role → List ℕ → List ℕ → Grammar → List Stand
+  nodes role path around (node align form) = record { path = path; around = around; role = role; align = align; form = form } ∷ form_nodes path around form
+
+  pub form_nodes : List ℕ → List ℕ → Form → List Stand
+  form_nodes path around (seq fields home) = field_nodes path (home ++ around) 0 fields
+  form_nodes path around (list sizing g) = nodes an_element (path ++ 0 ∷ []) around g
+  form_nodes path around (choice alternatives rule) = alternative_nodes path around 0 alternatives
+  form_nodes path around (contained sizing g) = nodes a_content (path ++ 0 ∷ []) around g
+  form_nodes path around _ = []
+
+  pub field_nodes : List ℕ → List ℕ → ℕ → Fields → List Stand
+  field_nodes path around k no_fields = []
+  field_nodes path around k (component name g presence default fs) = nodes (a_component name presence) (path ++ k ∷ []) around g ++ field_nodes path around (suc k) fs
+  field_nodes path around k (inserted name g slot fs) = nodes (an_inserted name slot) (path ++ k ∷ []) around g ++ field_nodes path around (suc k) fs
+
+  pub alternative_nodes : List ℕ → List ℕ → ℕ → Alternatives → List Stand
+  alternative_nodes path around k no_alternatives = []
+  alternative_nodes path around k (alternative name g tests more) = nodes (an_alternative name tests) (path ++ k ∷ []) around g ++ alternative_nodes path around (suc k) more
+
+abbrev pub nodes_of : Grammar → List Stand
+nodes_of root = nodes root_node [] [] root
+
+-- the nodes inside one, in preorder
+abbrev pub inside : Stand → List Stand
+inside at = form_nodes at.path at.around at.form
+
+-- Uses of slots: a node's own conditions in order, then its determinant, then its size.
+
+pub data Use : Type 0 where
+  condition : Test → Use
+  item_of : (slot : ℕ) → Use
+  size_of : (slot : ℕ) → Use
+
+abbrev pub slot_of : Use → ℕ
+slot_of (condition (Flag s)) = s
+slot_of (condition (Equals s k)) = s
+slot_of (item_of s) = s
+slot_of (size_of s) = s
+
+abbrev pub presence_tests : Presence → List Test
+presence_tests (When ts) = ts
+presence_tests _ = []
+
+abbrev pub own_tests : Role → List Test
+own_tests (a_component name presence) = presence_tests presence
+own_tests (an_alternative name ts) = ts
+own_tests _ = []
+
+abbrev pub rule_uses : SizeRule → List Use
+rule_uses (Slot s) = size_of s ∷ []
+rule_uses (Prefix low width) = []
+
+abbrev pub choice_uses : ChoiceRule → List Use
+choice_uses (Item s) = item_of s ∷ []
+choice_uses _ = []
+
+abbrev pub form_uses : Form → List Use
+form_uses (octets sizing) = rule_uses sizing.rule
+form_uses (bits sizing) = rule_uses sizing.rule
+form_uses (text leaf) = rule_uses leaf.sized.rule
+form_uses (list sizing g) = rule_uses sizing.rule
+form_uses (contained sizing g) = rule_uses sizing.rule
+form_uses (choice _ rule) = choice_uses rule
+form_uses _ = []
+
+abbrev pub uses : Stand → List Use
+uses at = map condition (own_tests at.role) ++ form_uses at.form
+
+abbrev pub slot_here : Role → Option ℕ
+slot_here (an_inserted name slot) = slot
+slot_here _ = None

@@ -1,0 +1,99 @@
+use acn_num::{NoMemory, Path, Row};
+use std::alloc::{AllocError, AllocFailed};
+
+/// What keeps a grammar from being decoded: a path has child numbers from the root, in a list 0.
+/// `det` is the inserted field of a slot, `user` the node that uses it. The rules are this profile's own.
+#[derive(Debug, Drop)]
+pub enum CheckFault {
+    /// The determinant stands behind its use.
+    Forward {
+        user: Path,
+        det: Path,
+    },
+    /// The use asks for a determinant of another kind.
+    DetKind {
+        user: Path,
+        det: Path,
+    },
+    /// The codes of the determinant don't all have one width of at most 64 bits.
+    DetWidth {
+        det: Path,
+    },
+    /// These numbers of slots, ascending, meet the conditions of both alternatives.
+    Overlap {
+        choice: Path,
+        first: u32,
+        second: u32,
+        values: Row<(u32, i128)>,
+    },
+    /// An optional component has more than one condition.
+    AbsentUnclear {
+        at: Path,
+    },
+    /// An inserted field other than NULL has no use.
+    Unused {
+        det: Path,
+    },
+    /// No item of the determinant has the name of the alternative.
+    NoItem {
+        choice: Path,
+        alternative: u32,
+    },
+    /// Some alternatives have conditions and some none, or conditions stand beside a determinant.
+    MixedChoice {
+        choice: Path,
+    },
+    /// The greatest bound in bits is over 524,336.
+    TooLong {
+        bits: u64,
+    },
+    /// The homes on the path to the node, itself included, have more than 256 slots.
+    TooManyOpen {
+        at: Path,
+        count: u32,
+    },
+    /// More than 64 conditions compare the determinant with a number.
+    TooManyConditions {
+        det: Path,
+        count: u32,
+    },
+    /// The greatest number of values of a packet is over 1,048,576.
+    TooManyValues {
+        count: u64,
+    },
+    /// Memory ran out.
+    NoMemory,
+}
+
+impl From<AllocError> for CheckFault {
+    ghost use Rattle.std.specs.Prelude.{◌≡◌};
+    ghost use Rattle.acn_grammar.specs.declared.check_fault.CheckFault.TheVariants.{NoMemory};
+
+    ghost from_gives = { λ _ e. e ≡ NoMemory };
+
+    fn from(_: AllocError) -> CheckFault {
+        CheckFault::NoMemory
+    }
+}
+
+impl<T: Drop> From<AllocFailed<T>> for CheckFault {
+    ghost use Rattle.std.specs.Prelude.{◌≡◌};
+    ghost use Rattle.acn_grammar.specs.declared.check_fault.CheckFault.TheVariants.{NoMemory};
+
+    ghost from_gives = { λ _ e. e ≡ NoMemory };
+
+    fn from(_: AllocFailed<T>) -> CheckFault {
+        CheckFault::NoMemory
+    }
+}
+
+impl From<NoMemory> for CheckFault {
+    ghost use Rattle.std.specs.Prelude.{◌≡◌};
+    ghost use Rattle.acn_grammar.specs.declared.check_fault.CheckFault.TheVariants as fault;
+
+    ghost from_gives = { λ _ e. e ≡ fault.NoMemory };
+
+    fn from(_: NoMemory) -> CheckFault {
+        CheckFault::NoMemory
+    }
+}

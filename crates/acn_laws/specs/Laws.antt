@@ -1,0 +1,125 @@
+-- Laws of the definitions, as contracts name them.
+use Rattle.std.specs.Prelude.{◌≡◌, ◌≢◌, ℕ, ◌≤◌, ◌<◌, ℤ, Bool, false, List, [], ◌∷◌, ◌++◌, length, map, take, Some, IsTrue}
+use Rattle.std.specs.List.{flat_map}
+use Rattle.acn_grammar.specs.Grammar.{Grammar, Data, node}
+use Rattle.acn_num.specs.Ranges.{In}
+use Rattle.acn_grammar.specs.Check.{CheckFault, NodeAt, Undecodable, FirstFault, HasWidth}
+use Rattle.acn_grammar.specs.Code.{Mode, Any, Code}
+use Rattle.acn_grammar.specs.Env.{Env, at_slot}
+use Rattle.acn_grammar.specs.Fails.{Fault, Refusal}
+use Rattle.acn_grammar.specs.Front.{Front}
+use Rattle.acn_grammar.specs.Interval.{span, width_of}
+use Rattle.acn_grammar.specs.LeafFails.{short}
+use Rattle.acn_grammar.specs.Length.{bit_length}
+use Rattle.acn_grammar.specs.Leaves.{num_fine}
+use Rattle.acn_grammar.specs.Scoped.{Known, Agree, after, FineField, Permitted, Scoped}
+use Rattle.acn_grammar.specs.Spell.{Spell, SlotField}
+use Rattle.acn_grammar.specs.Tree.{IsTree, holds, slots_of}
+use Rattle.acn_grammar.specs.View.{data_of, grammar_of}
+use Rattle.acn_grammar.specs.Walk.{Stand, inside, slot_here, slot_of, uses}
+use Rattle.acn_grammar.specs.declared.node.Node.{Node}
+use Rattle.acn_grammar.specs.declared.node.NumLeaf.{NumLeaf}
+use Rattle.acn_grammar.specs.declared.value.Value.{Value}
+
+-- no code of a leaf that keeps its rules begins another, and the code tells the number
+abbrev pub NumbersArePrefixFree : Type 0
+NumbersArePrefixFree =
+    (leaf : NumLeaf) → IsTrue (num_fine leaf) → (x z : ℤ) (a b r s : List Bool) → Code Any leaf x a → Code Any leaf z b → a ++ r ≡ b ++ s → (a ≡ b) × (x ≡ z)
+
+-- in a tree whose greatest bound is within a packet's limit every spelling has a length between the bounds
+abbrev pub BoundsHold : Type 0
+BoundsHold =
+    (root : Grammar) (mode : Mode) (d : Data) (bs : List Bool) → IsTree root → (span root).greatest ≤ 524336 → Spell root mode root [] d 0 bs → ((span root).least ≤ length bs) × (length bs ≤ (span root).greatest)
+
+-- a failure other than the want of bits is the same on every input with the same bits up to where it rests
+abbrev pub FailuresRestOnBits : Type 0
+FailuresRestOnBits =
+    (root : Grammar) (input other : List Bool) (fault : Fault) (reach : ℕ) → IsTree root → Refusal root input fault reach → fault.reason ≢ short → take reach other ≡ take reach input → Refusal root other fault reach
+
+-- the value at the front of an input is at the front of every input with the same bits
+abbrev pub FrontsRestOnBits : Type 0
+FrontsRestOnBits =
+    (root : Grammar) (input other : List Bool) (d : Data) (n : ℕ) → Front root input d n → take n other ≡ take n input → Front root other d n
+
+-- Trees that are accepted.
+
+-- what the check says of a tree that it accepts: it is well formed, and no fault comes first
+pub record IsAccepted (root : Grammar) : Type 0 where
+  pub formed : IsTree root
+  pub sound : (f : CheckFault) → FirstFault root f → ⊥
+
+-- where no fault comes first there is none
+abbrev pub NoFaultWithoutAFirst : Type 0
+NoFaultWithoutAFirst = (root : Grammar) → ((f : CheckFault) → FirstFault root f → ⊥) → (f : CheckFault) → Undecodable root f → ⊥
+
+-- an accepted tree is scoped: before it nothing is known
+abbrev pub AcceptedIsScoped : Type 0
+AcceptedIsScoped = (root : Grammar) → IsAccepted root → Scoped root (λ s. false) root
+
+-- No spelling begins another.
+
+-- Two spellings of one node at one position, one of which begins with the other, under permitted numbers that agree on what is known: the bits and the values are the same, and the numbers agree on what is known behind the node.
+abbrev pub NodesArePrefixFree : Type 0
+NodesArePrefixFree =
+    (root g : Grammar) (ks : Known) (env env' : Env) (d d' : Data) (at : ℕ) (a b r s : List Bool) → Scoped root ks g → Permitted root env → Agree ks env env'
+    → Spell root Any g env d at a → Spell root Any g env' d' at b → a ++ r ≡ b ++ s → (a ≡ b) × (d ≡ d') × Agree (after ks g) env env'
+
+-- the same of an inserted field: the bits and the slot's number are the same
+abbrev pub SlotFieldsArePrefixFree : Type 0
+SlotFieldsArePrefixFree =
+    (root g : Grammar) (env env' : Env) (slot at : ℕ) (a b r s : List Bool) → FineField g → SlotField root Any g env slot at a → SlotField root Any g env' slot at b → a ++ r ≡ b ++ s → (a ≡ b) × (at_slot env slot ≡ at_slot env' slot)
+
+-- the field of the slot stands before node k
+abbrev pub FieldBefore : Grammar → (k slot : ℕ) → Type 0
+FieldBefore root k s = (j : ℕ) × (field : Stand) × NodeAt root j field × (slot_here field.role ≡ Some s) × (j < k)
+
+-- the node or a node inside it uses the slot
+abbrev pub UsedIn : Stand → (slot : ℕ) → Type 0
+UsedIn at s = IsTrue (holds (map slot_of (flat_map uses (at ∷ inside at))) s)
+
+-- Node k of an accepted tree: where the numbers agree on each open slot that the node or a node inside it uses and whose field stands before it, the bits and the values are the same, and the numbers agree on each open slot whose field stands inside.
+abbrev pub EachNodeIsPrefixFree : Type 0
+EachNodeIsPrefixFree =
+    (root : Grammar) (k : ℕ) (here : Stand) (env env' : Env) (d d' : Data) (at : ℕ) (a b r s : List Bool) → IsAccepted root → NodeAt root k here → Permitted root env
+    → ((slot : ℕ) → IsTrue (holds here.around slot) → UsedIn here slot → FieldBefore root k slot → at_slot env slot ≡ at_slot env' slot)
+    → Spell root Any (node here.align here.form) env d at a → Spell root Any (node here.align here.form) env' d' at b → a ++ r ≡ b ++ s
+    → (a ≡ b) × (d ≡ d') × ((slot : ℕ) → IsTrue (holds here.around slot) → IsTrue (holds (slots_of (inside here)) slot) → at_slot env slot ≡ at_slot env' slot)
+
+-- no packet of an accepted tree begins another, and its bits tell the value
+abbrev pub PacketsArePrefixFree : Type 0
+PacketsArePrefixFree =
+    (root : Grammar) (d d' : Data) (a b r s : List Bool) → IsAccepted root → Spell root Any root [] d 0 a → Spell root Any root [] d' 0 b → a ++ r ≡ b ++ s → (a ≡ b) × (d ≡ d')
+
+-- Numbers and lengths.
+
+-- every permitted number of a leaf that keeps its rules has a code, read or written
+abbrev pub EachNumberHasACode : Type 0
+EachNumberHasACode = (mode : Mode) (leaf : NumLeaf) → IsTrue (num_fine leaf) → (x : ℤ) → In leaf.set x → (bs : List Bool) × Code mode leaf x bs
+
+-- the width of such a leaf is the one length of its codes, where there is one
+abbrev pub WidthsAreLengths : Type 0
+WidthsAreLengths = (leaf : NumLeaf) (w : ℕ) → IsTrue (num_fine leaf) → (width_of leaf ≡ Some w → HasWidth leaf w) × (HasWidth leaf w → width_of leaf ≡ Some w)
+
+-- in an accepted tree a spelling has the length that the value and the position determine
+abbrev pub LengthsAreTold : Type 0
+LengthsAreTold = (root : Grammar) (mode : Mode) (d : Data) (bs : List Bool) → IsAccepted root → Spell root mode root [] d 0 bs → length bs ≡ bit_length root 0 d
+
+-- the same of each node
+abbrev pub EachLengthIsTold : Type 0
+EachLengthIsTold =
+    (root : Grammar) (k : ℕ) (here : Stand) (mode : Mode) (env : Env) (d : Data) (at : ℕ) (bs : List Bool) → IsAccepted root → NodeAt root k here
+    → Spell root mode (node here.align here.form) env d at bs → length bs ≡ bit_length (node here.align here.form) at d
+
+-- What an accepted tree says of an input.
+
+-- the value at the front of an input is one, and so is the number of its bits
+abbrev pub OneFront : Type 0
+OneFront = (root : Grammar) (input : List Bool) (d d' : Data) (m n : ℕ) → IsAccepted root → Front root input d m → Front root input d' n → (d ≡ d') × (m ≡ n)
+
+-- where a value is at the front, nothing fails
+abbrev pub FrontsExcludeFailures : Type 0
+FrontsExcludeFailures = (root : Grammar) (input : List Bool) (d : Data) (n : ℕ) (fault : Fault) (reach : ℕ) → IsAccepted root → Front root input d n → Refusal root input fault reach → ⊥
+
+-- the failure is one: its path, its reason and its bit, and how many bits it rests on
+abbrev pub OneFailure : Type 0
+OneFailure = (root : Grammar) (input : List Bool) (f g : Fault) (m n : ℕ) → IsAccepted root → Refusal root input f m → Refusal root input g n → (f ≡ g) × (m ≡ n)

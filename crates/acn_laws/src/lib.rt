@@ -1,0 +1,21 @@
+//! Laws about spellings, failures and bounds: each is the contract of a function that does nothing.
+#![tactic(auto)]
+
+mod laws;
+mod row_laws;
+
+pub use laws::{
+    accepted_is_scoped, bounds_hold, each_length_is_told, each_node_is_prefix_free,
+    each_number_has_a_code, failures_rest_on_bits, fronts_exclude_failures, fronts_rest_on_bits,
+    lengths_are_told, no_fault_without_a_first, nodes_are_prefix_free, numbers_are_prefix_free,
+    one_failure, one_front, packets_are_prefix_free, slot_fields_are_prefix_free,
+    widths_are_lengths,
+};
+pub use row_laws::{
+    a_count_is_the_least, a_pattern_has_a_complement, a_size_stands_in_front,
+    a_size_stands_in_its_field, a_terminator_ends_the_text, an_end_of_bits_is_short,
+    characters_stand_by_their_places, conditions_that_are_missed_are_avoided,
+    contents_fill_their_octets, digits_with_an_end_are_least, each_digit_is_below_ten,
+    fields_follow_each_other, padding_is_read_in_any_way, presence_bits_stand_in_front,
+    sizes_in_one_field_agree, what_nothing_asks_about_is_least, zero_has_no_minus,
+};

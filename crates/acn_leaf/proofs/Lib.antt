@@ -1,0 +1,6 @@
+pub mod CodeLengths
+pub mod NumParts
+pub mod Patterns
+pub mod Sizes
+pub mod Spelled
+pub mod TableRules

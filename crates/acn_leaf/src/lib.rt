@@ -1,0 +1,12 @@
+//! The rules that leaves of a packet's grammar keep, and how long their codes are.
+#![tactic(auto)]
+
+mod leaf_rules;
+mod lengths;
+mod number_rules;
+mod size_rules;
+mod table_rules;
+
+pub use leaf_rules::{num_fine, same_text};
+pub use lengths::{code_lengths, fixed_width, width};
+pub use size_rules::{is_least, sizing_fine, text_fine};

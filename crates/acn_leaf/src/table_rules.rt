@@ -1,0 +1,245 @@
+ghost use Rattle.std.specs.Prelude.{◌≡◌, ◌&&◌, int_le, ◌≤ℤ◌, ◌+ℤ◌, ◌-ℤ◌, true, nat_eq, ◌∷◌, []};
+ghost use Rattle.std.specs.Int.{int_max, int_min};
+ghost use Rattle.std.specs.List.{list_all, list_any, flat_map};
+ghost use Rattle.acn_num.specs.Ranges.{count};
+ghost use Rattle.acn_leaf.specs.Ends.{ends_behind};
+ghost use Rattle.acn_grammar.specs.Images as images;
+ghost use Rattle.acn_grammar.specs.Leaves as leaves;
+ghost use Rattle.acn_leaf.specs.Taken.{left_of};
+
+use crate::number_rules::is_number;
+use crate::size_rules::apart;
+use acn_num::RangeSet;
+
+fn greater<'a>(a: &'a i128, b: &'a i128) -> &'a i128
+    ensures { result.now ≡ int_max a.now b.now }
+{
+    if *b < *a { a } else { b }
+}
+
+fn less<'a>(a: &'a i128, b: &'a i128) -> &'a i128
+    ensures { result.now ≡ int_min a.now b.now }
+{
+    if *b < *a { b } else { a }
+}
+
+fn is_at_most(a: &i128, b: &i128) -> bool
+    ensures { result ≡ int_le a.now b.now }
+{
+    *a <= *b
+}
+
+// The number as far from `to` as the key is from the first one.
+fn shifted(to: &i128, first: &i128, key: &i128) -> i128
+    requires to { leaves.is_number to.now ≡ true }
+    requires first { leaves.is_number first.now ≡ true }
+    requires key { leaves.is_number key.now ≡ true }
+    ensures { result ≡ to.now +ℤ (key.now -ℤ first.now) }
+{
+    *to + (*key - *first)
+}
+
+// Whether keys and images of the line are numbers in order.
+fn line_fine(line: &(i128, i128, i128)) -> bool
+    ensures { result ≡ leaves.line_fine line.now }
+{
+    if line.0 <= line.1 && is_number(&line.0) && is_number(&line.1) && is_number(&line.2) {
+        is_number(&shifted(&line.2, &line.0, &line.1))
+    } else {
+        false
+    }
+}
+
+fn lines_fine(lines: &[(i128, i128, i128)]) -> bool
+    ensures { result ≡ list_all leaves.line_fine lines.now }
+{
+    for line in lines {
+        if !line_fine(line) {
+            return false;
+        }
+    }
+    true
+}
+
+// The image of a key.
+fn image(line: &(i128, i128, i128), key: &i128) -> i128
+    requires line { leaves.line_fine line.now ≡ true }
+    requires first { line.now.0 ≤ℤ key.now }
+    requires last { key.now ≤ℤ line.now.1 }
+    ensures { result ≡ line.now.2 +ℤ (key.now -ℤ line.now.0) }
+{
+    shifted(&line.2, &line.0, key)
+}
+
+// Whether the two have a number in common.
+fn meet(low: &i128, high: &i128, other_low: &i128, other_high: &i128) -> bool
+    ensures { result ≡ (int_le low.now other_high.now && int_le other_low.now high.now) }
+{
+    *low <= *other_high && *other_low <= *high
+}
+
+// Whether the two lines have a key or an image in common.
+fn share(a: &(i128, i128, i128), b: &(i128, i128, i128)) -> bool
+    requires first { leaves.line_fine a.now ≡ true }
+    requires second { leaves.line_fine b.now ≡ true }
+    ensures { result ≡ leaves.share a.now b.now }
+{
+    let last_of_a = image(a, &a.1);
+    let last_of_b = image(b, &b.1);
+    meet(&a.0, &a.1, &b.0, &b.1) || meet(&a.2, &last_of_a, &b.2, &last_of_b)
+}
+
+// Whether the line has a key or an image in common with one of the others.
+fn shares_one(line: &(i128, i128, i128), others: &[(i128, i128, i128)]) -> bool
+    requires line { leaves.line_fine line.now ≡ true }
+    requires others { list_all leaves.line_fine others.now ≡ true }
+    ensures { result ≡ list_any (leaves.share line.now) others.now }
+{
+    for other in others {
+        if share(line, other) {
+            return true;
+        }
+    }
+    false
+}
+
+// Whether no two lines have a key or an image in common.
+fn lines_differ(lines: &[(i128, i128, i128)]) -> bool
+    requires { list_all leaves.line_fine lines.now ≡ true }
+    ensures { result ≡ leaves.all_differ leaves.share lines.now }
+{
+    for at in 0..lines.len() {
+        if shares_one(&lines[at], &lines[at + 1..]) {
+            return false;
+        }
+    }
+    true
+}
+
+// What is left of the count behind the numbers that a line maps of a range.
+fn left_by_line(left: u128, range: &(i128, i128), line: &(i128, i128, i128)) -> Option<u128>
+    requires { leaves.line_fine line.now ≡ true }
+    ensures { result ≡ left_of left (count (images.clipped range.now line.now)) }
+{
+    let low = greater(&range.0, &line.0);
+    let high = less(&range.1, &line.1);
+    if is_at_most(low, high) {
+        left.checked_sub(apart(low, high) + 1)
+    } else {
+        Some(left)
+    }
+}
+
+fn left_by_lines(left: u128, range: &(i128, i128), lines: &[(i128, i128, i128)]) -> Option<u128>
+    requires { list_all leaves.line_fine lines.now ≡ true }
+    ensures { result ≡ left_of left (count (flat_map (images.clipped range.now) lines.now)) }
+{
+    let mut rest = left;
+    for line in lines {
+        match left_by_line(rest, range, line) {
+            Some(less) => rest = less,
+            None => return None,
+        }
+    }
+    Some(rest)
+}
+
+fn left_by_ranges(left: u128, ranges: &[(i128, i128)], lines: &[(i128, i128, i128)]) -> Option<u128>
+    requires { list_all leaves.line_fine lines.now ≡ true }
+    ensures { result ≡ left_of left (count (flat_map (λ r. flat_map (images.clipped r) lines.now) ranges.now)) }
+{
+    let mut rest = left;
+    for range in ranges {
+        match left_by_lines(rest, range, lines) {
+            Some(less) => rest = less,
+            None => return None,
+        }
+    }
+    Some(rest)
+}
+
+// Whether the lines map as many numbers of the set as there are, no key being in two lines.
+fn maps_each(set: &RangeSet, lines: &[(i128, i128, i128)]) -> bool
+    requires { list_all leaves.line_fine lines.now ≡ true }
+    ensures { result ≡ nat_eq (count (flat_map (λ r. flat_map (images.clipped r) lines.now) set.now)) (count set.now) }
+{
+    match left_by_ranges(set.count(), set.ranges(), lines) {
+        Some(rest) => rest == 0,
+        None => false,
+    }
+}
+
+/// Whether the lines are one to one, within the numbers, and map every number of the set.
+pub fn lines_map(set: &RangeSet, lines: &[(i128, i128, i128)]) -> bool
+    ensures { result ≡ (list_all leaves.line_fine lines.now && (leaves.all_differ leaves.share lines.now && nat_eq (count (flat_map (λ r. flat_map (images.clipped r) lines.now) set.now)) (count set.now))) }
+{
+    if !lines_fine(lines) {
+        return false;
+    }
+    lines_differ(lines) && maps_each(set, lines)
+}
+
+/// The ends of a range and of some before it.
+pub fn widen(ends: &Option<(i128, i128)>, low: &i128, high: &i128) -> Option<(i128, i128)>
+    ensures { result ≡ ends_behind ends.now ((low.now, high.now) ∷ []) }
+{
+    match ends {
+        None => Some((*low, *high)),
+        Some((first, last)) => Some((*less(first, low), *greater(last, high))),
+    }
+}
+
+fn widen_by_line(
+    ends: &Option<(i128, i128)>,
+    range: &(i128, i128),
+    line: &(i128, i128, i128),
+) -> Option<(i128, i128)>
+    requires { leaves.line_fine line.now ≡ true }
+    ensures { result ≡ ends_behind ends.now (images.clipped range.now line.now) }
+{
+    let low = greater(&range.0, &line.0);
+    let high = less(&range.1, &line.1);
+    if is_at_most(low, high) {
+        widen(ends, &image(line, low), &image(line, high))
+    } else {
+        *ends
+    }
+}
+
+fn widen_by_lines(
+    ends: &Option<(i128, i128)>,
+    range: &(i128, i128),
+    lines: &[(i128, i128, i128)],
+) -> Option<(i128, i128)>
+    requires { list_all leaves.line_fine lines.now ≡ true }
+    ensures { result ≡ ends_behind ends.now (flat_map (images.clipped range.now) lines.now) }
+{
+    let mut wide = *ends;
+    for line in lines {
+        wide = widen_by_line(&wide, range, line);
+    }
+    wide
+}
+
+/// The least and the greatest image of the numbers of these ranges.
+pub fn image_ends(ranges: &[(i128, i128)], lines: &[(i128, i128, i128)]) -> Option<(i128, i128)>
+    requires { list_all leaves.line_fine lines.now ≡ true }
+    ensures { result ≡ images.ends (flat_map (λ r. flat_map (images.clipped r) lines.now) ranges.now) }
+{
+    let mut wide = None;
+    for range in ranges {
+        wide = widen_by_lines(&wide, range, lines);
+    }
+    wide
+}
+
+/// The least and the greatest number of these ranges.
+pub fn ends(ranges: &[(i128, i128)]) -> Option<(i128, i128)>
+    ensures { result ≡ images.ends ranges.now }
+{
+    let mut wide = None;
+    for range in ranges {
+        wide = widen(&wide, &range.0, &range.1);
+    }
+    wide
+}

@@ -1,9 +1,0 @@
--- Alternatives as a row.
-use Rattle.std.proofs.Common.{◌≡◌, suc, List, [], ◌∷◌, length, refl, ap}
-use Rattle.acn_tree.specs.Check.{conditions_of}
-use Rattle.acn_tree.specs.View.{alternatives_view}
-use Rattle.acn_tree.specs.declared.node.Alternative.{Alternative}
-
-pub alternatives_counted : (as' : List Alternative) → length as' ≡ length (conditions_of (alternatives_view as'))
-alternatives_counted [] = refl
-alternatives_counted (a ∷ as') = ap suc (alternatives_counted as')

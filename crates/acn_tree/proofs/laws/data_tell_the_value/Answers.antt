@@ -1,5 +1,0 @@
-use Rattle.acn_tree.proofs.Back.{same_data}
-use Rattle.acn_tree.proofs.laws.data_tell_the_value.Goals as goal
-
-pub returns : goal.returns
-returns c = same_data

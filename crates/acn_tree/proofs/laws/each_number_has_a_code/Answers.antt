@@ -1,5 +1,0 @@
-use Rattle.acn_tree.proofs.Codes.{each_number_has_a_code}
-use Rattle.acn_tree.proofs.laws.each_number_has_a_code.Goals as goal
-
-pub returns : goal.returns
-returns c = each_number_has_a_code

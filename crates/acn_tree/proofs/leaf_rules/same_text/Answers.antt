@@ -1,6 +1,0 @@
-use Rattle.std.proofs.Common.{◌∙◌}
-use Rattle.acn_tree.proofs.Spelled.{same_by_byte}
-use Rattle.acn_tree.proofs.leaf_rules.same_text.Goals as goal
-
-pub returns : goal.returns
-returns c = c.eq.ensures ∙ same_by_byte c.args.a.now c.args.b.now

@@ -1,6 +1,0 @@
-use Rattle.std.proofs.Common.{◌∙◌}
-use Rattle.acn_tree.proofs.Patterns.{same_by_bit}
-use Rattle.acn_tree.proofs.number_rules.same_bits.Goals as goal
-
-pub returns : goal.returns
-returns c = c.eq.ensures ∙ same_by_bit c.args.a.now c.args.b.now

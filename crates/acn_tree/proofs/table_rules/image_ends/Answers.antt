@@ -1,9 +1,0 @@
-use Rattle.std.proofs.Common.{ℤ}
-use Rattle.std.specs.List.{flat_map}
-use Rattle.acn_tree.specs.Images.{clipped}
-use Rattle.acn_tree.proofs.TableRules.{ends_turned}
-use Rattle.acn_tree.proofs.table_rules.image_ends.Goals as goal
-
-pub loop-range-preserved : goal.loop-range-preserved
-loop-range-preserved c =
-    ends_turned (λ (r : ℤ × ℤ). flat_map (clipped r) c.args.lines.now) c.loop-range.wide c.widen_by_lines-wide.result _ c.args.ranges.now c.loop-range.range-index _ c.loop-range-test.true c.widen_by_lines-wide.ensures c.loop-range.invariant

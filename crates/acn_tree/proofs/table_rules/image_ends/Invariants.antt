@@ -1,8 +1,0 @@
-use Rattle.std.proofs.Common.{◌≡◌, drop}
-use Rattle.std.specs.List.{flat_map}
-use Rattle.acn_tree.specs.Ends.{ends_behind}
-use Rattle.acn_tree.specs.Images.{clipped, ends}
-use Rattle.acn_tree.proofs.table_rules.image_ends.Given as goal
-
-abbrev pub invariant-loop-range : goal.invariant-loop-range
-invariant-loop-range l = ends_behind l.wide (flat_map (λ r. flat_map (clipped r) l.lines) (drop l.range-index l.ranges)) ≡ ends (flat_map (λ r. flat_map (clipped r) l.lines) l.ranges)
