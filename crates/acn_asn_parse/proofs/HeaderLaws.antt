@@ -25,12 +25,12 @@ use Rattle.acn_asn_syntax.specs.Values.{word, mark, number_fits, with_commas, op
 use Rattle.acn_asn_syntax.specs.Spelling.{is_some}
 use Rattle.acn_asn_syntax.specs.Modules.{part_tokens, part_fits, oid_tokens, oid_fits, tagging_tokens, names_tokens, is_name, exports_tokens, exports_fit, import_tokens, import_fits, imports_tokens}
 use Rattle.acn_asn_parse.specs.declared.headers.ModuleHead.{ModuleHead}
-use Rattle.acn_asn_parse.specs.Values.{has, literal}
-use Rattle.acn_asn_parse.specs.Lists.{has_comma, listed}
+use Rattle.acn_asn_types.specs.Values.{has, literal}
+use Rattle.acn_asn_types.specs.Lists.{has_comma, listed}
 use Rattle.acn_asn_parse.specs.Headers.{grouped_part, word_part, number_part, group_if, oid_part, has_part, oid_in, oid_if, oid_at, with_tags, automatic_if, implicit_if, explicit_if, tagging_at, head_at, is_end, names_at, all_exports, some_exports, all_if, exports_if, exports_at, import_at, has_import, imports_in, imports_if, imports_at}
-use Rattle.acn_asn_parse.proofs.ValueLaws.{Passes, Found, literal_found, literal_again, not_same}
-use Rattle.acn_asn_parse.proofs.ListLaws.{both, all_pass, pass_all, some_fit, listed_found, listed_again}
-use Rattle.acn_asn_parse.proofs.SimpleLaws.{not_reserved}
+use Rattle.acn_asn_types.proofs.ValueLaws.{Passes, Found, literal_found, literal_again, not_same}
+use Rattle.acn_asn_types.proofs.ListLaws.{both, all_pass, pass_all, some_fit, listed_found, listed_again}
+use Rattle.acn_asn_types.proofs.SimpleLaws.{not_reserved}
 
 -- ---- object identifiers
 

@@ -1,11 +1,3 @@
-pub mod ValueLaws
-pub mod SetsFound
-pub mod SetsAgain
-pub mod Chains
-pub mod ListLaws
-pub mod BaseLaws
-pub mod SimpleLaws
-pub mod TypesFound
-pub mod TypesAgain
 pub mod HeaderLaws
 pub mod ModuleLaws
+pub mod Whole

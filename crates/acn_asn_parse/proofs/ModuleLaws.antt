@@ -18,21 +18,22 @@ use Rattle.acn_asn_syntax.specs.declared.modules.Assign.TheVariants as assign
 use Rattle.acn_asn_syntax.specs.declared.modules.AsnModule.{AsnModule}
 use Rattle.acn_asn_syntax.specs.declared.modules.AsnModules.{AsnModules}
 use Rattle.acn_asn_syntax.specs.declared.types.AsnType.{AsnType}
+use Rattle.acn_asn_syntax.specs.declared.values.AsnValue.{AsnValue}
 use Rattle.acn_asn_syntax.specs.Values.{word, mark, value_tokens, value_fits, option_tokens, option_fits}
 use Rattle.acn_asn_syntax.specs.Spelling.{is_some}
 use Rattle.acn_asn_syntax.specs.Trees.{type_tokens, type_fits}
 use Rattle.acn_asn_syntax.specs.View.{assign_view, module_view}
 use Rattle.acn_asn_syntax.specs.Modules.{oid_tokens, oid_fits, tagging_tokens, exports_tokens, exports_fit, import_fits, imports_tokens, assign_tokens, assign_fits, head_tokens, module_tokens, module_fits, tokens_of, IsProper}
 use Rattle.acn_asn_parse.specs.declared.headers.ModuleHead.{ModuleHead}
-use Rattle.acn_asn_parse.specs.Values.{value_at}
+use Rattle.acn_asn_types.specs.Values.{value_at}
 use Rattle.acn_asn_parse.specs.Headers.{head_at, exports_at, imports_at}
-use Rattle.acn_asn_parse.specs.Types.{type_at}
-use Rattle.acn_asn_parse.specs.Modules.{is_value_name, has_identifier, has_item, has_more, type_assign, value_assign, assign_at, items_at, module_at, more_modules, modules_in, modules_at}
-use Rattle.acn_asn_parse.proofs.ValueLaws.{Passes, Found, value_found, value_again, not_same}
-use Rattle.acn_asn_parse.proofs.ListLaws.{both, all_pass, pass_all}
-use Rattle.acn_asn_parse.proofs.SimpleLaws.{not_reserved}
-use Rattle.acn_asn_parse.proofs.TypesFound.{type_found}
-use Rattle.acn_asn_parse.proofs.TypesAgain.{type_again, EndsType, word_ends}
+use Rattle.acn_asn_types.specs.Types.{type_at}
+use Rattle.acn_asn_parse.specs.Modules.{is_value_name, has_identifier, has_item, has_more, type_is, value_is, assigned, type_assign, value_assign, assign_at, items_at, module_of, with_items, module_in, module_at, more_modules, modules_in, modules_at}
+use Rattle.acn_asn_types.proofs.ValueLaws.{Passes, Found, value_found, value_again, not_same}
+use Rattle.acn_asn_types.proofs.ListLaws.{both, all_pass, pass_all}
+use Rattle.acn_asn_types.proofs.SimpleLaws.{not_reserved}
+use Rattle.acn_asn_types.proofs.TypesFound.{type_found}
+use Rattle.acn_asn_types.proofs.TypesAgain.{type_again, EndsType, word_ends}
 use Rattle.acn_asn_parse.proofs.HeaderLaws.{head_found, head_again, opening_tokens, opening_fits, exports_found, exports_again, imports_found, imports_again}
 
 -- ---- tokens of the program's trees
@@ -76,24 +77,36 @@ upper_is_no_identifier (b ∷ bs) f = by_test (nat_le 97 b) refl
 
 -- ---- assignments and modules, over a parser of types
 
+abbrev assigned_tokens : AsnValue → List Lexeme
+assigned_tokens v = mark (codes "::=") ∷ value_tokens v
+
+assigned_found : Found assigned assigned_tokens value_fits
+unfolding assigned
+assigned_found ts v r e =
+    then_found (expect Mark (codes "::=") ts) _ _ e (λ _ m e1 h.
+    let a = value_found _ _ _ h in
+    record { parts = expect_found _ _ _ _ _ e1 ∙ ap (λ z. mark (codes "::=") ∷ z) a.parts; fits = a.fits })
+
+assigned_again : (v : AsnValue) (r : List Lexeme) → value_fits v ≡ true → assigned (mark (codes "::=") ∷ (value_tokens v ++ r)) ≡ Some (v, r)
+unfolding assigned
+assigned_again v r fits = then_again _ _ _ _ _ (expect_again _ _ _) (value_again v r fits)
+
 module _ (inner : Parser AsnType) where
   module _ (found : Found inner type_tokens type_fits) where
     assign_found : Found (assign_at inner) assign_text assign_fine
-    unfolding assign_at type_assign value_assign assign_tokens type_tokens type_fits
+    unfolding assign_at type_assign value_assign type_is value_is assign_tokens type_tokens type_fits
     assign_found ts x r e = by_name (has_identifier ts) e
       where
         by_name : (b : Bool) → cond b (value_assign inner ts) (type_assign inner ts) ≡ Some (x, r) → Takes assign_text (Passes assign_fine) ts x r
         by_name true e =
             then_found (steps.word is_identifier ts) _ _ e (λ name m1 e1 h.
             then_found (inner m1) _ _ h (λ t m2 e2 h.
-            then_found (expect Mark (codes "::=") m2) _ _ h (λ _ m3 e3 h.
-            then_found (value_at m3) _ _ h (λ v m4 e4 h.
+            then_found (assigned m2) _ _ h (λ v m3 e3 h.
             let a = word_found _ _ _ _ e1 in
             let b = found _ _ _ e2 in
-            let c = expect_found _ _ _ _ _ e3 in
-            let d = value_found _ _ _ e4 in
-            let parts : ts ≡ (word name ∷ (type_tokens t ++ mark (codes "::=") ∷ value_tokens v)) ++ m4 = simp append_assoc (cc (a.0, b.parts, c, d.parts)) in
-            done (assign.ValueIs name t v) m4 _ _ h parts (both_true (both_true a.1 b.fits) d.fits)))))
+            let c = assigned_found _ _ _ e3 in
+            let parts : ts ≡ (word name ∷ (type_tokens t ++ mark (codes "::=") ∷ value_tokens v)) ++ m3 = simp append_assoc (cc (a.0, b.parts, c.parts)) in
+            done (assign.ValueIs name t v) m3 _ _ h parts (both_true (both_true a.1 b.fits) c.fits))))
         by_name false e =
             then_found (steps.word is_reference ts) _ _ e (λ name m1 e1 h.
             then_found (expect Mark (codes "::=") m1) _ _ h (λ _ m2 e2 h.
@@ -117,7 +130,7 @@ module _ (inner : Parser AsnType) where
         done items m2 _ _ h parts (all_pass assign_fine items a.fits)))
 
     module_found : Found (module_at inner) module_text module_fine
-    unfolding module_at module_tokens head_tokens
+    unfolding module_at module_in with_items module_of module_tokens head_tokens
     module_found ts x r e =
         then_found (head_at ts) _ _ e (λ head m1 e1 h.
         then_found (expect Mark (codes "::=") m1) _ _ h (λ _ m2 e2 h.
@@ -163,7 +176,7 @@ module _ (inner : Parser AsnType) where
     has_name name b r e = rw (text_of_again Word name r) e
 
     assign_again : (x : Assign) (r : List Lexeme) → length (assign_text x ++ r) ≤ limit → Passes assign_fine x → EndsType r → assign_at inner (assign_text x ++ r) ≡ Some (x, r)
-    unfolding assign_at type_assign value_assign assign_tokens type_tokens type_fits
+    unfolding assign_at type_assign value_assign type_is value_is assign_tokens type_tokens type_fits
     assign_again (assign.TypeIs name t) r bound fits ends =
         let f = both (is_reference name) (type_fits t) fits in
         rw (has_name name false ((mark (codes "::=") ∷ type_tokens t) ++ r) (upper_is_no_identifier name f.0))
@@ -179,8 +192,7 @@ module _ (inner : Parser AsnType) where
         (rw regroup
         (then_again _ _ _ _ _ (word_again is_identifier name _ g.0)
         (then_again _ _ _ _ _ (again t _ within g.1 (mark_ends _))
-        (then_again _ _ _ _ _ (expect_again _ _ _)
-        (then_again _ _ _ _ _ (value_again v r f.1) refl)))))
+        (then_again _ _ _ _ _ (assigned_again v r f.1) refl))))
 
     assign_word : (x : Assign) (text : List ℕ) (r : List Lexeme) → Passes assign_fine x → is_reserved text ≡ true → is_identifier text ≡ false → sees Word text (assign_text x ++ r) ≡ false
     unfolding assign_tokens type_fits
@@ -237,7 +249,7 @@ module _ (inner : Parser AsnType) where
     no_imports xs r fits = items_word xs (codes "IMPORTS") r fits refl refl refl
 
     module_again : (x : AsnModule) (r : List Lexeme) → length (module_text x ++ r) ≤ limit → Passes module_fine x → module_at inner (module_text x ++ r) ≡ Some (x, r)
-    unfolding module_at
+    unfolding module_at module_in with_items module_of
     module_again x r bound fits =
         let rest = flat_map assign_text x.items ++ ended r in
         let f = both (((is_reference x.name && option_fits oid_fits x.oid) && option_fits exports_fit x.exports) && option_fits (list_all import_fits) x.imports) (list_all assign_fits (map assign_view x.items)) fits in

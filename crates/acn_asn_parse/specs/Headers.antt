@@ -14,8 +14,8 @@ use Rattle.acn_asn_syntax.specs.declared.modules.Exports.TheVariants as exports
 use Rattle.acn_asn_syntax.specs.declared.modules.Import.{Import}
 use Rattle.acn_asn_syntax.specs.Modules.{is_name}
 use Rattle.acn_asn_parse.specs.declared.headers.ModuleHead.{ModuleHead}
-use Rattle.acn_asn_parse.specs.Values.{has, literal}
-use Rattle.acn_asn_parse.specs.Lists.{listed}
+use Rattle.acn_asn_types.specs.Values.{has, literal}
+use Rattle.acn_asn_types.specs.Lists.{listed}
 
 -- ---- object identifiers
 

@@ -9,9 +9,13 @@ use Rattle.acn_asn_syntax.specs.declared.modules.Assign.TheVariants as assign
 use Rattle.acn_asn_syntax.specs.declared.modules.AsnModule.{AsnModule}
 use Rattle.acn_asn_syntax.specs.declared.modules.AsnModules.{AsnModules}
 use Rattle.acn_asn_syntax.specs.declared.types.AsnType.{AsnType}
-use Rattle.acn_asn_parse.specs.Values.{value_at}
+use Rattle.acn_asn_syntax.specs.declared.modules.Exports.{Exports}
+use Rattle.acn_asn_syntax.specs.declared.modules.Import.{Import}
+use Rattle.acn_asn_syntax.specs.declared.values.AsnValue.{AsnValue}
+use Rattle.acn_asn_parse.specs.declared.headers.ModuleHead.{ModuleHead}
+use Rattle.acn_asn_types.specs.Values.{value_at}
 use Rattle.acn_asn_parse.specs.Headers.{head_at, exports_at, imports_at}
-use Rattle.acn_asn_parse.specs.Types.{type_at}
+use Rattle.acn_asn_types.specs.Types.{type_at}
 
 -- ---- assignments and modules, over a parser of types
 
@@ -30,21 +34,35 @@ abbrev pub has_more : List Lexeme → Bool
 has_more [] = false
 has_more (t ∷ ts) = true
 
+unfoldable pub type_is : List ℕ → AsnType → Assign
+type_is name t = assign.TypeIs name t
+
+unfoldable pub value_is : List ℕ → AsnType → AsnValue → Assign
+value_is name t v = assign.ValueIs name t v
+
+-- the value behind a type
+unfoldable pub assigned : Parser AsnValue
+assigned = do
+  expect Mark (codes "::=")
+  value_at
+
+unfoldable pub module_of : ModuleHead → Option Exports → Option (List Import) → List Assign → AsnModule
+module_of head exports imports items = record { name = head.name; oid = head.oid; tags = head.tags; exports = exports; imports = imports; items = items }
+
 module _ (inner : Parser AsnType) where
   unfoldable pub type_assign : Parser Assign
   type_assign = do
     name ← word is_reference
     expect Mark (codes "::=")
     t ← inner
-    pure (assign.TypeIs name t)
+    pure (type_is name t)
 
   unfoldable pub value_assign : Parser Assign
   value_assign = do
     name ← word is_identifier
     t ← inner
-    expect Mark (codes "::=")
-    v ← value_at
-    pure (assign.ValueIs name t v)
+    v ← assigned
+    pure (value_is name t v)
 
   unfoldable pub assign_at : Parser Assign
   assign_at = λ ts. if has_identifier ts then value_assign ts else type_assign ts
@@ -55,15 +73,25 @@ module _ (inner : Parser AsnType) where
     expect Word (codes "END")
     pure items
 
+  -- the assignments of a module
+  unfoldable pub with_items : ModuleHead → Option Exports → Option (List Import) → Parser AsnModule
+  with_items head exports imports = do
+    items ← items_at
+    pure (module_of head exports imports items)
+
+  -- a module behind BEGIN
+  unfoldable pub module_in : ModuleHead → Parser AsnModule
+  module_in head = do
+    exports ← exports_at
+    imports ← imports_at
+    with_items head exports imports
+
   unfoldable pub module_at : Parser AsnModule
   module_at = do
     head ← head_at
     expect Mark (codes "::=")
     expect Word (codes "BEGIN")
-    exports ← exports_at
-    imports ← imports_at
-    items ← items_at
-    pure (record { name = head.name; oid = head.oid; tags = head.tags; exports = exports; imports = imports; items = items })
+    module_in head
 
   -- the modules behind the first
   unfoldable pub more_modules : AsnModule → Parser (List AsnModule)

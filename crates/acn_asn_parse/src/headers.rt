@@ -3,13 +3,11 @@
 ghost use Rattle.std.specs.Prelude.{◌≡◌};
 ghost use Rattle.acn_cursor.specs.Steps.{Reads, many, word};
 ghost use Rattle.acn_asn_syntax.specs.Modules as spelling;
-ghost use Rattle.acn_asn_parse.specs.Lists.{listed, more_of, next};
+ghost use Rattle.acn_asn_types.specs.Lists.{listed, more_of, next};
 ghost use Rattle.acn_asn_parse.specs.Headers as spec;
 
-use crate::bases::has_comma;
-use crate::heads::row_of;
-use crate::values::{has, literal};
 use acn_asn_syntax::{Exports, Import, Oid, OidPart, Tagging};
+use acn_asn_types::{has, has_comma, literal, row_of};
 use acn_cursor::{Cursor, ParseFault, is_identifier, is_reference, reference};
 use acn_lex::Kind;
 use acn_num::{Name, Row};
@@ -164,7 +162,7 @@ fn name(alloc: Global, cursor: &mut Cursor<'_>) -> Result<Name, ParseFault>
     }
 }
 
-#[tactic(auto, unfolding(crate::specs::Lists::next))]
+#[tactic(auto, unfolding(acn_asn_types::specs::Lists::next))]
 fn next_name(alloc: Global, cursor: &mut Cursor<'_>) -> Result<Name, ParseFault>
     ensures { Reads (next (word spelling.is_name) cursor.old) result cursor.new }
 {
@@ -172,7 +170,7 @@ fn next_name(alloc: Global, cursor: &mut Cursor<'_>) -> Result<Name, ParseFault>
     name(alloc, cursor)
 }
 
-#[tactic(auto, unfolding(crate::specs::Lists::more_of))]
+#[tactic(auto, unfolding(acn_asn_types::specs::Lists::more_of))]
 fn more_names(alloc: Global, cursor: &mut Cursor<'_>, first: Name) -> Result<Row<Name>, ParseFault>
     ensures { Reads (more_of (word spelling.is_name) first cursor.old) result cursor.new }
 {
@@ -187,7 +185,7 @@ fn more_names(alloc: Global, cursor: &mut Cursor<'_>, first: Name) -> Result<Row
     Ok(row)
 }
 
-#[tactic(auto, unfolding(crate::specs::Lists::listed))]
+#[tactic(auto, unfolding(acn_asn_types::specs::Lists::listed))]
 fn some_names(alloc: Global, cursor: &mut Cursor<'_>) -> Result<Row<Name>, ParseFault>
     ensures { Reads (listed (word spelling.is_name) cursor.old) result cursor.new }
 {

@@ -1,9 +1,9 @@
-//! The parser of ASN.1 modules.
+//! The parser of ASN.1 modules: it answers the one proper tree whose tokens it is given.
 #![tactic(auto)]
 
-mod bases;
 mod headers;
-mod heads;
-mod sets;
-mod types;
-mod values;
+mod modules;
+mod parse;
+mod words;
+
+pub use parse::parse_asn;

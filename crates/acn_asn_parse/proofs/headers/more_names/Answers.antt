@@ -1,7 +1,7 @@
 use Rattle.std.proofs.Common.{◌≡◌, true, rules}
 use Rattle.acn_cursor.specs.Steps.{word}
 use Rattle.acn_cursor.proofs.Turns.{goes_on}
-use Rattle.acn_asn_parse.specs.Lists.{has_comma, next}
+use Rattle.acn_asn_types.specs.Lists.{has_comma, next}
 use Rattle.acn_asn_syntax.specs.Modules.{is_name}
 use Rattle.acn_asn_parse.proofs.headers.more_names.Goals as goal
 

@@ -1,6 +1,6 @@
 use Rattle.std.proofs.Common.{◌≡◌, ◌-◌, [], ◌∷◌}
 use Rattle.acn_cursor.specs.Steps.{repeat, many, with_front, word}
-use Rattle.acn_asn_parse.specs.Lists.{has_comma, next}
+use Rattle.acn_asn_types.specs.Lists.{has_comma, next}
 use Rattle.acn_asn_syntax.specs.Modules.{is_name}
 use Rattle.acn_asn_parse.proofs.headers.more_names.Given as goal
 

@@ -1,8 +1,0 @@
-use Rattle.std.proofs.Common.{◌≡◌, ◌-◌, [], ◌∷◌}
-use Rattle.acn_cursor.specs.Steps.{repeat, many, with_front}
-use Rattle.acn_asn_parse.specs.Lists.{has_comma, next}
-use Rattle.acn_asn_parse.specs.Bases.{item}
-use Rattle.acn_asn_parse.proofs.bases.more_items.Given as goal
-
-abbrev pub invariant-loop : goal.invariant-loop
-invariant-loop l = with_front l.row (repeat has_comma (next item) (l.end - l.counter) l.cursor) ≡ with_front (l.fn.first ∷ []) (many has_comma (next item) l.fn.cursor)
