@@ -1,0 +1,42 @@
+-- Texts that are written in parts.
+use Rattle.std.proofs.Common.{◌≡◌, ℕ, ◌+◌, ◌*◌, ◌<◌, Bool, List, ◌++◌, length, take, sym, ap, ◌∙◌, subst, arith, get_or}
+use Rattle.acn_num.specs.Bits.{low_bits}
+use Rattle.acn_bits.specs.Writing.{Writes, place_of}
+use Rattle.acn_bits.specs.declared.write_cursor.WriteCursor.{WriteCursor}
+use Rattle.acn_ints.specs.Pieces.{Puts}
+use Rattle.acn_ints.proofs.Writings.{writes_twice}
+use Rattle.acn_grammar.specs.Length.{text_length}
+use Rattle.acn_grammar.specs.Spell.{character_number}
+use Rattle.acn_grammar.specs.declared.node.TextLeaf.{TextLeaf}
+use Rattle.acn_text.specs.Texts.{TextCode, given_size}
+use Rattle.acn_text.specs.Steps.{character_bits, text_bits}
+use Rattle.acn_text.proofs.Fine.{FineText}
+use Rattle.acn_text.proofs.Listing.{one_more}
+use Rattle.acn_text.proofs.Spelled.{MeetsText, text_spelled, text_bits_long}
+
+-- two writings, the second where the first ends
+pub two_writes : {N : ℕ} (old mid new : WriteCursor N) (a b : List Bool) (n m : ℕ) → Writes old mid (place_of old) a (place_of old + n) → n ≡ length a → Writes mid new (place_of mid) b (place_of mid + m) → Writes old new (place_of old) (a ++ b) (place_of old + (n + m))
+two_writes old mid new a b n m x e y =
+    let at = x.moved in
+    let y' : Writes mid new (place_of old + n) b (place_of mid + m) = subst (λ (k : ℕ). Writes mid new k b (place_of mid + m)) at y in
+    let end : place_of mid + m ≡ place_of old + (n + m) = omega (arith, at) in
+    subst (λ (k : ℕ). Writes old new (place_of old) (a ++ b) k) end (writes_twice old mid new (place_of old) (place_of old + n) (place_of mid + m) a b x (ap (λ (k : ℕ). place_of old + k) e) y')
+
+pub write_next : {N : ℕ} (leaf : TextLeaf) (cs : List ℕ) (i number : ℕ) (old mid new : WriteCursor N) → i < length cs → length (character_bits leaf (take i cs)) ≡ leaf.width * i → Writes old mid (place_of old) (character_bits leaf (take i cs)) (place_of old + leaf.width * i)
+    → number ≡ character_number leaf (get_or cs i 0) → Writes mid new (place_of mid) (low_bits leaf.width number) (place_of mid + leaf.width) → Writes old new (place_of old) (character_bits leaf (take (i + 1) cs)) (place_of old + leaf.width * (i + 1))
+write_next leaf cs i number old mid new h long x is y =
+    let both = two_writes old mid new (character_bits leaf (take i cs)) (low_bits leaf.width number) (leaf.width * i) leaf.width x (sym long) y in
+    let bits : character_bits leaf (take i cs) ++ low_bits leaf.width number ≡ character_bits leaf (take (i + 1) cs) = ap (λ (k : ℕ). character_bits leaf (take i cs) ++ low_bits leaf.width k) is ∙ sym (one_more leaf cs i h) in
+    let end : leaf.width * i + leaf.width ≡ leaf.width * (i + 1) = times leaf.width i in
+    subst (λ (t : List Bool). Writes old new (place_of old) t (place_of old + leaf.width * (i + 1))) bits (subst (λ (k : ℕ). Writes old new (place_of old) (character_bits leaf (take i cs) ++ low_bits leaf.width number) (place_of old + k)) end both)
+  where
+    times : (w i : ℕ) → w * i + w ≡ w * (i + 1)
+    times w i = omega arith
+
+-- what was written is the text's code
+pub text_puts : {N : ℕ} (leaf : TextLeaf) (cs : List ℕ) (old new : WriteCursor N) (n : ℕ) → FineText leaf → MeetsText leaf cs → n ≡ text_length leaf.ended leaf (length cs) → Writes old new (place_of old) (text_bits leaf.ended leaf cs) (place_of old + n) → Puts (TextCode leaf (given_size leaf.sized.rule (length cs)) cs) old new
+text_puts leaf cs old new n f m e w = record {
+  code = text_bits leaf.ended leaf cs;
+  writes = subst (λ (k : ℕ). Writes old new (place_of old) (text_bits leaf.ended leaf cs) (place_of old + k)) (e ∙ sym (text_bits_long leaf f leaf.ended cs m)) w;
+  holds = text_spelled leaf f cs m;
+}

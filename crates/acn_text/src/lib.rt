@@ -1,0 +1,17 @@
+//! Reads and writes the codes of texts.
+#![tactic(auto)]
+
+mod alphabet;
+mod ended;
+mod lister;
+mod mark;
+mod reader;
+mod sized;
+mod writer;
+
+pub use lister::list_text;
+pub use reader::read_text;
+pub use writer::put_text;
+
+#[cfg(test)]
+mod tests;

@@ -1,0 +1,69 @@
+ghost use Rattle.std.specs.Prelude.{◌≡◌, ◌+◌, ◌-◌, ◌*◌, ◌^◌, ◌<◌, ◌≤◌, IsTrue, length, []};
+ghost use Rattle.acn_num.specs.Bits.{low_bits, number};
+ghost use Rattle.acn_bits.specs.Writing.{place_of, Writes};
+ghost use Rattle.acn_ints.specs.Pieces.{Puts};
+ghost use Rattle.acn_grammar.specs.Leaves.{text_fine};
+ghost use Rattle.acn_grammar.specs.Length.{text_length, rule_width};
+ghost use Rattle.acn_grammar.specs.Meets.{text_breach};
+ghost use Rattle.acn_text.specs.Texts.{TextCode, given_size};
+ghost use Rattle.acn_text.specs.Steps.{SizeFits, NumbersFit, size_bits, character_bits};
+
+use crate::alphabet::number_of;
+use acn_bits::WriteCursor;
+use acn_grammar::{Pattern, SizeRule, TextLeaf};
+use acn_ints::pattern_number;
+
+/// Writes the size in front, which has no bits where a slot says it.
+fn put_size<const N: usize>(cur: &mut WriteCursor<'_, N>, rule: SizeRule, n: u64)
+    requires fits { SizeFits rule n }
+    requires room { place_of cur.old + rule_width rule ≤ 8 * N }
+    ensures { Writes cur.old cur.new (place_of cur.old) (size_bits rule n) (place_of cur.old + rule_width rule) }
+{
+    match rule {
+        SizeRule::Prefix { low, width } => cur.put(width, n - low),
+        SizeRule::Slot(_) => cur.put(0, 0),
+    }
+}
+
+/// Writes characters.
+fn put_characters<const N: usize>(cur: &mut WriteCursor<'_, N>, leaf: &TextLeaf, text: &[u8])
+    requires fine { IsTrue (text_fine leaf.now) }
+    requires width { leaf.now.width ≤ 64 }
+    requires fit { NumbersFit leaf.now text.now }
+    requires room { place_of cur.old + leaf.now.width * length text.now ≤ 8 * N }
+    ensures { Writes cur.old cur.new (place_of cur.old) (character_bits leaf.now text.now) (place_of cur.old + leaf.now.width * length text.now) }
+{
+    // No bits: it shows that the place lies in the buffer.
+    cur.put(0, 0);
+    for c in text {
+        cur.put(leaf.width, number_of(leaf, *c));
+    }
+}
+
+/// Writes the end.
+fn put_end<const N: usize>(cur: &mut WriteCursor<'_, N>, end: &Pattern)
+    requires room { place_of cur.old + length end.now ≤ 8 * N }
+    ensures { Writes cur.old cur.new (place_of cur.old) end.now (place_of cur.old + length end.now) }
+{
+    cur.put(end.bits().len() as u32, pattern_number(end.bits()));
+}
+
+/// Writes the code of a text in the next bits, and changes no others. It takes no memory.
+pub fn put_text<const N: usize>(cur: &mut WriteCursor<'_, N>, leaf: &TextLeaf, text: &[u8])
+    requires fine { IsTrue (text_fine leaf.now) }
+    requires meets { text_breach leaf.now text.now ≡ [] }
+    requires room { place_of cur.old + text_length leaf.now.ended leaf.now (length text.now) ≤ 8 * N }
+    ensures code { Puts (TextCode leaf.now (given_size leaf.now.sized.rule (length text.now)) text.now) cur.old cur.new }
+    ensures long { place_of cur.new ≡ place_of cur.old + text_length leaf.now.ended leaf.now (length text.now) }
+{
+    match &leaf.ended {
+        None => {
+            put_size(cur, leaf.sized.rule, text.len() as u64);
+            put_characters(cur, leaf, text);
+        }
+        Some(end) => {
+            put_characters(cur, leaf, text);
+            put_end(cur, end);
+        }
+    }
+}
