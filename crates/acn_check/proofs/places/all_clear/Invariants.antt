@@ -1,0 +1,7 @@
+use Rattle.std.proofs.Common.{◌≡◌, drop, map}
+use Rattle.acn_check.specs.Facts.{facts_of}
+use Rattle.acn_check.specs.First.{first_of, unclear}
+use Rattle.acn_check.proofs.places.all_clear.Given as goal
+
+abbrev pub invariant-loop-line : goal.invariant-loop-line
+invariant-loop-line l = first_of unclear l.line-index (map facts_of (drop l.line-index l.lines)) ≡ first_of unclear 0 (map facts_of l.lines)

@@ -1,0 +1,5 @@
+pub mod Checked
+pub mod Facts
+pub mod First
+pub mod Order
+pub mod Program

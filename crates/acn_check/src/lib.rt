@@ -1,0 +1,17 @@
+//! Which grammars can be decoded.
+#![tactic(auto)]
+
+mod checked;
+mod checking;
+mod choices;
+mod dets;
+mod lines;
+mod named;
+mod overlaps;
+mod places;
+mod slots;
+mod tallies;
+mod uses;
+
+pub use checked::Checked;
+pub use checking::check;
