@@ -1,0 +1,23 @@
+//! What the names of ASN.1 modules, ACN modules and mapping tables lead to, and which name is at fault.
+#![tactic(auto)]
+
+pub mod acn_mentions;
+pub mod chain;
+mod chains;
+mod fault;
+pub mod index;
+mod laws;
+pub mod lookup;
+pub mod mention;
+pub mod references;
+mod set_mentions;
+mod sources;
+pub mod type_mentions;
+pub mod values;
+mod world;
+
+pub use chains::Chain;
+pub use fault::NameFault;
+pub use laws::{no_cycle_among_ranks, no_fault_in_a_sound_world};
+pub use sources::{Sources, TypeId};
+pub use world::World;

@@ -1,0 +1,19 @@
+//! Resolves the names of the sources: the index of what they say, and the first fault of a name.
+#![tactic(auto)]
+
+mod blame;
+mod early;
+mod gathering;
+mod lists;
+mod missing;
+mod repeated;
+mod repeated_acn;
+mod seen;
+mod twice_types;
+mod unknown;
+mod unknown_acn;
+mod wrong;
+
+pub use early::early_fault;
+pub use gathering::gather;
+pub use wrong::late_fault;
