@@ -1,0 +1,5 @@
+pub mod Texts
+pub mod Firsts
+pub mod Bases
+pub mod Judged
+pub mod Steps

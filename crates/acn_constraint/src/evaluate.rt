@@ -1,0 +1,212 @@
+//! The set that a constraint leaves of what stood before it.
+//!
+//! Sets nest as deep as parentheses do, which is 64 levels at most.
+
+ghost use Rattle.std.specs.Prelude.{◌≡◌, IfOk, map};
+ghost use Rattle.acn_asn_syntax.specs.View.{element_view, set_view, meet_view, part_view, meets_of, parts_of};
+ghost use Rattle.acn_names.specs.Mentioned.{seen_meet, seen_part};
+ghost use Rattle.acn_names.specs.Viewed.{world_view};
+ghost use Rattle.acn_constraint.specs.Readings.{reading_of};
+ghost use Rattle.acn_constraint.specs.Sets as sets;
+
+use crate::span::{between, single};
+use crate::written::{character_in, letters, number_in, text_in};
+use acn_asn_syntax::{AsnRange, AsnValue, Element, Meet, Named, Part, Set};
+use acn_names::World;
+use acn_num::{NoMemory, RangeSet};
+use std::alloc::Global;
+
+/// Of what the numbers of a set are.
+#[derive(Clone, Copy, Debug)]
+pub enum Reading<'n> {
+    /// Values of an INTEGER with these named numbers.
+    Numbers(&'n [Named]),
+    /// Sizes.
+    Sizes,
+    /// Characters.
+    Characters,
+}
+
+/// Where a set stands and how it is read.
+#[derive(Clone, Copy, Debug)]
+pub struct Place<'w> {
+    pub world: &'w World,
+    pub owner: u32,
+    pub reading: Reading<'w>,
+}
+
+// The set of one value.
+fn value_set(alloc: Global, place: Place<'_>, value: &AsnValue) -> Result<RangeSet, NoMemory>
+    ensures { IfOk result (λ s. s ≡ sets.value_set (world_view place.entry.world.now) place.entry.owner (reading_of place.entry.reading) value.now) }
+{
+    let number = match place.reading {
+        Reading::Numbers(names) => number_in(place.world, names, place.owner, value),
+        Reading::Sizes => number_in(place.world, &[], place.owner, value),
+        Reading::Characters => {
+            return match text_in(place.world, place.owner, value) {
+                Some(token) => letters(alloc, token),
+                None => Ok(RangeSet::empty(alloc)),
+            };
+        }
+    };
+    match number {
+        Some(number) => single(alloc, &number),
+        None => Ok(RangeSet::empty(alloc)),
+    }
+}
+
+// The number of a written end of a range.
+fn end_number(place: Place<'_>, value: &AsnValue) -> Option<i128>
+    ensures { result ≡ sets.end_number (world_view place.entry.world.now) place.entry.owner (reading_of place.entry.reading) value.now }
+{
+    match place.reading {
+        Reading::Numbers(names) => number_in(place.world, names, place.owner, value),
+        Reading::Sizes => number_in(place.world, &[], place.owner, value),
+        Reading::Characters => character_in(place.world, place.owner, value),
+    }
+}
+
+// The number of an end of a range: MIN and MAX are what stood before.
+fn end_of(place: Place<'_>, stood: Option<i128>, end: &Option<AsnValue>) -> Option<i128>
+    ensures { result ≡ sets.end_of (sets.end_number (world_view place.entry.world.now) place.entry.owner (reading_of place.entry.reading)) stood end.now }
+{
+    match end {
+        Some(value) => end_number(place, value),
+        None => stood,
+    }
+}
+
+fn range_in(
+    alloc: Global,
+    place: Place<'_>,
+    range: &AsnRange,
+    before: &RangeSet,
+) -> Result<RangeSet, NoMemory>
+    ensures { IfOk result (λ s. s ≡ sets.range_in (sets.end_number (world_view place.entry.world.now) place.entry.owner (reading_of place.entry.reading)) range.now before.now) }
+{
+    let low = end_of(place, before.least(), &range.low);
+    let high = end_of(place, before.greatest(), &range.high);
+    between(alloc, &low, range.low_out, &high, range.high_out)
+}
+
+/// What a set leaves of what stood before it.
+#[cycle(evaluate)]
+#[tactic(auto, unfolding(crate::specs::Sets::set_in, crate::specs::Sets::meets_in, crate::specs::Sets::meet_in, crate::specs::Sets::parts_in, crate::specs::Sets::part_in, crate::specs::Sets::element_in), using(acn_names::proofs::SetViews::set_views))]
+pub fn set_in(
+    alloc: Global,
+    set: &Set,
+    place: Place<'_>,
+    before: &RangeSet,
+) -> Result<RangeSet, NoMemory>
+    ensures { IfOk result (λ s. s ≡ sets.set_in (world_view place.entry.world.now) place.entry.owner (reading_of place.entry.reading) (set_view set.now) before.now) }
+{
+    match set {
+        Set::AllExcept(element) => {
+            let taken = element_in(alloc, element, place, before)?;
+            before.except(alloc, &taken)
+        }
+        Set::Union(first, more) => {
+            let found = meet_in(alloc, first, place, before)?;
+            meets_in(alloc, more.items(), place, found, before)
+        }
+    }
+}
+
+#[cycle(evaluate)]
+#[tactic(auto, unfolding(crate::specs::Sets::set_in, crate::specs::Sets::meets_in, crate::specs::Sets::meet_in, crate::specs::Sets::parts_in, crate::specs::Sets::part_in, crate::specs::Sets::element_in), using(acn_names::proofs::SetViews::set_views))]
+fn meets_in(
+    alloc: Global,
+    more: &[(bool, Meet)],
+    place: Place<'_>,
+    found: RangeSet,
+    before: &RangeSet,
+) -> Result<RangeSet, NoMemory>
+    ensures { IfOk result (λ s. s ≡ sets.meets_in (world_view place.entry.world.now) place.entry.owner (reading_of place.entry.reading) (meets_of (map seen_meet more.now)) found before.now) }
+{
+    let mut found = found;
+    for meet in more {
+        let next = meet_in(alloc, &meet.1, place, before)?;
+        found = found.union(alloc, &next)?;
+    }
+    Ok(found)
+}
+
+#[cycle(evaluate)]
+#[tactic(auto, unfolding(crate::specs::Sets::set_in, crate::specs::Sets::meets_in, crate::specs::Sets::meet_in, crate::specs::Sets::parts_in, crate::specs::Sets::part_in, crate::specs::Sets::element_in), using(acn_names::proofs::SetViews::set_views))]
+fn meet_in(
+    alloc: Global,
+    meet: &Meet,
+    place: Place<'_>,
+    before: &RangeSet,
+) -> Result<RangeSet, NoMemory>
+    ensures { IfOk result (λ s. s ≡ sets.meet_in (world_view place.entry.world.now) place.entry.owner (reading_of place.entry.reading) (meet_view meet.now) before.now) }
+{
+    let found = part_in(alloc, &meet.first, place, before)?;
+    parts_in(alloc, meet.more.items(), place, found, before)
+}
+
+#[cycle(evaluate)]
+#[tactic(auto, unfolding(crate::specs::Sets::set_in, crate::specs::Sets::meets_in, crate::specs::Sets::meet_in, crate::specs::Sets::parts_in, crate::specs::Sets::part_in, crate::specs::Sets::element_in), using(acn_names::proofs::SetViews::set_views))]
+fn parts_in(
+    alloc: Global,
+    more: &[(bool, Part)],
+    place: Place<'_>,
+    found: RangeSet,
+    before: &RangeSet,
+) -> Result<RangeSet, NoMemory>
+    ensures { IfOk result (λ s. s ≡ sets.parts_in (world_view place.entry.world.now) place.entry.owner (reading_of place.entry.reading) (parts_of (map seen_part more.now)) found before.now) }
+{
+    let mut found = found;
+    for part in more {
+        let next = part_in(alloc, &part.1, place, before)?;
+        found = found.meet(alloc, &next)?;
+    }
+    Ok(found)
+}
+
+#[cycle(evaluate)]
+#[tactic(auto, unfolding(crate::specs::Sets::set_in, crate::specs::Sets::meets_in, crate::specs::Sets::meet_in, crate::specs::Sets::parts_in, crate::specs::Sets::part_in, crate::specs::Sets::element_in), using(acn_names::proofs::SetViews::set_views))]
+fn part_in(
+    alloc: Global,
+    part: &Part,
+    place: Place<'_>,
+    before: &RangeSet,
+) -> Result<RangeSet, NoMemory>
+    ensures { IfOk result (λ s. s ≡ sets.part_in (world_view place.entry.world.now) place.entry.owner (reading_of place.entry.reading) (part_view part.now) before.now) }
+{
+    let found = element_in(alloc, &part.element, place, before)?;
+    match &part.but {
+        None => Ok(found),
+        Some(but) => {
+            let taken = element_in(alloc, but, place, before)?;
+            found.except(alloc, &taken)
+        }
+    }
+}
+
+#[cycle(evaluate)]
+#[tactic(auto, unfolding(crate::specs::Sets::set_in, crate::specs::Sets::meets_in, crate::specs::Sets::meet_in, crate::specs::Sets::parts_in, crate::specs::Sets::part_in, crate::specs::Sets::element_in), using(acn_names::proofs::SetViews::set_views))]
+fn element_in(
+    alloc: Global,
+    element: &Element,
+    place: Place<'_>,
+    before: &RangeSet,
+) -> Result<RangeSet, NoMemory>
+    ensures { IfOk result (λ s. s ≡ sets.element_in (world_view place.entry.world.now) place.entry.owner (reading_of place.entry.reading) (element_view element.now) before.now) }
+{
+    match element {
+        Element::Value(value) => value_set(alloc, place, value),
+        Element::Range(range) => range_in(alloc, place, range, before),
+        Element::SizeOf(set) => match place.reading {
+            Reading::Sizes => set_in(alloc, set.get(), place, before),
+            Reading::Numbers(_) => before.copy(alloc),
+            Reading::Characters => before.copy(alloc),
+        },
+        Element::From(set) => match place.reading {
+            Reading::Characters => set_in(alloc, set.get(), place, before),
+            Reading::Numbers(_) => before.copy(alloc),
+            Reading::Sizes => before.copy(alloc),
+        },
+        Element::Inner(set) => set_in(alloc, set.get(), place, before),
+    }
+}

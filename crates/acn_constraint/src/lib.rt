@@ -1,0 +1,16 @@
+//! The numbers, sizes and characters that constraints leave (X.680 clauses 49 to 51, as this profile has them).
+#![tactic(auto)]
+
+mod along;
+mod answer;
+mod ends;
+mod evaluate;
+mod fault;
+mod low;
+mod sized;
+mod span;
+mod stand;
+mod written;
+
+pub use answer::{OpenSet, alphabet_of, range_of, size_of};
+pub use fault::ConstraintFault;
