@@ -1,6 +1,7 @@
 pub mod Members
 pub mod Order
 pub mod Turns
+pub mod Meeting
 pub mod Nth
 pub mod Halves
 pub mod Octets

@@ -1,12 +1,12 @@
 -- The steps of the loops over ranges.
-use Rattle.std.proofs.Common.{◌≡◌, ℕ, zero, suc, ◌<◌, ◌≤◌, ◌+◌, ◌-◌, true, refl, sym, ap, subst, ◌∙◌, ℤ, pos, ◌≤ℤ◌, [], ◌∷◌, ◌++◌, arith, append_assoc, append-nil, drop_of_length-le, drop, length, get_or}
+use Rattle.std.proofs.Common.{◌≡◌, ℕ, zero, suc, ◌<◌, ◌≤◌, ◌+◌, ◌-◌, true, refl, sym, ap, subst, ◌∙◌, ℤ, pos, ◌≤ℤ◌, [], ◌∷◌, ◌++◌, arith, append_assoc, drop_of_length-le, drop, length, get_or}
 use Rattle.std.specs.Prelude.{◌+ℤ◌, ◌-ℤ◌, Option, Some, nat_lt, slice_get, option_map, Result, Ok, Err, IfOk, ◌^◌}
 use Rattle.std.proofs.lemmas.List.{drop_more}
 use Rattle.std.proofs.lemmas.Int.{ints}
 use native.Mathlib.Numerals.{unary_clauses}
 use Rattle.std.specs.Int.{w128}
 use mir.Val.{SFits}
-use Rattle.acn_num.specs.Ranges.{Ranges, Above, AreRanges, IsRange, piece, clip, meet, gap, outside_from, outside, top, bottom, count, nth, size_of, greatest}
+use Rattle.acn_num.specs.Ranges.{Ranges, Above, AreRanges, IsRange, gap, outside_from, outside, top, bottom, count, nth, size_of, greatest}
 use Rattle.acn_num.proofs.Members.{above_weaker}
 
 pub ranges_above : (b : ℤ) (s : Ranges) (i : ℕ) (d : ℤ × ℤ) → (bottom -ℤ pos 1) ≤ℤ b → Above b s → i < length s → IsRange (get_or s i d)
@@ -26,15 +26,6 @@ fits_low r h = omega (arith, ints)
 
 pub fits_high : (r : ℤ × ℤ) → IsRange r → SFits w128 r.1
 fits_high r h = omega (arith, ints)
-
-pub meet_done : (items s t out : Ranges) (i : ℕ) → items ≡ s → length items ≤ i → out ++ meet (drop i s) t ≡ meet s t → out ≡ meet s t
-meet_done items s t out i e over so_far =
-    let le : length s ≤ i = rw e at over in
-    sym (append-nil out) ∙ subst (λ (z : Ranges). out ++ meet z t ≡ meet s t) (drop_of_length-le s le) so_far
-
-pub clip_turn : (r : ℤ × ℤ) (s out out' from : Ranges) (i : ℕ) → i < length s → out' ≡ out ++ piece r (get_or s i (pos 0, pos 0)) → out ++ clip r (drop i s) ≡ from → out' ++ clip r (drop (i + 1) s) ≡ from
-clip_turn r s out out' from i inside e so_far =
-    rw e (append_assoc out (piece r (get_or s i (pos 0, pos 0))) (clip r (drop (i + 1) s)) ∙ subst (λ (z : Ranges). out ++ clip r z ≡ from) (drop_more s i (pos 0, pos 0) inside) so_far)
 
 outside_turn_same : (s out out' : Ranges) (b : ℤ) (i : ℕ) → i < length s → out' ≡ out ++ gap b (get_or s i (pos 0, pos 0)).0 → out ++ outside_from b (drop i s) ≡ outside s → out' ++ outside_from (get_or s i (pos 0, pos 0)).1 (drop (i + 1) s) ≡ outside s
 outside_turn_same s out out' b i inside e so_far =

@@ -2,3 +2,4 @@ pub mod formers
 pub mod Bits
 pub mod Ranges
 pub mod Widths
+pub mod Meeting

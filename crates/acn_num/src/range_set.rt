@@ -1,7 +1,8 @@
-ghost use Rattle.std.specs.Prelude.{◌≡◌, ◌↔◌, ℤ, ◌≤ℤ◌, [], ◌∷◌, IfOk, ◌||◌, ◌&&◌, not, ◌++◌, ◌<◌, ◌^◌, ◌-ℤ◌, pos, OnOk, MatchOption, ℕ, true, false};
+ghost use Rattle.std.specs.Prelude.{◌≡◌, ◌↔◌, ℤ, ◌≤ℤ◌, [], ◌∷◌, IfOk, ◌||◌, ◌&&◌, not, ◌++◌, ◌<◌, ◌^◌, ◌-ℤ◌, int_le, int_lt, pos, OnOk, MatchOption, ℕ, true, false};
 ghost use Rattle.std.specs.Int.{int_max, int_min};
 ghost use Rattle.acn_num.specs.Ranges as spec;
-ghost use Rattle.acn_num.specs.Ranges.{has, AreRanges, IsRange, some_range, clip, outside_from, size_of, count, nth, among, IsUnion, IsMeet, IsExcept, IsLeastExcept, SameNumbersSameSet, EachHasAPlace, NumbersRise, bottom, top, outside, meet, union, except, least, greatest};
+ghost use Rattle.acn_num.specs.Meeting.{reaching_from, clip_until};
+ghost use Rattle.acn_num.specs.Ranges.{has, AreRanges, IsRange, some_range, outside_from, size_of, count, nth, among, IsUnion, IsMeet, IsExcept, IsLeastExcept, SameNumbersSameSet, EachHasAPlace, NumbersRise, bottom, top, outside, meet, union, except, least, greatest};
 
 use crate::NoMemory;
 use std::alloc::Global;
@@ -119,8 +120,10 @@ impl RangeSet {
         ensures ordered { AreRanges self.now × AreRanges other.now }
     {
         let mut ranges = Vec::new(alloc);
+        let mut rest = other.ranges.as_slice();
         for r in &self.ranges {
-            clip_into(&mut ranges, r, &other.ranges)?;
+            rest = reaching(rest, &r.0);
+            clip_into(&mut ranges, r, rest)?;
         }
         Ok(RangeSet { ranges })
     }
@@ -254,15 +257,44 @@ fn less<'a>(a: &'a i128, b: &'a i128) -> &'a i128
     if *b < *a { b } else { a }
 }
 
-// Adds what a range shares with each of the others.
+// Whether the first range begins behind the second.
+fn begins_behind(other: &(i128, i128), range: &(i128, i128)) -> bool
+    ensures { result ≡ int_lt range.now.1 other.now.0 }
+{
+    range.1 < other.0
+}
+
+// Whether the range reaches up to this number.
+fn reaches(range: &(i128, i128), low: &i128) -> bool
+    ensures { result ≡ int_le low.now range.now.1 }
+{
+    *low <= range.1
+}
+
+// The ranges from the first on that reaches up to this number.
+fn reaching<'a>(others: &'a [(i128, i128)], low: &i128) -> &'a [(i128, i128)]
+    ensures { result.now ≡ reaching_from low.now others.now }
+{
+    for (i, other) in others.iter().enumerate() {
+        if reaches(other, low) {
+            return &others[i..];
+        }
+    }
+    &[]
+}
+
+// Adds what a range shares with each of the others, up to the first that begins behind it.
 fn clip_into(
     ranges: &mut Vec<(i128, i128)>,
     range: &(i128, i128),
     others: &[(i128, i128)],
 ) -> Result<(), NoMemory>
-    ensures { OnOk result (ranges.new.items ≡ ranges.old.items ++ clip range.now others.now) }
+    ensures { OnOk result (ranges.new.items ≡ ranges.old.items ++ clip_until range.now others.now) }
 {
     for other in others {
+        if begins_behind(other, range) {
+            return Ok(());
+        }
         add(
             ranges,
             greater(&range.0, &other.0),
