@@ -3,3 +3,4 @@ pub mod Bits
 pub mod Ranges
 pub mod Widths
 pub mod Meeting
+pub mod Unions

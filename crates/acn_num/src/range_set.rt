@@ -1,6 +1,7 @@
 ghost use Rattle.std.specs.Prelude.{◌≡◌, ◌↔◌, ℤ, ◌≤ℤ◌, [], ◌∷◌, IfOk, ◌||◌, ◌&&◌, not, ◌++◌, ◌<◌, ◌^◌, ◌-ℤ◌, int_le, int_lt, pos, OnOk, MatchOption, ℕ, true, false};
 ghost use Rattle.std.specs.Int.{int_max, int_min};
 ghost use Rattle.acn_num.specs.Ranges as spec;
+ghost use Rattle.acn_num.specs.Unions.{unions, one_has, AreAllRanges, IsUnionOfAll};
 ghost use Rattle.acn_num.specs.Meeting.{reaching_from, clip_until};
 ghost use Rattle.acn_num.specs.Ranges.{has, AreRanges, IsRange, some_range, outside_from, size_of, count, nth, among, IsUnion, IsMeet, IsExcept, IsLeastExcept, SameNumbersSameSet, EachHasAPlace, NumbersRise, bottom, top, outside, meet, union, except, least, greatest};
 
@@ -148,6 +149,17 @@ impl RangeSet {
         neither.outside(alloc)
     }
 
+    /// The numbers that this set or one of the others holds. Pairs are joined in rounds, so the time is linear in
+    /// the ranges but for a factor that is the logarithm of the count of sets.
+    pub fn union_all(&self, alloc: Global, others: &[RangeSet]) -> Result<RangeSet, NoMemory>
+        ensures ranges { IfOk result (λ s. s ≡ unions self.now others.now) }
+        ensures numbers { IfOk result (λ s. IsUnionOfAll self.now others.now s) }
+    {
+        let _ranges = &self.ranges;
+        let joined = join(alloc, others)?;
+        self.union(alloc, &joined)
+    }
+
     /// The same set again.
     pub fn copy(&self, alloc: Global) -> Result<RangeSet, NoMemory>
         ensures { IfOk result (λ set. set ≡ self.now) }
@@ -202,6 +214,24 @@ impl RangeSet {
         }
         None
     }
+}
+
+// The numbers that one of the sets holds: those of the first half, and those of the second.
+fn join(alloc: Global, sets: &[RangeSet]) -> Result<RangeSet, NoMemory>
+    ensures numbers { IfOk result (λ s. (x : ℤ) → has s x ≡ one_has sets.now x) }
+    ensures each { IfOk result (λ s. AreAllRanges sets.now) }
+{
+    if sets.is_empty() {
+        return Ok(RangeSet::empty(alloc));
+    }
+    if sets.len() == 1 {
+        let _ranges = sets[0].ranges();
+        return sets[0].copy(alloc);
+    }
+    let half = sets.len() / 2;
+    let front = join(alloc, &sets[..half])?;
+    let back = join(alloc, &sets[half..])?;
+    front.union(alloc, &back)
 }
 
 // Whether the number is among these.

@@ -2,6 +2,7 @@ use crate::{
     BitList, Name, NoMemory, Path, RangeSet, Row, bits_for, digits_for, octets_for,
     signed_octets_for,
 };
+use std::alloc::Global;
 
 // The set of `0..10 EXCEPT 3 | 20`.
 #[test]
@@ -34,6 +35,28 @@ fn a_meet_and_a_copy_have_their_numbers(rt: HostRuntime) -> Result<(), NoMemory>
     assert_eq!(rt; all.count(), 27670116110564327426);
     assert_eq!(rt; RangeSet::empty(alloc).least(), None);
     assert_eq!(rt; all.except(alloc, &all)?.greatest(), None);
+    Ok(())
+}
+
+// The even numbers below twice this many, each as a set.
+fn even_numbers(alloc: Global, count: i128) -> Result<Vec<RangeSet>, NoMemory> {
+    let mut all = Vec::new(alloc);
+    for i in 0..count {
+        all.push(RangeSet::one(alloc, 2 * i, 2 * i)?)?;
+    }
+    Ok(all)
+}
+
+#[test]
+fn a_thousand_sets_are_joined(rt: HostRuntime) -> Result<(), NoMemory> {
+    let alloc = rt.alloc();
+    let evens = even_numbers(alloc, 1_000)?;
+    let set = RangeSet::one(alloc, 1, 3)?.union_all(alloc, evens.as_slice())?;
+    assert_eq!(rt; set.count(), 1_002);
+    assert_eq!(rt; set.nth(4), Some(4));
+    assert_eq!(rt; set.greatest(), Some(1_998));
+    assert!(rt; !set.holds(1_997));
+    assert_eq!(rt; set.union_all(alloc, &[])?.count(), 1_002);
     Ok(())
 }
 
