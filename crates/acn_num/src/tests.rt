@@ -38,11 +38,12 @@ fn a_meet_and_a_copy_have_their_numbers(rt: HostRuntime) -> Result<(), NoMemory>
     Ok(())
 }
 
-// The even numbers below twice this many, each as a set.
-fn even_numbers(alloc: Global, count: i128) -> Result<Vec<RangeSet>, NoMemory> {
+// This many even numbers, each as a set.
+fn even_numbers(alloc: Global, count: u16) -> Result<Vec<RangeSet>, NoMemory> {
     let mut all = Vec::new(alloc);
     for i in 0..count {
-        all.push(RangeSet::one(alloc, 2 * i, 2 * i)?)?;
+        let number = i128::from(i) * 2;
+        all.push(RangeSet::one(alloc, number, number)?)?;
     }
     Ok(all)
 }
