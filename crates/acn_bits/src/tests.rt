@@ -1,3 +1,6 @@
+ghost use Rattle.std.specs.Prelude.{◌+◌, ◌<◌, ◌≤◌};
+ghost use Rattle.acn_bits.specs.Writing.{place_of};
+
 use super::*;
 use std::test::Fail;
 
@@ -77,6 +80,79 @@ fn each_width_at_each_offset_is_the_same_bit_by_bit(rt: HostRuntime) -> Result<(
                 assert!(rt; cur.skip(u64::from(offset)) == Ok(()));
                 let wanted = taken_bit_by_bit(&bytes, offset, width);
                 assert!(rt; cur.take(width) == Ok(wanted), "{width} bits at {offset}");
+            }
+        }
+    }
+    Ok(())
+}
+
+// Writes the n lowest bits of v from a place on, one bit after another.
+fn write_bit_by_bit(buf: &mut [u8; 10], place: u32, n: u32, v: u64)
+    requires { n ≤ 64 }
+{
+    for i in 0..n {
+        let at = place.wrapping_add(i);
+        let mask = 128u8 >> (at % 8);
+        let bit = v >> (n - 1 - i) & 1 == 1;
+        if let Some(octet) = buf.get_mut((at / 8) as usize) {
+            *octet = if bit { *octet | mask } else { *octet & !mask };
+        }
+    }
+}
+
+// Puts as many of the lowest bits of v.
+fn put_lowest(out: &mut WriteCursor<'_, 10>, n: u32, v: u64)
+    requires width { n ≤ 64 }
+    requires room { place_of out.old + n ≤ 80 }
+{
+    if n == 64 {
+        out.put(64, v);
+    } else {
+        out.put(n, v % (1 << n));
+    }
+}
+
+// Leaves a hole, and fills it with as many of the lowest bits of v.
+fn fill_lowest(out: &mut WriteCursor<'_, 10>, n: u32, v: u64)
+    requires width { n ≤ 64 }
+    requires room { place_of out.old + n ≤ 80 }
+{
+    let hole = out.hole(n);
+    if n == 64 {
+        out.fill(hole, v);
+    } else {
+        out.fill(hole, v % (1 << n));
+    }
+}
+
+// Whether bits that are put, and bits that are filled in, are those that are written one by one.
+fn writes_the_same(offset: u32, width: u32, v: u64) -> bool
+    requires offset { offset < 8 }
+    requires width { width ≤ 64 }
+{
+    let start = [0x5bu8, 0xc3, 0x7e, 0x01, 0xff, 0x80, 0x96, 0x2d, 0xe4, 0x13];
+    let mut wanted = start;
+    write_bit_by_bit(&mut wanted, 0, offset, 0);
+    write_bit_by_bit(&mut wanted, offset, width, v);
+    let mut put = start;
+    let mut out = WriteCursor::new(&mut put);
+    out.put(offset, 0);
+    put_lowest(&mut out, width, v);
+    drop(out);
+    let mut filled = start;
+    let mut out = WriteCursor::new(&mut filled);
+    out.put(offset, 0);
+    fill_lowest(&mut out, width, v);
+    drop(out);
+    put == wanted && filled == wanted
+}
+
+#[test]
+fn each_width_at_each_offset_is_written_as_bit_by_bit(rt: HostRuntime) -> Result<(), Fail> {
+    for offset in 0..8u32 {
+        for width in 0..65u32 {
+            for v in [u64::MAX, 0, 0xb6d3_9a4e_17c5_8f21] {
+                assert!(rt; writes_the_same(offset, width, v), "{width} bits at {offset}");
             }
         }
     }

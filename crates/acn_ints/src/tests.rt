@@ -54,6 +54,8 @@ fn reads_offsets_and_octets_in_both_orders(rt: HostRuntime) -> Result<(), Fail> 
     assert!(rt; read(&leaf, &[]) == Err(ReadFault::Short));
     let octets = NumCoding::PosInt(16);
     let leaf = plain(rt.alloc(), NumKind::Integer, 0, 1000, octets, true)?;
+    let list = list_num(rt.alloc(), &leaf, 258)?;
+    assert!(rt; is_list(&list, 16, &[0x02, 0x01]));
     assert!(rt; read(&leaf, &[0x02, 0x01]) == Ok(258));
     assert!(rt; read(&leaf, &[0x01, 0x02]) == Ok(513));
     assert!(rt; read(&leaf, &[0xe9, 0x03]) == Err(ReadFault::OutOfRange { wire: 1001 }));
@@ -298,5 +300,134 @@ fn puts_and_fills_in_place(rt: HostRuntime) -> Result<(), Fail> {
     assert_eq!(rt; out.at(), 24);
     drop(out);
     assert!(rt; buf[0] == 0x00 && buf[1] == 0x70 && buf[2] == 0x42 && buf[3] == 0xff);
+    Ok(())
+}
+
+// Whether the bytes are refused for this reason.
+fn refuses(leaf: &NumLeaf, bytes: &[u8], fault: ReadFault) -> bool
+    requires fine { IsTrue (num_fine leaf.now) }
+    requires few { length bytes.now ≤ 1000 }
+{
+    match read(leaf, bytes) {
+        Ok(_) => false,
+        Err(answered) => answered == fault,
+    }
+}
+
+// Three decimal digits, of which the least are permitted: too few bits, a digit that is none, another number.
+fn refuses_digits_in_order(leaf: &NumLeaf) -> bool
+    requires { IsTrue (num_fine leaf.now) }
+{
+    refuses(leaf, &[0xa0], ReadFault::Short)
+        && refuses(leaf, &[0x0a, 0x90], ReadFault::BadDigit)
+        && refuses(leaf, &[0x00, 0x90], ReadFault::OutOfRange { wire: 9 })
+}
+
+// A sign and two digits, of which those below zero are permitted.
+fn refuses_signs_in_order(leaf: &NumLeaf) -> bool
+    requires { IsTrue (num_fine leaf.now) }
+{
+    refuses(leaf, b"-0", ReadFault::Short)
+        && refuses(leaf, b"-0a", ReadFault::BadDigit)
+        && refuses(leaf, b"-00", ReadFault::NotMinimal)
+        && refuses(leaf, b"+00", ReadFault::OutOfRange { wire: 0 })
+}
+
+// Octets behind their count, of which one is enough for what is permitted.
+fn refuses_counts_in_order(leaf: &NumLeaf) -> bool
+    requires { IsTrue (num_fine leaf.now) }
+{
+    refuses(leaf, &[], ReadFault::Short)
+        && refuses(leaf, &[0], ReadFault::NotMinimal)
+        && refuses(leaf, &[9], ReadFault::TooLong)
+        && refuses(leaf, &[2, 0], ReadFault::Short)
+        && refuses(leaf, &[2, 0, 100], ReadFault::NotMinimal)
+        && refuses(leaf, &[8, 0, 15, 255, 255, 255, 255, 255, 255], ReadFault::NotMinimal)
+        && refuses(leaf, &[1, 100], ReadFault::OutOfRange { wire: 100 })
+}
+
+// Digits of four bits up to their end, of which from 20 to 50 are permitted.
+fn refuses_ended_digits_in_order(leaf: &NumLeaf) -> bool
+    requires { IsTrue (num_fine leaf.now) }
+{
+    refuses(leaf, &[0x05], ReadFault::Short)
+        && refuses(leaf, &[0x0a], ReadFault::BadDigit)
+        && refuses(leaf, &[0xf0], ReadFault::BadDigit)
+        && refuses(leaf, &[0x00, 0x0f], ReadFault::TooLong)
+        && refuses(leaf, &[0x05, 0xf0], ReadFault::NotMinimal)
+        && refuses(leaf, &[0x99, 0xf0], ReadFault::OutOfRange { wire: 99 })
+}
+
+// Digits up to a line's end of two octets, of which from 20 to 50 are permitted.
+fn refuses_lines_in_order(leaf: &NumLeaf) -> bool
+    requires { IsTrue (num_fine leaf.now) }
+{
+    refuses(leaf, b"4x", ReadFault::Short)
+        && refuses(leaf, b"4\r", ReadFault::Short)
+        && refuses(leaf, b"4\rx", ReadFault::BadDigit)
+        && refuses(leaf, b"\r\n", ReadFault::BadDigit)
+        && refuses(leaf, b"012", ReadFault::TooLong)
+        && refuses(leaf, b"05\r\n", ReadFault::NotMinimal)
+        && refuses(leaf, b"99\r\n", ReadFault::OutOfRange { wire: 99 })
+}
+
+#[test]
+fn the_first_refusal_of_one_width_is_answered(rt: HostRuntime) -> Result<(), Fail> {
+    let digits = plain(rt.alloc(), NumKind::Integer, 0, 5, NumCoding::Bcd(12), false)?;
+    assert!(rt; refuses_digits_in_order(&digits));
+    let signed = NumCoding::Ascii {
+        bits: 24,
+        signed: true,
+    };
+    let below = plain(rt.alloc(), NumKind::Integer, -99, -1, signed, false)?;
+    assert!(rt; refuses_signs_in_order(&below));
+    Ok(())
+}
+
+#[test]
+fn the_first_refusal_behind_a_count_is_answered(rt: HostRuntime) -> Result<(), Fail> {
+    let signed = NumCoding::CountedSigned;
+    let few = plain(rt.alloc(), NumKind::Integer, -3, 3, signed, false)?;
+    assert!(rt; refuses_counts_in_order(&few));
+    let offset = NumCoding::CountedFrom { low: 0 };
+    let few = plain(rt.alloc(), NumKind::Integer, 0, 3, offset, false)?;
+    assert!(rt; refuses_counts_in_order(&few));
+    Ok(())
+}
+
+#[test]
+fn the_first_refusal_before_an_end_is_answered(rt: HostRuntime) -> Result<(), Fail> {
+    let ended = NumCoding::BcdEnded;
+    let digits = plain(rt.alloc(), NumKind::Integer, 20, 50, ended, false)?;
+    assert!(rt; refuses_ended_digits_in_order(&digits));
+    let line_end = [
+        false, false, false, false, true, true, false, true, false, false, false, false, true,
+        false, true, false,
+    ];
+    let lines = NumCoding::AsciiEnded {
+        end: Pattern::new(&line_end),
+        signed: false,
+    };
+    let digits = plain(rt.alloc(), NumKind::Integer, 20, 50, lines, false)?;
+    assert!(rt; refuses_lines_in_order(&digits));
+    Ok(())
+}
+
+#[test]
+fn reads_and_lists_a_bit_and_nothing(rt: HostRuntime) -> Result<(), Fail> {
+    let bit = NumCoding::Flag {
+        yes: None,
+        no: None,
+    };
+    let leaf = plain(rt.alloc(), NumKind::Boolean, 0, 1, bit, false)?;
+    let list = list_num(rt.alloc(), &leaf, 1)?;
+    assert!(rt; is_list(&list, 1, &[0x80]));
+    assert!(rt; read(&leaf, &[0x80]) == Ok(1));
+    assert!(rt; read(&leaf, &[0x7f]) == Ok(0));
+    let nothing = NumCoding::Range { low: 7, width: 0 };
+    let leaf = plain(rt.alloc(), NumKind::Integer, 7, 7, nothing, false)?;
+    let list = list_num(rt.alloc(), &leaf, 7)?;
+    assert!(rt; is_list(&list, 0, &[]));
+    assert!(rt; read(&leaf, &[]) == Ok(7));
     Ok(())
 }

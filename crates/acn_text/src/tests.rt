@@ -177,3 +177,47 @@ fn reads_and_writes_a_text_whose_size_a_slot_says(rt: HostRuntime) -> Result<(),
     assert!(rt; read(&leaf, Some(6), &[0x03, 0x32]).0 == Err(ReadFault::SizeOutOfRange { n: 6 }));
     Ok(())
 }
+
+// Whether the bytes are refused for this reason.
+fn refuses(leaf: &TextLeaf, bytes: &[u8], fault: ReadFault) -> bool
+    requires fine { IsTrue (text_fine leaf.now) }
+    requires given { IsGiven leaf.now.sized.rule None }
+    requires few { length bytes.now ≤ 1000 }
+{
+    match read(leaf, None, bytes).0 {
+        Ok(_) => false,
+        Err(answered) => answered == fault,
+    }
+}
+
+// From one to five capitals behind their size, of which the first is none.
+fn refuses_sizes_in_order(leaf: &TextLeaf) -> bool
+    requires fine { IsTrue (text_fine leaf.now) }
+    requires given { IsGiven leaf.now.sized.rule None }
+{
+    refuses(leaf, &[], ReadFault::Short)
+        && refuses(leaf, &[0xbf], ReadFault::SizeOutOfRange { n: 6 })
+        && refuses(leaf, &[0x5f], ReadFault::Short)
+        && refuses(leaf, &[0x5f, 0xff, 0xff], ReadFault::BadCharacter)
+}
+
+// Two or three characters and an octet of zeros, of which the first is none.
+fn refuses_ends_in_order(leaf: &TextLeaf) -> bool
+    requires fine { IsTrue (text_fine leaf.now) }
+    requires given { IsGiven leaf.now.sized.rule None }
+{
+    refuses(leaf, &[], ReadFault::Short)
+        && refuses(leaf, &[0x80], ReadFault::Short)
+        && refuses(leaf, &[0x80, 1, 2, 3], ReadFault::TooLong)
+        && refuses(leaf, &[0x80, 0], ReadFault::SizeOutOfRange { n: 1 })
+        && refuses(leaf, &[0x80, 1, 0], ReadFault::BadCharacter)
+}
+
+#[test]
+fn the_first_refusal_of_a_text_is_answered(rt: HostRuntime) -> Result<(), Fail> {
+    let sized = capitals(rt.alloc(), SizeRule::Prefix { low: 1, width: 3 })?;
+    assert!(rt; refuses_sizes_in_order(&sized));
+    let two = ended(rt.alloc(), 2, &[false; 8])?;
+    assert!(rt; refuses_ends_in_order(&two));
+    Ok(())
+}
