@@ -152,7 +152,10 @@ fn each_width_at_each_offset_is_written_as_bit_by_bit(rt: HostRuntime) -> Result
     for offset in 0..8u32 {
         for width in 0..65u32 {
             for v in [u64::MAX, 0, 0xb6d3_9a4e_17c5_8f21] {
-                assert!(rt; writes_the_same(offset, width, v), "{width} bits at {offset}");
+                assert!(rt;
+                    writes_the_same(offset, width, v),
+                    "{width} bits at {offset}"
+                );
             }
         }
     }
