@@ -64,7 +64,13 @@ fn time_writes(rt: &HostRuntime, octets: &mut [u8; 4096]) -> Result<(), Fault> {
     let count = writing::puts(octets, PASSES);
     let took = start.elapsed(rt)?;
     let sum = writing::sum_of(octets);
-    report(rt, "put of 0 to 7 bits and put of 11 bits", took, count, sum)?;
+    report(
+        rt,
+        "put of 0 to 7 bits and put of 11 bits",
+        took,
+        count,
+        sum,
+    )?;
     Ok(())
 }
 

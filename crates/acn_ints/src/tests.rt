@@ -342,7 +342,11 @@ fn refuses_counts_in_order(leaf: &NumLeaf) -> bool
         && refuses(leaf, &[9], ReadFault::TooLong)
         && refuses(leaf, &[2, 0], ReadFault::Short)
         && refuses(leaf, &[2, 0, 100], ReadFault::NotMinimal)
-        && refuses(leaf, &[8, 0, 15, 255, 255, 255, 255, 255, 255], ReadFault::NotMinimal)
+        && refuses(
+            leaf,
+            &[8, 0, 15, 255, 255, 255, 255, 255, 255],
+            ReadFault::NotMinimal,
+        )
         && refuses(leaf, &[1, 100], ReadFault::OutOfRange { wire: 100 })
 }
 
@@ -373,7 +377,14 @@ fn refuses_lines_in_order(leaf: &NumLeaf) -> bool
 
 #[test]
 fn the_first_refusal_of_one_width_is_answered(rt: HostRuntime) -> Result<(), Fail> {
-    let digits = plain(rt.alloc(), NumKind::Integer, 0, 5, NumCoding::Bcd(12), false)?;
+    let digits = plain(
+        rt.alloc(),
+        NumKind::Integer,
+        0,
+        5,
+        NumCoding::Bcd(12),
+        false,
+    )?;
     assert!(rt; refuses_digits_in_order(&digits));
     let signed = NumCoding::Ascii {
         bits: 24,
