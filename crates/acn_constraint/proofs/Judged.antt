@@ -4,7 +4,7 @@ use Rattle.std.specs.Prelude.{ℤ}
 use Rattle.acn_names.specs.World.{World}
 use Rattle.acn_names.specs.Chains.{ChainOf}
 use Rattle.acn_constraint.specs.Constraints.{Fault, not_here, judged, unless, unless_low, base_is, constraints_of, first_low}
-use Rattle.acn_constraint.specs.Stands.{all_stand}
+use Rattle.acn_elements.specs.Stands.{all_stand}
 use Rattle.acn_constraint.specs.Views.{Refused, Answers}
 use Rattle.acn_constraint.specs.declared.fault.ConstraintFault.{ConstraintFault}
 

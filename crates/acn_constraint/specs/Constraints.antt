@@ -8,9 +8,9 @@ use Rattle.acn_asn_syntax.specs.declared.types.Named.{Named}
 use Rattle.acn_asn_syntax.specs.declared.values.AsnValue.{AsnValue}
 use Rattle.acn_names.specs.World.{World}
 use Rattle.acn_names.specs.Chains.{ChainOf, base_part}
-use Rattle.acn_constraint.specs.Written.{number_in, named_of}
+use Rattle.acn_elements.specs.Written.{number_in, named_of}
 use Rattle.acn_constraint.specs.Sets.{Reading, numbers, sizes, characters, set_in}
-use Rattle.acn_constraint.specs.Stands.{all_stand}
+use Rattle.acn_elements.specs.Stands.{all_stand}
 
 -- ---- the constraints of a chain, from the base outward, the one between SEQUENCE and OF first
 

@@ -1,6 +1,5 @@
 pub mod Constraints
+pub mod Each
 pub mod Readings
 pub mod Sets
-pub mod Stands
 pub mod Views
-pub mod Written

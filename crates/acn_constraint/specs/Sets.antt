@@ -7,7 +7,7 @@ use Rattle.acn_asn_syntax.specs.declared.sets.AsnRange.{AsnRange}
 use Rattle.acn_asn_syntax.specs.declared.types.Named.{Named}
 use Rattle.acn_asn_syntax.specs.declared.values.AsnValue.{AsnValue}
 use Rattle.acn_names.specs.World.{World}
-use Rattle.acn_constraint.specs.Written.{number_in, text_in, character_in}
+use Rattle.acn_elements.specs.Written.{number_in, text_in, character_in}
 
 -- ---- ranges
 
