@@ -1,5 +1,5 @@
 -- What stands between SEQUENCE and OF, and the base of a type whose form is known.
-use Rattle.std.proofs.Common.{◌≡◌, ℕ, Option, Some, None, Result, Ok, Err, refl, sym, ap, ◌∙◌}
+use Rattle.std.proofs.Common.{◌≡◌, ℕ, Option, Some, None, Result, Ok, Err, sym, ap, ◌∙◌}
 use Rattle.std.specs.Prelude.{IfOk, map, option_map}
 use Rattle.std.specs.Option.{option_to_list}
 use Rattle.acn_asn_syntax.specs.Mirror as plain

@@ -1,5 +1,5 @@
 -- What is answered behind the faults that are tried first.
-use Rattle.std.proofs.Common.{◌≡◌, Bool, true, false, Option, Some, None, Result, Ok, Err, refl, sym, ap, ◌∙◌, subst}
+use Rattle.std.proofs.Common.{◌≡◌, Bool, true, false, Option, Some, None, Result, Ok, Err, refl, ap, ◌∙◌, subst}
 use Rattle.std.specs.Prelude.{ℤ}
 use Rattle.acn_names.specs.World.{World}
 use Rattle.acn_names.specs.Chains.{ChainOf}

@@ -1,5 +1,5 @@
 -- A union of written elements is that of their sets.
-use Rattle.std.proofs.Common.{◌≡◌, ℕ, [], ◌∷◌, refl, sym, ap, ◌∙◌}
+use Rattle.std.proofs.Common.{◌≡◌, ℕ, refl}
 use Rattle.acn_num.specs.Ranges.{Ranges, union}
 use Rattle.acn_num.specs.Unions.{unions}
 use Rattle.acn_asn_syntax.specs.Mirror.{Meets, no_meets, and_meet}

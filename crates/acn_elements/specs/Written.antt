@@ -1,5 +1,5 @@
 -- Which number or text a value in a constraint stands for.
-use Rattle.std.specs.Prelude.{ℕ, zero, suc, Bool, true, false, List, [], ◌∷◌, length, Option, Some, None, option_and_then, option_map, if◌then◌else◌, nat_eq, ◌&&◌, ℤ, pos, negsuc}
+use Rattle.std.specs.Prelude.{ℕ, zero, suc, Bool, true, false, List, [], ◌∷◌, Option, Some, None, option_and_then, option_map, if◌then◌else◌, nat_eq, ◌&&◌, ℤ, pos, negsuc}
 use Rattle.std.specs.List.{find}
 use Rattle.std.specs.Str.{bytes_eq}
 use Rattle.acn_asn_syntax.specs.Mirror.{AsnBase, integer}
@@ -7,7 +7,7 @@ use Rattle.acn_asn_syntax.specs.declared.types.Named.{Named}
 use Rattle.acn_asn_syntax.specs.declared.values.AsnValue.{AsnValue}
 use Rattle.acn_asn_syntax.specs.declared.values.AsnValue.TheVariants as value
 use Rattle.acn_names.specs.World.{Name, World}
-use Rattle.acn_names.specs.Values.{Worth, value_of}
+use Rattle.acn_names.specs.Values.{value_of}
 
 -- ---- numbers (X.680 clause 19)
 

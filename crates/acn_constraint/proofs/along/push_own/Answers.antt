@@ -1,4 +1,3 @@
-use Rattle.std.proofs.Common.{◌≡◌, refl, sym, ap, ◌∙◌}
 use Rattle.acn_names.proofs.Joined.{nothing, the_same}
 use Rattle.acn_names.proofs.TypeViews.{view_Boolean, view_Null, view_Integer, view_Enumerated, view_OctetString, view_BitString, view_Ia5String, view_Sequence, view_Choice, view_Ref}
 use Rattle.acn_constraint.specs.Constraints.{own_constraint}

@@ -1,4 +1,4 @@
-use Rattle.std.proofs.Common.{◌≡◌, sym, ap, ◌∙◌, arith}
+use Rattle.std.proofs.Common.{sym, ap, ◌∙◌, arith}
 use Rattle.acn_constraint.specs.Sets.{letters_behind}
 use Rattle.acn_elements.proofs.Texts.{after_end}
 use Rattle.acn_constraint.proofs.letters.letters.Goals as goal

@@ -1,4 +1,4 @@
-use Rattle.std.proofs.Common.{ℕ, ◌≡◌, ◌-◌, drop, length}
+use Rattle.std.proofs.Common.{◌≡◌, ◌-◌, drop, length}
 use Rattle.acn_constraint.specs.Sets.{letters, letters_behind}
 use Rattle.acn_elements.specs.Written.{unquoted, unquoted_rest}
 use Rattle.acn_constraint.proofs.letters.letters.Given as goal

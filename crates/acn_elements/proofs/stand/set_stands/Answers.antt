@@ -1,9 +1,9 @@
-use Rattle.std.proofs.Common.{◌≡◌, refl, sym, ap, ◌∙◌}
+use Rattle.std.proofs.Common.{refl, sym, ◌∙◌}
 use Rattle.acn_names.proofs.TypeViews.{view_Boolean, view_Null, view_Integer, view_Enumerated, view_OctetString, view_BitString, view_Ia5String, view_Sequence, view_Choice, view_Ref}
 use Rattle.acn_elements.proofs.Bases.{at_base, at_list}
 use Rattle.acn_asn_syntax.specs.View.{set_view}
 use Rattle.acn_names.specs.Viewed.{world_view}
-use Rattle.acn_elements.specs.Stands.{set_stands, built, of_sizes, of_numbers}
+use Rattle.acn_elements.specs.Stands.{set_stands, built, of_numbers}
 use Rattle.acn_elements.specs.Written.{named_of}
 use Rattle.acn_elements.proofs.stand.set_stands.Goals as goal
 

@@ -1,4 +1,4 @@
-use Rattle.std.proofs.Common.{◌≡◌, refl, sym, ap, ◌∙◌, subst}
+use Rattle.std.proofs.Common.{sym, ◌∙◌}
 use Rattle.acn_names.proofs.TypeViews.{view_Set, view_Size, view_Containing}
 use Rattle.acn_elements.proofs.Bases.{at_constraint}
 use Rattle.acn_asn_syntax.specs.View.{base_view}
