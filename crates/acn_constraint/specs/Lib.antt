@@ -2,4 +2,5 @@ pub mod Constraints
 pub mod Each
 pub mod Readings
 pub mod Sets
+pub mod Sized
 pub mod Views

@@ -11,6 +11,7 @@ ghost use Rattle.acn_constraint.specs.Sets as sets;
 ghost use Rattle.acn_constraint.specs.Each.{each_meet};
 
 use crate::letters::letters;
+use crate::sized::element_says_size;
 use crate::span::{between, single};
 use acn_asn_syntax::{AsnRange, AsnValue, Element, Meet, Named, Part, Set};
 use acn_elements::{character_in, number_in, text_in};
@@ -89,6 +90,17 @@ fn range_in(
     let low = end_of(place, before.least(), &range.low);
     let high = end_of(place, before.greatest(), &range.high);
     between(alloc, &low, range.low_out, &high, range.high_out)
+}
+
+// Whether what EXCEPT takes from is built of SIZE, which says nothing of characters.
+fn is_aside(reading: Reading<'_>, element: &Element) -> bool
+    ensures { result ≡ sets.is_aside (reading_of reading.entry) (element_view element.now) }
+{
+    match reading {
+        Reading::Numbers(_) => false,
+        Reading::Sizes => false,
+        Reading::Characters => element_says_size(element),
+    }
 }
 
 /// What a set leaves of what stood before it.
@@ -176,10 +188,13 @@ fn part_in(
 ) -> Result<RangeSet, NoMemory>
     ensures { IfOk result (λ s. s ≡ sets.part_in (world_view place.entry.world.now) place.entry.owner (reading_of place.entry.reading) (part_view part.now) before.now) }
 {
-    let found = element_in(alloc, &part.element, place, before)?;
     match &part.but {
-        None => Ok(found),
+        None => element_in(alloc, &part.element, place, before),
         Some(but) => {
+            if is_aside(place.reading, &part.element) {
+                return before.copy(alloc);
+            }
+            let found = element_in(alloc, &part.element, place, before)?;
             let taken = element_in(alloc, but, place, before)?;
             found.except(alloc, &taken)
         }
