@@ -1,14 +1,12 @@
--- The first of a list, and lists of at most one.
-use Rattle.std.proofs.Common.{◌≡◌, ℕ, Bool, true, false, List, [], ◌∷◌, ◌++◌, Option, Some, None, refl, sym, ap, ◌∙◌, subst}
-use Rattle.std.specs.Prelude.{ℤ, is_some, ◌&&◌, flat_map, filter}
+-- The first of a list.
+use Rattle.std.proofs.Common.{◌≡◌, ℕ, true, false, List, [], ◌∷◌, ◌++◌, Option, Some, None, refl, ap, ◌∙◌}
+use Rattle.std.specs.Prelude.{is_some}
 use Rattle.std.specs.List.{filter_map}
 use Rattle.std.proofs.lemmas.List.Elements.{filter_map-append}
-use Rattle.acn_asn_syntax.specs.Mirror.{Constraint}
 use Rattle.acn_asn_syntax.specs.declared.types.Named.{Named}
 use Rattle.acn_asn_syntax.specs.declared.values.AsnValue.{AsnValue}
 use Rattle.acn_names.specs.World.{World}
 use Rattle.acn_constraint.specs.Constraints.{first, earlier, low_among, low_number}
-use Rattle.acn_constraint.specs.Stands.{at_most_one}
 
 pub first_append : {A : Type 0} (xs ys : List A) → first (xs ++ ys) ≡ earlier (first xs) (first ys)
 first_append [] ys = refl
@@ -25,9 +23,3 @@ earlier_some (Some x) p h = refl
 pub earlier_none : {A : Type 0} (o p : Option A) → is_some o ≡ false → earlier o p ≡ p
 earlier_none None p h = refl
 earlier_none (Some x) p h = absurd cc
-
--- at most one, with another one where `found`
-abbrev pub with_one : {A : Type 0} → Bool → List A → Bool
-with_one false xs = at_most_one xs
-with_one true [] = true
-with_one true (x ∷ xs) = false

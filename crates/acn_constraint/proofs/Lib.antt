@@ -1,5 +1,5 @@
-pub mod Texts
-pub mod Firsts
 pub mod Bases
+pub mod Firsts
 pub mod Judged
 pub mod Steps
+pub mod Unions

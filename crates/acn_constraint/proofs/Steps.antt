@@ -1,5 +1,5 @@
 -- One step along the meets and the parts of a set.
-use Rattle.std.proofs.Common.{◌≡◌, ℕ, ◌+◌, ◌<◌, Bool, true, false, List, [], ◌∷◌, ◌++◌, length, get_or, drop, Option, refl, sym, ap, ◌∙◌}
+use Rattle.std.proofs.Common.{◌≡◌, ℕ, ◌+◌, ◌<◌, Bool, true, false, List, ◌∷◌, length, get_or, drop, Option, sym, ap, ◌∙◌}
 use Rattle.std.specs.Prelude.{ℤ, map, is_some}
 use Rattle.std.proofs.lemmas.List.{drop_more}
 use Rattle.acn_asn_syntax.specs.View.{meet_view, part_view, meets_of, parts_of}

@@ -1,16 +1,16 @@
 -- What the constraints of a chain leave: numbers, sizes and characters, or the fault that is theirs.
-use Rattle.std.specs.Prelude.{ℕ, Bool, true, false, not, ◌||◌, List, [], ◌∷◌, ◌++◌, Option, Some, None, option_and_then, option_map, if◌then◌else◌, ℤ, pos, negsuc, int_lt, Result, Ok, Err}
+use Rattle.std.specs.Prelude.{ℕ, Bool, true, false, not, ◌||◌, List, [], ◌∷◌, ◌++◌, Option, Some, None, option_and_then, if◌then◌else◌, ℤ, pos, negsuc, int_lt, Result, Ok, Err}
 use Rattle.std.specs.List.{filter_map, flat_map, list_any}
 use Rattle.acn_num.specs.Ranges.{Ranges, has, meet, bottom, top, least, greatest}
 use Rattle.acn_asn_syntax.specs.Mirror.{Set, all_except, union_of, Meets, no_meets, and_meet, Meet, meet_of, Parts, no_parts, and_part, Part, part_of, part_but, Element, value_of, range_of as range_element, size_of as size_element, from_of, inner_of, AsnBase, sequence_size, Constraint, by_set, by_size, containing}
-use Rattle.acn_asn_syntax.specs.declared.sets.AsnRange.{AsnRange}
 use Rattle.acn_asn_syntax.specs.declared.types.Named.{Named}
 use Rattle.acn_asn_syntax.specs.declared.values.AsnValue.{AsnValue}
 use Rattle.acn_names.specs.World.{World}
 use Rattle.acn_names.specs.Chains.{ChainOf, base_part}
-use Rattle.acn_constraint.specs.Written.{number_in, named_of}
+use Rattle.acn_elements.specs.Written.{number_in, named_of}
+use Rattle.acn_constraint.specs.Sized.{sizes_set}
 use Rattle.acn_constraint.specs.Sets.{Reading, numbers, sizes, characters, set_in}
-use Rattle.acn_constraint.specs.Stands.{all_stand}
+use Rattle.acn_elements.specs.Stands.{all_stand}
 
 -- ---- the constraints of a chain, from the base outward, the one between SEQUENCE and OF first
 
@@ -71,33 +71,6 @@ abbrev pub opened : Ranges → Opened
 opened s = record { numbers = closed s; open_below = has s bottom; open_above = has s top }
 
 -- ---- whether a SIZE is written
-
-unfoldable mutual
-  pub sizes_set : Set → Bool
-  sizes_set (all_except e) = sizes_element e
-  sizes_set (union_of m more) = sizes_meet m || sizes_meets more
-
-  pub sizes_meets : Meets → Bool
-  sizes_meets no_meets = false
-  sizes_meets (and_meet word m more) = sizes_meet m || sizes_meets more
-
-  pub sizes_meet : Meet → Bool
-  sizes_meet (meet_of p more) = sizes_part p || sizes_parts more
-
-  pub sizes_parts : Parts → Bool
-  sizes_parts no_parts = false
-  sizes_parts (and_part word p more) = sizes_part p || sizes_parts more
-
-  pub sizes_part : Part → Bool
-  sizes_part (part_of e) = sizes_element e
-  sizes_part (part_but e but) = sizes_element e || sizes_element but
-
-  pub sizes_element : Element → Bool
-  sizes_element (value_of v) = false
-  sizes_element (range_element r) = false
-  sizes_element (size_element s) = true
-  sizes_element (from_of s) = false
-  sizes_element (inner_of s) = sizes_set s
 
 abbrev pub gives_size : ℕ × Constraint → Bool
 gives_size (k, by_set s) = sizes_set s

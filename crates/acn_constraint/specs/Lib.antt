@@ -1,6 +1,6 @@
 pub mod Constraints
+pub mod Each
 pub mod Readings
 pub mod Sets
-pub mod Stands
+pub mod Sized
 pub mod Views
-pub mod Written

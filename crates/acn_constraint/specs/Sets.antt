@@ -1,5 +1,5 @@
 -- The set that a constraint leaves of what stood before it (X.680 clauses 50 and 51).
-use Rattle.std.specs.Prelude.{ℕ, Bool, List, [], ◌∷◌, Option, Some, None, if◌then◌else◌, ℤ, pos, ◌+ℤ◌, ◌-ℤ◌}
+use Rattle.std.specs.Prelude.{ℕ, Bool, false, List, [], ◌∷◌, Option, Some, None, if◌then◌else◌, ℤ, pos, ◌+ℤ◌, ◌-ℤ◌}
 use Rattle.std.specs.Int.{int_max, int_min}
 use Rattle.acn_num.specs.Ranges.{Ranges, meet, union, except, some_range, least, greatest, bottom, top}
 use Rattle.acn_asn_syntax.specs.Mirror.{Set, all_except, union_of, Meets, no_meets, and_meet, Meet, meet_of, Parts, no_parts, and_part, Part, part_of, part_but, Element, value_of, range_of, size_of, from_of, inner_of}
@@ -7,7 +7,8 @@ use Rattle.acn_asn_syntax.specs.declared.sets.AsnRange.{AsnRange}
 use Rattle.acn_asn_syntax.specs.declared.types.Named.{Named}
 use Rattle.acn_asn_syntax.specs.declared.values.AsnValue.{AsnValue}
 use Rattle.acn_names.specs.World.{World}
-use Rattle.acn_constraint.specs.Written.{number_in, text_in, character_in}
+use Rattle.acn_constraint.specs.Sized.{sizes_element}
+use Rattle.acn_elements.specs.Written.{number_in, text_in, character_in}
 
 -- ---- ranges
 
@@ -52,6 +53,12 @@ pub data Reading : Type 0 where
   sizes : Reading
   characters : Reading
 
+-- whether what EXCEPT takes from is built of SIZE, which says nothing of characters
+abbrev pub is_aside : Reading → Element → Bool
+is_aside (numbers ns) e = false
+is_aside sizes e = false
+is_aside characters e = sizes_element e
+
 -- the characters of a text, with some before them
 abbrev pub letters_behind : Ranges → List ℕ → Ranges
 letters_behind found [] = found
@@ -94,7 +101,7 @@ module _ (w : World) (k : ℕ) where
 
     pub part_in : Reading → Part → Ranges → Ranges
     part_in r (part_of e) before = element_in r e before
-    part_in r (part_but e but) before = except (element_in r e before) (element_in r but before)
+    part_in r (part_but e but) before = if is_aside r e then before else except (element_in r e before) (element_in r but before)
 
     pub element_in : Reading → Element → Ranges → Ranges
     element_in r (value_of v) before = value_set r v

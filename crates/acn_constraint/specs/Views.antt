@@ -1,6 +1,5 @@
 -- What the program's own types stand for.
-use Rattle.std.specs.Prelude.{◌≡◌, Option, Some, None, option_map, Result, Ok, Err}
-use Rattle.acn_num.specs.Ranges.{Ranges}
+use Rattle.std.specs.Prelude.{◌≡◌, Option, Some, None, Result, Ok, Err}
 use Rattle.acn_constraint.specs.Constraints as spec
 use Rattle.acn_constraint.specs.declared.fault.ConstraintFault.{ConstraintFault}
 use Rattle.acn_constraint.specs.declared.fault.ConstraintFault.TheVariants as fault

@@ -2,7 +2,7 @@ ghost use Rattle.std.specs.Prelude.{◌≡◌, IfOk, Ok};
 ghost use Rattle.acn_names.specs.Chained.{chain_view, constraints_view};
 ghost use Rattle.acn_names.specs.Viewed.{world_view};
 ghost use Rattle.acn_constraint.specs.Constraints as spec;
-ghost use Rattle.acn_constraint.specs.Stands as stands;
+ghost use Rattle.acn_elements.specs.Stands as stands;
 ghost use Rattle.acn_constraint.specs.Views.{Answers, opened_of};
 
 use crate::ConstraintFault;
@@ -10,8 +10,8 @@ use crate::along::{base_of, constraints_of, first_low, has_size, met};
 use crate::ends::{filled, opened, sized};
 use crate::evaluate::Reading;
 use crate::span::{BOTTOM, TOP};
-use crate::stand::{all_stand, named_of};
 use acn_asn_syntax::Constraint;
+use acn_elements::{all_stand, named_of};
 use acn_names::{Chain, World};
 use acn_num::{NoMemory, RangeSet};
 use std::alloc::Global;

@@ -8,10 +8,13 @@ ghost use Rattle.acn_names.specs.Mentioned.{seen_meet, seen_part};
 ghost use Rattle.acn_names.specs.Viewed.{world_view};
 ghost use Rattle.acn_constraint.specs.Readings.{reading_of};
 ghost use Rattle.acn_constraint.specs.Sets as sets;
+ghost use Rattle.acn_constraint.specs.Each.{each_meet};
 
+use crate::letters::letters;
+use crate::sized::element_says_size;
 use crate::span::{between, single};
-use crate::written::{character_in, letters, number_in, text_in};
 use acn_asn_syntax::{AsnRange, AsnValue, Element, Meet, Named, Part, Set};
+use acn_elements::{character_in, number_in, text_in};
 use acn_names::World;
 use acn_num::{NoMemory, RangeSet};
 use std::alloc::Global;
@@ -89,9 +92,20 @@ fn range_in(
     between(alloc, &low, range.low_out, &high, range.high_out)
 }
 
+// Whether what EXCEPT takes from is built of SIZE, which says nothing of characters.
+fn is_aside(reading: Reading<'_>, element: &Element) -> bool
+    ensures { result ≡ sets.is_aside (reading_of reading.entry) (element_view element.now) }
+{
+    match reading {
+        Reading::Numbers(_) => false,
+        Reading::Sizes => false,
+        Reading::Characters => element_says_size(element),
+    }
+}
+
 /// What a set leaves of what stood before it.
 #[cycle(evaluate)]
-#[tactic(auto, unfolding(crate::specs::Sets::set_in, crate::specs::Sets::meets_in, crate::specs::Sets::meet_in, crate::specs::Sets::parts_in, crate::specs::Sets::part_in, crate::specs::Sets::element_in), using(acn_names::proofs::SetViews::set_views))]
+#[tactic(auto, unfolding(crate::specs::Sets::set_in, crate::specs::Sets::meets_in, crate::specs::Sets::meet_in, crate::specs::Sets::parts_in, crate::specs::Sets::part_in, crate::specs::Sets::element_in), using(acn_names::proofs::SetViews::set_views, crate::proofs::Unions::joined))]
 pub fn set_in(
     alloc: Global,
     set: &Set,
@@ -107,7 +121,8 @@ pub fn set_in(
         }
         Set::Union(first, more) => {
             let found = meet_in(alloc, first, place, before)?;
-            meets_in(alloc, more.items(), place, found, before)
+            let others = meets_in(alloc, more.items(), place, before)?;
+            found.union_all(alloc, others.as_slice())
         }
     }
 }
@@ -118,17 +133,16 @@ fn meets_in(
     alloc: Global,
     more: &[(bool, Meet)],
     place: Place<'_>,
-    found: RangeSet,
     before: &RangeSet,
-) -> Result<RangeSet, NoMemory>
-    ensures { IfOk result (λ s. s ≡ sets.meets_in (world_view place.entry.world.now) place.entry.owner (reading_of place.entry.reading) (meets_of (map seen_meet more.now)) found before.now) }
+) -> Result<Vec<RangeSet>, NoMemory>
+    ensures { IfOk result (λ all. all.items ≡ each_meet (world_view place.entry.world.now) place.entry.owner (reading_of place.entry.reading) (meets_of (map seen_meet more.now)) before.now) }
 {
-    let mut found = found;
+    let mut all = Vec::new(alloc);
     for meet in more {
         let next = meet_in(alloc, &meet.1, place, before)?;
-        found = found.union(alloc, &next)?;
+        all.push(next)?;
     }
-    Ok(found)
+    Ok(all)
 }
 
 #[cycle(evaluate)]
@@ -174,10 +188,13 @@ fn part_in(
 ) -> Result<RangeSet, NoMemory>
     ensures { IfOk result (λ s. s ≡ sets.part_in (world_view place.entry.world.now) place.entry.owner (reading_of place.entry.reading) (part_view part.now) before.now) }
 {
-    let found = element_in(alloc, &part.element, place, before)?;
     match &part.but {
-        None => Ok(found),
+        None => element_in(alloc, &part.element, place, before),
         Some(but) => {
+            if is_aside(place.reading, &part.element) {
+                return before.copy(alloc);
+            }
+            let found = element_in(alloc, &part.element, place, before)?;
             let taken = element_in(alloc, but, place, before)?;
             found.except(alloc, &taken)
         }

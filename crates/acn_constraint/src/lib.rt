@@ -6,11 +6,10 @@ mod answer;
 mod ends;
 mod evaluate;
 mod fault;
+mod letters;
 mod low;
 mod sized;
 mod span;
-mod stand;
-mod written;
 
 pub use answer::{OpenSet, alphabet_of, range_of, size_of};
 pub use fault::ConstraintFault;

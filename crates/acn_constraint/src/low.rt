@@ -6,8 +6,8 @@ ghost use Rattle.acn_names.specs.Mentioned.{seen_meet, seen_part};
 ghost use Rattle.acn_names.specs.Viewed.{world_view};
 ghost use Rattle.acn_constraint.specs.Constraints as spec;
 
-use crate::written::number_in;
 use acn_asn_syntax::{AsnValue, Constraint, Element, Meet, Named, Part, Set};
+use acn_elements::number_in;
 use acn_names::World;
 
 /// Where numbers are read, with the names that stand for numbers.

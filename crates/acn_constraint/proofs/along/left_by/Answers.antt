@@ -1,4 +1,4 @@
-use Rattle.std.proofs.Common.{◌≡◌, ap, ◌∙◌}
+use Rattle.std.proofs.Common.{ap, ◌∙◌}
 use Rattle.acn_asn_syntax.specs.View.{constraint_view}
 use Rattle.acn_names.specs.Viewed.{world_view}
 use Rattle.acn_names.proofs.TypeViews.{view_Set, view_Size, view_Containing}

@@ -1,4 +1,4 @@
-use Rattle.std.proofs.Common.{◌≡◌, sym, ◌∙◌}
+use Rattle.std.proofs.Common.{sym, ◌∙◌}
 use Rattle.acn_constraint.proofs.Steps.{meets_step, parts_step, found, later}
 use Rattle.acn_constraint.proofs.low.+low.Goals as goal
 

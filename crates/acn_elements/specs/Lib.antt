@@ -1,0 +1,3 @@
+pub mod Material
+pub mod Stands
+pub mod Written
