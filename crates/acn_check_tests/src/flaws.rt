@@ -1,0 +1,281 @@
+//! Each fault once: alone, with the fault of the next number in front of it, and twice.
+
+use crate::answers::{Evidence, Trouble, fault_of, told};
+use crate::builders::{boolean, component, no_parts, sequence};
+use crate::grammars::{
+    ended_digits, forward, mixed, no_item, overlap, sized, too_long, too_many_values, unclear,
+    unused,
+};
+use crate::limits::{compared, many_lengths};
+use acn_num::NoMemory;
+use acn_tree::Node;
+use std::alloc::Global;
+
+/// A grammar with one fault.
+#[derive(Clone, Copy, Debug, PartialEq, Eq)]
+enum Flaw {
+    Forward,
+    DetKind,
+    DetWidth,
+    Overlap,
+    AbsentUnclear,
+    Unused,
+    NoItem,
+    MixedChoice,
+    TooLong,
+    TooManyOpen,
+    TooManyConditions,
+    TooManyValues,
+}
+
+// How many slots the grammar has.
+fn slots(flaw: Flaw) -> u32 {
+    match flaw {
+        Flaw::TooLong | Flaw::TooManyValues => 0,
+        Flaw::Overlap => 2,
+        Flaw::TooManyOpen => 257,
+        _ => 1,
+    }
+}
+
+// The grammar with this fault, whose slots have numbers from this one on.
+fn flawed(alloc: Global, flaw: Flaw, slot: u32) -> Result<Node, NoMemory> {
+    match flaw {
+        Flaw::Forward => forward(alloc, slot),
+        Flaw::DetKind => sized(alloc, slot, boolean(alloc)),
+        Flaw::DetWidth => sized(alloc, slot, ended_digits(alloc)),
+        Flaw::Overlap => overlap(alloc, slot),
+        Flaw::AbsentUnclear => unclear(alloc, slot),
+        Flaw::Unused => unused(alloc, slot),
+        Flaw::NoItem => no_item(alloc, slot),
+        Flaw::MixedChoice => mixed(alloc, slot),
+        Flaw::TooLong => too_long(alloc),
+        Flaw::TooManyOpen => many_lengths(alloc, slot, 257),
+        Flaw::TooManyConditions => compared(alloc, slot, 65),
+        Flaw::TooManyValues => too_many_values(alloc),
+    }
+}
+
+const ALONE: [(Flaw, Evidence<'static>); 12] = [
+    (
+        Flaw::Forward,
+        Evidence::Forward {
+            user: &[0],
+            det: &[1],
+        },
+    ),
+    (
+        Flaw::DetKind,
+        Evidence::DetKind {
+            user: &[1],
+            det: &[0],
+        },
+    ),
+    (Flaw::DetWidth, Evidence::DetWidth { det: &[0] }),
+    (
+        Flaw::Overlap,
+        Evidence::Overlap {
+            choice: &[2],
+            first: 0,
+            second: 1,
+            values: &[(0, 1), (1, 2)],
+        },
+    ),
+    (Flaw::AbsentUnclear, Evidence::AbsentUnclear { at: &[1] }),
+    (Flaw::Unused, Evidence::Unused { det: &[0] }),
+    (
+        Flaw::NoItem,
+        Evidence::NoItem {
+            choice: &[1],
+            alternative: 1,
+        },
+    ),
+    (Flaw::MixedChoice, Evidence::MixedChoice { choice: &[1] }),
+    (Flaw::TooLong, Evidence::TooLong { bits: 1_048_576 }),
+    (
+        Flaw::TooManyOpen,
+        Evidence::TooManyOpen {
+            at: &[],
+            count: 257,
+        },
+    ),
+    (
+        Flaw::TooManyConditions,
+        Evidence::TooManyConditions {
+            det: &[0],
+            count: 65,
+        },
+    ),
+    (
+        Flaw::TooManyValues,
+        Evidence::TooManyValues { count: 1_049_601 },
+    ),
+];
+
+#[test]
+fn each_fault_alone(rt: HostRuntime) -> Result<(), Trouble> {
+    let alloc = rt.alloc();
+    for (flaw, expected) in ALONE {
+        let fault = fault_of(alloc, flawed(alloc, flaw, 0))?;
+        assert_eq!(rt; told(&fault), expected);
+    }
+    Ok(())
+}
+
+// `SEQUENCE { x .., y .. }`, with these faults.
+fn both(alloc: Global, x: Flaw, y: Flaw) -> Result<Node, NoMemory> {
+    let fields = no_parts(alloc)
+        .and(component(alloc, b"x", flawed(alloc, x, 0)))
+        .and(component(alloc, b"y", flawed(alloc, y, slots(x))));
+    sequence(alloc, fields, &[])
+}
+
+// The fault of the next number stands in front.
+const NEIGHBOURS: [(Flaw, Flaw, Evidence<'static>); 11] = [
+    (
+        Flaw::DetKind,
+        Flaw::Forward,
+        Evidence::Forward {
+            user: &[1, 0],
+            det: &[1, 1],
+        },
+    ),
+    (
+        Flaw::DetWidth,
+        Flaw::DetKind,
+        Evidence::DetKind {
+            user: &[1, 1],
+            det: &[1, 0],
+        },
+    ),
+    (
+        Flaw::Overlap,
+        Flaw::DetWidth,
+        Evidence::DetWidth { det: &[1, 0] },
+    ),
+    (
+        Flaw::AbsentUnclear,
+        Flaw::Overlap,
+        Evidence::Overlap {
+            choice: &[1, 2],
+            first: 0,
+            second: 1,
+            values: &[(1, 1), (2, 2)],
+        },
+    ),
+    (
+        Flaw::Unused,
+        Flaw::AbsentUnclear,
+        Evidence::AbsentUnclear { at: &[1, 1] },
+    ),
+    (
+        Flaw::NoItem,
+        Flaw::Unused,
+        Evidence::Unused { det: &[1, 0] },
+    ),
+    (
+        Flaw::MixedChoice,
+        Flaw::NoItem,
+        Evidence::NoItem {
+            choice: &[1, 1],
+            alternative: 1,
+        },
+    ),
+    (
+        Flaw::TooLong,
+        Flaw::MixedChoice,
+        Evidence::MixedChoice { choice: &[1, 1] },
+    ),
+    (
+        Flaw::TooManyOpen,
+        Flaw::TooLong,
+        Evidence::TooLong { bits: 1_083_528 },
+    ),
+    (
+        Flaw::TooManyConditions,
+        Flaw::TooManyOpen,
+        Evidence::TooManyOpen {
+            at: &[1],
+            count: 257,
+        },
+    ),
+    (
+        Flaw::TooManyValues,
+        Flaw::TooManyConditions,
+        Evidence::TooManyConditions {
+            det: &[1, 0],
+            count: 65,
+        },
+    ),
+];
+
+#[test]
+fn the_least_number_goes_first(rt: HostRuntime) -> Result<(), Trouble> {
+    let alloc = rt.alloc();
+    for (x, y, expected) in NEIGHBOURS {
+        let fault = fault_of(alloc, both(alloc, x, y))?;
+        assert_eq!(rt; told(&fault), expected);
+    }
+    Ok(())
+}
+
+const TWICE: [(Flaw, Evidence<'static>); 10] = [
+    (
+        Flaw::Forward,
+        Evidence::Forward {
+            user: &[0, 0],
+            det: &[0, 1],
+        },
+    ),
+    (
+        Flaw::DetKind,
+        Evidence::DetKind {
+            user: &[0, 1],
+            det: &[0, 0],
+        },
+    ),
+    (Flaw::DetWidth, Evidence::DetWidth { det: &[0, 0] }),
+    (
+        Flaw::Overlap,
+        Evidence::Overlap {
+            choice: &[0, 2],
+            first: 0,
+            second: 1,
+            values: &[(0, 1), (1, 2)],
+        },
+    ),
+    (Flaw::AbsentUnclear, Evidence::AbsentUnclear { at: &[0, 1] }),
+    (Flaw::Unused, Evidence::Unused { det: &[0, 0] }),
+    (
+        Flaw::NoItem,
+        Evidence::NoItem {
+            choice: &[0, 1],
+            alternative: 1,
+        },
+    ),
+    (Flaw::MixedChoice, Evidence::MixedChoice { choice: &[0, 1] }),
+    (
+        Flaw::TooManyOpen,
+        Evidence::TooManyOpen {
+            at: &[0],
+            count: 257,
+        },
+    ),
+    (
+        Flaw::TooManyConditions,
+        Evidence::TooManyConditions {
+            det: &[0, 0],
+            count: 65,
+        },
+    ),
+];
+
+#[test]
+fn the_first_node_goes_first(rt: HostRuntime) -> Result<(), Trouble> {
+    let alloc = rt.alloc();
+    for (flaw, expected) in TWICE {
+        let fault = fault_of(alloc, both(alloc, flaw, flaw))?;
+        assert_eq!(rt; told(&fault), expected);
+    }
+    Ok(())
+}
