@@ -27,98 +27,59 @@ impl From<NoMemory> for Trouble {
 /// A fault, with its evidence in slices.
 #[derive(Clone, Copy, Debug, PartialEq, Eq)]
 pub enum Evidence<'a> {
-    Forward {
-        user: &'a [u32],
-        det: &'a [u32],
-    },
-    DetKind {
-        user: &'a [u32],
-        det: &'a [u32],
-    },
-    DetWidth {
-        det: &'a [u32],
-    },
-    Overlap {
-        choice: &'a [u32],
-        first: u32,
-        second: u32,
-        values: &'a [(u32, i128)],
-    },
-    AbsentUnclear {
-        at: &'a [u32],
-    },
-    Unused {
-        det: &'a [u32],
-    },
-    NoItem {
-        choice: &'a [u32],
-        alternative: u32,
-    },
-    MixedChoice {
-        choice: &'a [u32],
-    },
-    TooLong {
-        bits: u64,
-    },
-    TooManyOpen {
-        at: &'a [u32],
-        count: u32,
-    },
-    TooManyConditions {
-        det: &'a [u32],
-        count: u32,
-    },
-    TooManyValues {
-        count: u64,
-    },
+    /// The user, and the determinant.
+    Forward(&'a [u32], &'a [u32]),
+    /// The user, and the determinant.
+    DetKind(&'a [u32], &'a [u32]),
+    /// The determinant.
+    DetWidth(&'a [u32]),
+    /// The CHOICE, two of its alternatives, and the numbers of slots.
+    Overlap(&'a [u32], u32, u32, &'a [(u32, i128)]),
+    /// The component.
+    AbsentUnclear(&'a [u32]),
+    /// The determinant.
+    Unused(&'a [u32]),
+    /// The CHOICE, and the alternative.
+    NoItem(&'a [u32], u32),
+    /// The CHOICE.
+    MixedChoice(&'a [u32]),
+    /// The bits.
+    TooLong(u64),
+    /// The node, and the open slots.
+    TooManyOpen(&'a [u32], u32),
+    /// The determinant, and its conditions.
+    TooManyConditions(&'a [u32], u32),
+    /// The values.
+    TooManyValues(u64),
+    /// There was no memory.
     NoMemory,
 }
 
 /// What the fault tells.
 pub fn told(fault: &CheckFault) -> Evidence<'_> {
     match fault {
-        CheckFault::Forward { user, det } => Evidence::Forward {
-            user: user.steps(),
-            det: det.steps(),
-        },
-        CheckFault::DetKind { user, det } => Evidence::DetKind {
-            user: user.steps(),
-            det: det.steps(),
-        },
-        CheckFault::DetWidth { det } => Evidence::DetWidth { det: det.steps() },
+        CheckFault::Forward { user, det } => Evidence::Forward(user.steps(), det.steps()),
+        CheckFault::DetKind { user, det } => Evidence::DetKind(user.steps(), det.steps()),
+        CheckFault::DetWidth { det } => Evidence::DetWidth(det.steps()),
         CheckFault::Overlap {
             choice,
             first,
             second,
             values,
-        } => Evidence::Overlap {
-            choice: choice.steps(),
-            first: *first,
-            second: *second,
-            values: values.items(),
-        },
-        CheckFault::AbsentUnclear { at } => Evidence::AbsentUnclear { at: at.steps() },
-        CheckFault::Unused { det } => Evidence::Unused { det: det.steps() },
+        } => Evidence::Overlap(choice.steps(), *first, *second, values.items()),
+        CheckFault::AbsentUnclear { at } => Evidence::AbsentUnclear(at.steps()),
+        CheckFault::Unused { det } => Evidence::Unused(det.steps()),
         CheckFault::NoItem {
             choice,
             alternative,
-        } => Evidence::NoItem {
-            choice: choice.steps(),
-            alternative: *alternative,
-        },
-        CheckFault::MixedChoice { choice } => Evidence::MixedChoice {
-            choice: choice.steps(),
-        },
-        CheckFault::TooLong { bits } => Evidence::TooLong { bits: *bits },
-        CheckFault::TooManyOpen { at, count } => Evidence::TooManyOpen {
-            at: at.steps(),
-            count: *count,
-        },
-        CheckFault::TooManyConditions { det, count } => Evidence::TooManyConditions {
-            det: det.steps(),
-            count: *count,
-        },
-        CheckFault::TooManyValues { count } => Evidence::TooManyValues { count: *count },
+        } => Evidence::NoItem(choice.steps(), *alternative),
+        CheckFault::MixedChoice { choice } => Evidence::MixedChoice(choice.steps()),
+        CheckFault::TooLong { bits } => Evidence::TooLong(*bits),
+        CheckFault::TooManyOpen { at, count } => Evidence::TooManyOpen(at.steps(), *count),
+        CheckFault::TooManyConditions { det, count } => {
+            Evidence::TooManyConditions(det.steps(), *count)
+        }
+        CheckFault::TooManyValues { count } => Evidence::TooManyValues(*count),
         CheckFault::NoMemory => Evidence::NoMemory,
     }
 }

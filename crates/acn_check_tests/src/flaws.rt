@@ -57,59 +57,24 @@ fn flawed(alloc: Global, flaw: Flaw, slot: u32) -> Result<Node, NoMemory> {
 }
 
 const ALONE: [(Flaw, Evidence<'static>); 12] = [
-    (
-        Flaw::Forward,
-        Evidence::Forward {
-            user: &[0],
-            det: &[1],
-        },
-    ),
-    (
-        Flaw::DetKind,
-        Evidence::DetKind {
-            user: &[1],
-            det: &[0],
-        },
-    ),
-    (Flaw::DetWidth, Evidence::DetWidth { det: &[0] }),
+    (Flaw::Forward, Evidence::Forward(&[0], &[1])),
+    (Flaw::DetKind, Evidence::DetKind(&[1], &[0])),
+    (Flaw::DetWidth, Evidence::DetWidth(&[0])),
     (
         Flaw::Overlap,
-        Evidence::Overlap {
-            choice: &[2],
-            first: 0,
-            second: 1,
-            values: &[(0, 1), (1, 2)],
-        },
+        Evidence::Overlap(&[2], 0, 1, &[(0, 1), (1, 2)]),
     ),
-    (Flaw::AbsentUnclear, Evidence::AbsentUnclear { at: &[1] }),
-    (Flaw::Unused, Evidence::Unused { det: &[0] }),
-    (
-        Flaw::NoItem,
-        Evidence::NoItem {
-            choice: &[1],
-            alternative: 1,
-        },
-    ),
-    (Flaw::MixedChoice, Evidence::MixedChoice { choice: &[1] }),
-    (Flaw::TooLong, Evidence::TooLong { bits: 1_048_576 }),
-    (
-        Flaw::TooManyOpen,
-        Evidence::TooManyOpen {
-            at: &[],
-            count: 257,
-        },
-    ),
+    (Flaw::AbsentUnclear, Evidence::AbsentUnclear(&[1])),
+    (Flaw::Unused, Evidence::Unused(&[0])),
+    (Flaw::NoItem, Evidence::NoItem(&[1], 1)),
+    (Flaw::MixedChoice, Evidence::MixedChoice(&[1])),
+    (Flaw::TooLong, Evidence::TooLong(1_048_576)),
+    (Flaw::TooManyOpen, Evidence::TooManyOpen(&[], 257)),
     (
         Flaw::TooManyConditions,
-        Evidence::TooManyConditions {
-            det: &[0],
-            count: 65,
-        },
+        Evidence::TooManyConditions(&[0], 65),
     ),
-    (
-        Flaw::TooManyValues,
-        Evidence::TooManyValues { count: 1_049_601 },
-    ),
+    (Flaw::TooManyValues, Evidence::TooManyValues(1_049_601)),
 ];
 
 #[test]
@@ -135,77 +100,49 @@ const NEIGHBOURS: [(Flaw, Flaw, Evidence<'static>); 11] = [
     (
         Flaw::DetKind,
         Flaw::Forward,
-        Evidence::Forward {
-            user: &[1, 0],
-            det: &[1, 1],
-        },
+        Evidence::Forward(&[1, 0], &[1, 1]),
     ),
     (
         Flaw::DetWidth,
         Flaw::DetKind,
-        Evidence::DetKind {
-            user: &[1, 1],
-            det: &[1, 0],
-        },
+        Evidence::DetKind(&[1, 1], &[1, 0]),
     ),
-    (
-        Flaw::Overlap,
-        Flaw::DetWidth,
-        Evidence::DetWidth { det: &[1, 0] },
-    ),
+    (Flaw::Overlap, Flaw::DetWidth, Evidence::DetWidth(&[1, 0])),
     (
         Flaw::AbsentUnclear,
         Flaw::Overlap,
-        Evidence::Overlap {
-            choice: &[1, 2],
-            first: 0,
-            second: 1,
-            values: &[(1, 1), (2, 2)],
-        },
+        Evidence::Overlap(&[1, 2], 0, 1, &[(1, 1), (2, 2)]),
     ),
     (
         Flaw::Unused,
         Flaw::AbsentUnclear,
-        Evidence::AbsentUnclear { at: &[1, 1] },
+        Evidence::AbsentUnclear(&[1, 1]),
     ),
-    (
-        Flaw::NoItem,
-        Flaw::Unused,
-        Evidence::Unused { det: &[1, 0] },
-    ),
+    (Flaw::NoItem, Flaw::Unused, Evidence::Unused(&[1, 0])),
     (
         Flaw::MixedChoice,
         Flaw::NoItem,
-        Evidence::NoItem {
-            choice: &[1, 1],
-            alternative: 1,
-        },
+        Evidence::NoItem(&[1, 1], 1),
     ),
     (
         Flaw::TooLong,
         Flaw::MixedChoice,
-        Evidence::MixedChoice { choice: &[1, 1] },
+        Evidence::MixedChoice(&[1, 1]),
     ),
     (
         Flaw::TooManyOpen,
         Flaw::TooLong,
-        Evidence::TooLong { bits: 1_083_528 },
+        Evidence::TooLong(1_083_528),
     ),
     (
         Flaw::TooManyConditions,
         Flaw::TooManyOpen,
-        Evidence::TooManyOpen {
-            at: &[1],
-            count: 257,
-        },
+        Evidence::TooManyOpen(&[1], 257),
     ),
     (
         Flaw::TooManyValues,
         Flaw::TooManyConditions,
-        Evidence::TooManyConditions {
-            det: &[1, 0],
-            count: 65,
-        },
+        Evidence::TooManyConditions(&[1, 0], 65),
     ),
 ];
 
@@ -220,53 +157,21 @@ fn the_least_number_goes_first(rt: HostRuntime) -> Result<(), Trouble> {
 }
 
 const TWICE: [(Flaw, Evidence<'static>); 10] = [
-    (
-        Flaw::Forward,
-        Evidence::Forward {
-            user: &[0, 0],
-            det: &[0, 1],
-        },
-    ),
-    (
-        Flaw::DetKind,
-        Evidence::DetKind {
-            user: &[0, 1],
-            det: &[0, 0],
-        },
-    ),
-    (Flaw::DetWidth, Evidence::DetWidth { det: &[0, 0] }),
+    (Flaw::Forward, Evidence::Forward(&[0, 0], &[0, 1])),
+    (Flaw::DetKind, Evidence::DetKind(&[0, 1], &[0, 0])),
+    (Flaw::DetWidth, Evidence::DetWidth(&[0, 0])),
     (
         Flaw::Overlap,
-        Evidence::Overlap {
-            choice: &[0, 2],
-            first: 0,
-            second: 1,
-            values: &[(0, 1), (1, 2)],
-        },
+        Evidence::Overlap(&[0, 2], 0, 1, &[(0, 1), (1, 2)]),
     ),
-    (Flaw::AbsentUnclear, Evidence::AbsentUnclear { at: &[0, 1] }),
-    (Flaw::Unused, Evidence::Unused { det: &[0, 0] }),
-    (
-        Flaw::NoItem,
-        Evidence::NoItem {
-            choice: &[0, 1],
-            alternative: 1,
-        },
-    ),
-    (Flaw::MixedChoice, Evidence::MixedChoice { choice: &[0, 1] }),
-    (
-        Flaw::TooManyOpen,
-        Evidence::TooManyOpen {
-            at: &[0],
-            count: 257,
-        },
-    ),
+    (Flaw::AbsentUnclear, Evidence::AbsentUnclear(&[0, 1])),
+    (Flaw::Unused, Evidence::Unused(&[0, 0])),
+    (Flaw::NoItem, Evidence::NoItem(&[0, 1], 1)),
+    (Flaw::MixedChoice, Evidence::MixedChoice(&[0, 1])),
+    (Flaw::TooManyOpen, Evidence::TooManyOpen(&[0], 257)),
     (
         Flaw::TooManyConditions,
-        Evidence::TooManyConditions {
-            det: &[0, 0],
-            count: 65,
-        },
+        Evidence::TooManyConditions(&[0, 0], 65),
     ),
 ];
 

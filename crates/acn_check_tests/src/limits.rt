@@ -83,21 +83,9 @@ fn at_most_256_slots_are_open(rt: HostRuntime) -> Result<(), Trouble> {
     assert_eq!(rt; accepted(alloc, nested(alloc, 200, 56)), Ok(()));
     assert_eq!(rt; accepted(alloc, side_by_side(alloc, 256)), Ok(()));
     let wide = fault_of(alloc, many_lengths(alloc, 0, 257))?;
-    assert_eq!(rt;
-        told(&wide),
-        Evidence::TooManyOpen {
-            at: &[],
-            count: 257
-        }
-    );
+    assert_eq!(rt; told(&wide), Evidence::TooManyOpen(&[], 257));
     let deep = fault_of(alloc, nested(alloc, 200, 57))?;
-    assert_eq!(rt;
-        told(&deep),
-        Evidence::TooManyOpen {
-            at: &[400],
-            count: 257
-        }
-    );
+    assert_eq!(rt; told(&deep), Evidence::TooManyOpen(&[400], 257));
     Ok(())
 }
 
@@ -126,21 +114,9 @@ fn at_most_64_conditions_compare_a_slot(rt: HostRuntime) -> Result<(), Trouble> 
     assert_eq!(rt; accepted(alloc, compared_in_two(alloc, 40, 24)), Ok(()));
     assert_eq!(rt; accepted(alloc, flagged(alloc, 65)), Ok(()));
     let one = fault_of(alloc, compared(alloc, 0, 65))?;
-    assert_eq!(rt;
-        told(&one),
-        Evidence::TooManyConditions {
-            det: &[0],
-            count: 65
-        }
-    );
+    assert_eq!(rt; told(&one), Evidence::TooManyConditions(&[0], 65));
     let two = fault_of(alloc, compared_in_two(alloc, 40, 60))?;
-    assert_eq!(rt;
-        told(&two),
-        Evidence::TooManyConditions {
-            det: &[0],
-            count: 100
-        }
-    );
+    assert_eq!(rt; told(&two), Evidence::TooManyConditions(&[0], 100));
     Ok(())
 }
 
@@ -169,14 +145,9 @@ fn a_packet_has_at_most_524336_bits(rt: HostRuntime) -> Result<(), Trouble> {
     );
     let longer = longest(alloc).and(component(alloc, b"c", boolean(alloc)));
     let fault = fault_of(alloc, sequence(alloc, longer, &[]))?;
-    assert_eq!(rt; told(&fault), Evidence::TooLong { bits: 524_337 });
+    assert_eq!(rt; told(&fault), Evidence::TooLong(524_337));
     let held = fault_of(alloc, endless(alloc, octet(alloc)))?;
-    assert_eq!(rt;
-        told(&held),
-        Evidence::TooLong {
-            bits: 1_099_511_627_776
-        }
-    );
+    assert_eq!(rt; told(&held), Evidence::TooLong(1_099_511_627_776));
     Ok(())
 }
 
@@ -188,13 +159,8 @@ fn a_packet_has_at_most_1048576_values(rt: HostRuntime) -> Result<(), Trouble> {
         Ok(())
     );
     let fault = fault_of(alloc, list(alloc, 1024, list(alloc, 1023, null(alloc))))?;
-    assert_eq!(rt; told(&fault), Evidence::TooManyValues { count: 1_048_577 });
+    assert_eq!(rt; told(&fault), Evidence::TooManyValues(1_048_577));
     let held = fault_of(alloc, endless(alloc, null(alloc)))?;
-    assert_eq!(rt;
-        told(&held),
-        Evidence::TooManyValues {
-            count: 1_099_511_627_776
-        }
-    );
+    assert_eq!(rt; told(&held), Evidence::TooManyValues(1_099_511_627_776));
     Ok(())
 }

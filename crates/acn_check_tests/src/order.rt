@@ -42,29 +42,11 @@ fn determinant_behind(alloc: Global) -> Result<Node, NoMemory> {
 fn the_first_use_goes_first(rt: HostRuntime) -> Result<(), Trouble> {
     let alloc = rt.alloc();
     let uses = fault_of(alloc, two_uses_behind(alloc))?;
-    assert_eq!(rt;
-        told(&uses),
-        Evidence::Forward {
-            user: &[0],
-            det: &[2]
-        }
-    );
+    assert_eq!(rt; told(&uses), Evidence::Forward(&[0], &[2]));
     let conditions = fault_of(alloc, two_conditions_behind(alloc))?;
-    assert_eq!(rt;
-        told(&conditions),
-        Evidence::Forward {
-            user: &[0],
-            det: &[2]
-        }
-    );
+    assert_eq!(rt; told(&conditions), Evidence::Forward(&[0], &[2]));
     let item = fault_of(alloc, determinant_behind(alloc))?;
-    assert_eq!(rt;
-        told(&item),
-        Evidence::Forward {
-            user: &[1],
-            det: &[2]
-        }
-    );
+    assert_eq!(rt; told(&item), Evidence::Forward(&[1], &[2]));
     Ok(())
 }
 
@@ -98,17 +80,8 @@ fn chosen_by(alloc: Global, kind: Result<Node, NoMemory>) -> Result<Node, NoMemo
 fn each_use_asks_for_a_kind(rt: HostRuntime) -> Result<(), Trouble> {
     let alloc = rt.alloc();
     let first = fault_of(alloc, two_uses_of_other_kinds(alloc))?;
-    assert_eq!(rt;
-        told(&first),
-        Evidence::DetKind {
-            user: &[2],
-            det: &[1]
-        }
-    );
-    let expected = Evidence::DetKind {
-        user: &[1],
-        det: &[0],
-    };
+    assert_eq!(rt; told(&first), Evidence::DetKind(&[2], &[1]));
+    let expected = Evidence::DetKind(&[1], &[0]);
     let flag = fault_of(alloc, compared_with(alloc, octet(alloc), Test::Flag(0)))?;
     assert_eq!(rt; told(&flag), expected);
     let number = fault_of(
@@ -153,14 +126,8 @@ fn two_without_item(alloc: Global) -> Result<Node, NoMemory> {
 fn alternatives_have_items_or_conditions(rt: HostRuntime) -> Result<(), Trouble> {
     let alloc = rt.alloc();
     let both = fault_of(alloc, conditions_beside_a_determinant(alloc))?;
-    assert_eq!(rt; told(&both), Evidence::MixedChoice { choice: &[2] });
+    assert_eq!(rt; told(&both), Evidence::MixedChoice(&[2]));
     let first = fault_of(alloc, two_without_item(alloc))?;
-    assert_eq!(rt;
-        told(&first),
-        Evidence::NoItem {
-            choice: &[1],
-            alternative: 1
-        }
-    );
+    assert_eq!(rt; told(&first), Evidence::NoItem(&[1], 1));
     Ok(())
 }

@@ -62,135 +62,67 @@ fn chosen(alloc: Global, conditions: &[&[Test]]) -> Result<Node, NoMemory> {
     sequence(alloc, fields, &[T, U, V, F, G])
 }
 
+const T_MINUS_1: Test = Test::Equals(T, -1);
+
+const T_0: Test = Test::Equals(T, 0);
+
+const T_1: Test = Test::Equals(T, 1);
+
+const T_10: Test = Test::Equals(T, 10);
+
+const T_2: Test = Test::Equals(T, 2);
+
+const T_3: Test = Test::Equals(T, 3);
+
+const T_4: Test = Test::Equals(T, 4);
+
+const T_9: Test = Test::Equals(T, 9);
+
+const U_0: Test = Test::Equals(U, 0);
+
+const U_1: Test = Test::Equals(U, 1);
+
+const U_2: Test = Test::Equals(U, 2);
+
+const U_256: Test = Test::Equals(U, 256);
+
+const U_7: Test = Test::Equals(U, 7);
+
+const V_255: Test = Test::Equals(V, 255);
+
+const V_3: Test = Test::Equals(V, 3);
+
+const V_4: Test = Test::Equals(V, 4);
+
+const F_SET: Test = Test::Flag(F);
+
+const G_SET: Test = Test::Flag(G);
+
 /// Conditions of alternatives, the first two that hold together, and the numbers under which they do.
 type Meeting = (&'static [&'static [Test]], u32, u32, &'static [(u32, i128)]);
 
 const TOGETHER: [Meeting; 16] = [
     // The ends of a set, and the numbers beside its hole.
-    (
-        &[&[Test::Equals(T, 0)], &[Test::Equals(T, 0)]],
-        0,
-        1,
-        &[(T, 0)],
-    ),
-    (
-        &[&[Test::Equals(T, 2)], &[Test::Equals(T, 2)]],
-        0,
-        1,
-        &[(T, 2)],
-    ),
-    (
-        &[&[Test::Equals(T, 4)], &[Test::Equals(T, 4)]],
-        0,
-        1,
-        &[(T, 4)],
-    ),
-    (
-        &[&[Test::Equals(T, 9)], &[Test::Equals(T, 9)]],
-        0,
-        1,
-        &[(T, 9)],
-    ),
+    (&[&[T_0], &[T_0]], 0, 1, &[(T, 0)]),
+    (&[&[T_2], &[T_2]], 0, 1, &[(T, 2)]),
+    (&[&[T_4], &[T_4]], 0, 1, &[(T, 4)]),
+    (&[&[T_9], &[T_9]], 0, 1, &[(T, 9)]),
     // Two and three slots, in ascending order.
-    (
-        &[&[Test::Equals(U, 2)], &[Test::Equals(T, 1)]],
-        0,
-        1,
-        &[(T, 1), (U, 2)],
-    ),
-    (
-        &[
-            &[Test::Equals(T, 1)],
-            &[Test::Equals(T, 1), Test::Equals(U, 2)],
-        ],
-        0,
-        1,
-        &[(T, 1), (U, 2)],
-    ),
-    (
-        &[
-            &[Test::Equals(V, 3), Test::Equals(T, 1)],
-            &[Test::Equals(U, 2), Test::Equals(V, 3)],
-        ],
-        0,
-        1,
-        &[(T, 1), (U, 2), (V, 3)],
-    ),
-    (
-        &[
-            &[Test::Equals(V, 255)],
-            &[Test::Equals(U, 0), Test::Equals(T, 9)],
-        ],
-        0,
-        1,
-        &[(T, 9), (U, 0), (V, 255)],
-    ),
+    (&[&[U_2], &[T_1]], 0, 1, &[(T, 1), (U, 2)]),
+    (&[&[T_1], &[T_1, U_2]], 0, 1, &[(T, 1), (U, 2)]),
+    (&[&[V_3, T_1], &[U_2, V_3]], 0, 1, &[(T, 1), (U, 2), (V, 3)]),
+    (&[&[V_255], &[U_0, T_9]], 0, 1, &[(T, 9), (U, 0), (V, 255)]),
     // Each slot once.
-    (
-        &[
-            &[Test::Equals(T, 1), Test::Equals(T, 1)],
-            &[Test::Equals(T, 1)],
-        ],
-        0,
-        1,
-        &[(T, 1)],
-    ),
+    (&[&[T_1, T_1], &[T_1]], 0, 1, &[(T, 1)]),
     // Flags ask for 1.
-    (&[&[Test::Flag(F)], &[Test::Flag(F)]], 0, 1, &[(F, 1)]),
-    (
-        &[&[Test::Flag(G)], &[Test::Flag(F)]],
-        0,
-        1,
-        &[(F, 1), (G, 1)],
-    ),
-    (
-        &[&[Test::Flag(F), Test::Equals(U, 7)], &[Test::Equals(T, 0)]],
-        0,
-        1,
-        &[(T, 0), (U, 7), (F, 1)],
-    ),
+    (&[&[F_SET], &[F_SET]], 0, 1, &[(F, 1)]),
+    (&[&[G_SET], &[F_SET]], 0, 1, &[(F, 1), (G, 1)]),
+    (&[&[F_SET, U_7], &[T_0]], 0, 1, &[(T, 0), (U, 7), (F, 1)]),
     // The least first, and then the least second.
-    (
-        &[
-            &[Test::Equals(T, 1)],
-            &[Test::Equals(T, 2)],
-            &[Test::Equals(T, 1)],
-        ],
-        0,
-        2,
-        &[(T, 1)],
-    ),
-    (
-        &[
-            &[Test::Equals(T, 1)],
-            &[Test::Equals(T, 2)],
-            &[Test::Equals(T, 2)],
-        ],
-        1,
-        2,
-        &[(T, 2)],
-    ),
-    (
-        &[
-            &[Test::Equals(T, 1)],
-            &[Test::Equals(T, 2)],
-            &[Test::Equals(T, 2)],
-            &[Test::Equals(T, 1)],
-        ],
-        0,
-        3,
-        &[(T, 1)],
-    ),
-    (
-        &[
-            &[Test::Equals(U, 1)],
-            &[Test::Equals(U, 1)],
-            &[Test::Equals(U, 1)],
-        ],
-        0,
-        1,
-        &[(U, 1)],
-    ),
+    (&[&[T_1], &[T_2], &[T_1]], 0, 2, &[(T, 1)]),
+    (&[&[T_1], &[T_2], &[T_2]], 1, 2, &[(T, 2)]),
+    (&[&[T_1], &[T_2], &[T_2], &[T_1]], 0, 3, &[(T, 1)]),
+    (&[&[U_1], &[U_1], &[U_1]], 0, 1, &[(U, 1)]),
 ];
 
 #[test]
@@ -198,44 +130,27 @@ fn conditions_that_hold_together_overlap(rt: HostRuntime) -> Result<(), Trouble>
     let alloc = rt.alloc();
     for (conditions, first, second, values) in TOGETHER {
         let fault = fault_of(alloc, chosen(alloc, conditions))?;
-        let expected = Evidence::Overlap {
-            choice: &[10],
-            first,
-            second,
-            values,
-        };
+        let expected = Evidence::Overlap(&[10], first, second, values);
         assert_eq!(rt; told(&fault), expected);
     }
     Ok(())
 }
 
 const APART: [&[&[Test]]; 11] = [
-    &[&[Test::Equals(T, 1)], &[Test::Equals(T, 2)]],
+    &[&[T_1], &[T_2]],
     // No permitted numbers: below, in the hole, above.
-    &[&[Test::Equals(T, -1)], &[Test::Equals(T, -1)]],
-    &[&[Test::Equals(T, 3)], &[Test::Equals(T, 3)]],
-    &[&[Test::Equals(T, 10)], &[Test::Equals(T, 10)]],
-    &[&[Test::Equals(T, 1)], &[Test::Equals(U, 256)]],
+    &[&[T_MINUS_1], &[T_MINUS_1]],
+    &[&[T_3], &[T_3]],
+    &[&[T_10], &[T_10]],
+    &[&[T_1], &[U_256]],
     // A slot that is asked for two numbers.
-    &[
-        &[Test::Equals(T, 1), Test::Equals(T, 2)],
-        &[Test::Equals(T, 1)],
-    ],
-    &[
-        &[Test::Equals(T, 1), Test::Equals(T, 2)],
-        &[Test::Equals(U, 1)],
-    ],
-    &[
-        &[Test::Equals(T, 1), Test::Equals(U, 2), Test::Equals(V, 3)],
-        &[Test::Equals(V, 4)],
-    ],
-    &[
-        &[Test::Flag(F), Test::Equals(T, 1)],
-        &[Test::Flag(G), Test::Equals(T, 2)],
-    ],
-    &[&[Test::Flag(F), Test::Equals(T, 3)], &[Test::Flag(F)]],
+    &[&[T_1, T_2], &[T_1]],
+    &[&[T_1, T_2], &[U_1]],
+    &[&[T_1, U_2, V_3], &[V_4]],
+    &[&[F_SET, T_1], &[G_SET, T_2]],
+    &[&[F_SET, T_3], &[F_SET]],
     // One alternative alone.
-    &[&[Test::Equals(T, 1)]],
+    &[&[T_1]],
 ];
 
 #[test]

@@ -1,5 +1,8 @@
 //! Determinants whose codes have one width of at most 64 bits, and others.
 
+ghost use Rattle.std.specs.Prelude.{◌≤ℤ◌};
+ghost use Rattle.acn_num.specs.Ranges.{bottom, top};
+
 use crate::answers::{Evidence, Trouble, accepted, fault_of, told};
 use crate::builders::{except, integer, mapped};
 use crate::grammars::sized;
@@ -23,12 +26,24 @@ fn ascii(bits: u32) -> NumCoding {
 }
 
 // Whether a size can stand in this leaf: otherwise it has no width.
-fn has_width(alloc: Global, leaf: Result<Node, NoMemory>) -> Result<bool, Trouble> {
+fn leaf_has_width(alloc: Global, leaf: Result<Node, NoMemory>) -> Result<bool, Trouble> {
     match accepted(alloc, sized(alloc, 0, leaf)) {
         Ok(()) => Ok(true),
         Err(Trouble::Refused) => Ok(false),
         Err(other) => Err(other),
     }
+}
+
+// Whether a size can stand in `INTEGER (low..high)` in this coding.
+fn has_width(alloc: Global, low: i128, high: i128, coding: NumCoding) -> Result<bool, Trouble>
+    requires order { low ≤ℤ high }
+    requires above { bottom ≤ℤ low }
+    requires below { high ≤ℤ top }
+{
+    leaf_has_width(
+        alloc,
+        integer(alloc, RangeSet::one(alloc, low, high), coding),
+    )
 }
 
 // The numbers from -99 to 99 that have two digits.
@@ -45,77 +60,26 @@ fn ended_digits_have_a_width_where_all_numbers_have_as_many(
     rt: HostRuntime,
 ) -> Result<(), Trouble> {
     let alloc = rt.alloc();
-    assert!(rt;
-        has_width(
-            alloc,
-            integer(alloc, RangeSet::one(alloc, 10, 99), NumCoding::BcdEnded)
-        )?
-    );
-    assert!(rt;
-        !has_width(
-            alloc,
-            integer(alloc, RangeSet::one(alloc, 9, 99), NumCoding::BcdEnded)
-        )?
-    );
-    assert!(rt;
-        !has_width(
-            alloc,
-            integer(alloc, RangeSet::one(alloc, 10, 100), NumCoding::BcdEnded)
-        )?
-    );
-    assert!(rt;
-        has_width(
-            alloc,
-            integer(alloc, RangeSet::one(alloc, 100, 999), ended(false))
-        )?
-    );
-    assert!(rt;
-        !has_width(
-            alloc,
-            integer(alloc, RangeSet::one(alloc, 99, 999), ended(false))
-        )?
-    );
-    assert!(rt;
-        has_width(
-            alloc,
-            integer(alloc, RangeSet::one(alloc, -9, 9), ended(true))
-        )?
-    );
-    assert!(rt;
-        !has_width(
-            alloc,
-            integer(alloc, RangeSet::one(alloc, -10, 9), ended(true))
-        )?
-    );
-    assert!(rt; has_width(alloc, integer(alloc, two_digits(alloc), ended(true)))?);
+    assert!(rt; has_width(alloc, 10, 99, NumCoding::BcdEnded)?);
+    assert!(rt; !has_width(alloc, 9, 99, NumCoding::BcdEnded)?);
+    assert!(rt; !has_width(alloc, 10, 100, NumCoding::BcdEnded)?);
+    assert!(rt; has_width(alloc, 100, 999, ended(false))?);
+    assert!(rt; !has_width(alloc, 99, 999, ended(false))?);
+    assert!(rt; has_width(alloc, -9, 9, ended(true))?);
+    assert!(rt; !has_width(alloc, -10, 9, ended(true))?);
+    assert!(rt; leaf_has_width(alloc, integer(alloc, two_digits(alloc), ended(true)))?);
     Ok(())
 }
 
 #[test]
 fn a_table_gives_the_numbers_whose_digits_count(rt: HostRuntime) -> Result<(), Trouble> {
     let alloc = rt.alloc();
-    assert!(rt;
-        has_width(
-            alloc,
-            mapped(
-                alloc,
-                RangeSet::one(alloc, 0, 16),
-                NumCoding::BcdEnded,
-                (0, 16, 10)
-            )
-        )?
-    );
-    assert!(rt;
-        !has_width(
-            alloc,
-            mapped(
-                alloc,
-                RangeSet::one(alloc, 10, 16),
-                NumCoding::BcdEnded,
-                (10, 16, 5)
-            )
-        )?
-    );
+    let sixteen = RangeSet::one(alloc, 0, 16);
+    let two = mapped(alloc, sixteen, NumCoding::BcdEnded, (0, 16, 10));
+    assert!(rt; leaf_has_width(alloc, two)?);
+    let seven = RangeSet::one(alloc, 10, 16);
+    let one_or_two = mapped(alloc, seven, NumCoding::BcdEnded, (10, 16, 5));
+    assert!(rt; !leaf_has_width(alloc, one_or_two)?);
     Ok(())
 }
 
@@ -124,66 +88,12 @@ fn counted_numbers_have_a_width_where_all_have_as_many_octets(
     rt: HostRuntime,
 ) -> Result<(), Trouble> {
     let alloc = rt.alloc();
-    assert!(rt;
-        has_width(
-            alloc,
-            integer(
-                alloc,
-                RangeSet::one(alloc, 0, 255),
-                NumCoding::CountedFrom { low: 0 }
-            )
-        )?
-    );
-    assert!(rt;
-        !has_width(
-            alloc,
-            integer(
-                alloc,
-                RangeSet::one(alloc, 0, 256),
-                NumCoding::CountedFrom { low: 0 }
-            )
-        )?
-    );
-    assert!(rt;
-        has_width(
-            alloc,
-            integer(
-                alloc,
-                RangeSet::one(alloc, 5, 260),
-                NumCoding::CountedFrom { low: 5 }
-            )
-        )?
-    );
-    assert!(rt;
-        !has_width(
-            alloc,
-            integer(
-                alloc,
-                RangeSet::one(alloc, 5, 261),
-                NumCoding::CountedFrom { low: 5 }
-            )
-        )?
-    );
-    assert!(rt;
-        has_width(
-            alloc,
-            integer(
-                alloc,
-                RangeSet::one(alloc, -128, 127),
-                NumCoding::CountedSigned
-            )
-        )?
-    );
-    assert!(rt;
-        !has_width(
-            alloc,
-            integer(
-                alloc,
-                RangeSet::one(alloc, -128, 128),
-                NumCoding::CountedSigned
-            )
-        )?
-    );
+    assert!(rt; has_width(alloc, 0, 255, NumCoding::CountedFrom { low: 0 })?);
+    assert!(rt; !has_width(alloc, 0, 256, NumCoding::CountedFrom { low: 0 })?);
+    assert!(rt; has_width(alloc, 5, 260, NumCoding::CountedFrom { low: 5 })?);
+    assert!(rt; !has_width(alloc, 5, 261, NumCoding::CountedFrom { low: 5 })?);
+    assert!(rt; has_width(alloc, -128, 127, NumCoding::CountedSigned)?);
+    assert!(rt; !has_width(alloc, -128, 128, NumCoding::CountedSigned)?);
     Ok(())
 }
 
@@ -191,60 +101,13 @@ fn counted_numbers_have_a_width_where_all_have_as_many_octets(
 fn a_width_has_at_most_64_bits(rt: HostRuntime) -> Result<(), Trouble> {
     let alloc = rt.alloc();
     let greatest = 18_446_744_073_709_551_615;
-    assert!(rt;
-        has_width(
-            alloc,
-            integer(
-                alloc,
-                RangeSet::one(alloc, 0, greatest),
-                NumCoding::PosInt(64)
-            )
-        )?
-    );
-    assert!(rt;
-        has_width(
-            alloc,
-            integer(alloc, RangeSet::one(alloc, 0, 16), NumCoding::Bcd(64))
-        )?
-    );
-    assert!(rt;
-        !has_width(
-            alloc,
-            integer(alloc, RangeSet::one(alloc, 0, 16), NumCoding::Bcd(68))
-        )?
-    );
-    assert!(rt;
-        has_width(
-            alloc,
-            integer(alloc, RangeSet::one(alloc, 0, 16), ascii(64))
-        )?
-    );
-    assert!(rt;
-        !has_width(
-            alloc,
-            integer(alloc, RangeSet::one(alloc, 0, 16), ascii(72))
-        )?
-    );
-    assert!(rt;
-        has_width(
-            alloc,
-            integer(
-                alloc,
-                RangeSet::one(alloc, 1_000_000, 9_999_999),
-                ended(false)
-            )
-        )?
-    );
-    assert!(rt;
-        !has_width(
-            alloc,
-            integer(
-                alloc,
-                RangeSet::one(alloc, 10_000_000, 99_999_999),
-                ended(false)
-            )
-        )?
-    );
+    assert!(rt; has_width(alloc, 0, greatest, NumCoding::PosInt(64))?);
+    assert!(rt; has_width(alloc, 0, 16, NumCoding::Bcd(64))?);
+    assert!(rt; !has_width(alloc, 0, 16, NumCoding::Bcd(68))?);
+    assert!(rt; has_width(alloc, 0, 16, ascii(64))?);
+    assert!(rt; !has_width(alloc, 0, 16, ascii(72))?);
+    assert!(rt; has_width(alloc, 1_000_000, 9_999_999, ended(false))?);
+    assert!(rt; !has_width(alloc, 10_000_000, 99_999_999, ended(false))?);
     Ok(())
 }
 
@@ -253,6 +116,6 @@ fn a_field_without_a_width_is_told(rt: HostRuntime) -> Result<(), Trouble> {
     let alloc = rt.alloc();
     let digits = integer(alloc, RangeSet::one(alloc, 9, 99), NumCoding::BcdEnded);
     let fault = fault_of(alloc, sized(alloc, 0, digits))?;
-    assert_eq!(rt; told(&fault), Evidence::DetWidth { det: &[0] });
+    assert_eq!(rt; told(&fault), Evidence::DetWidth(&[0]));
     Ok(())
 }

@@ -43,17 +43,11 @@ fn a_length_stands_before_its_octets_and_has_a_use(rt: HostRuntime) -> Result<()
     assert_eq!(rt; accepted(alloc, sized(alloc, 0, octet(alloc))), Ok(()));
     assert_eq!(rt; accepted(alloc, two_sized(alloc)), Ok(()));
     let behind = fault_of(alloc, forward(alloc, 0))?;
-    assert_eq!(rt;
-        told(&behind),
-        Evidence::Forward {
-            user: &[0],
-            det: &[1]
-        }
-    );
+    assert_eq!(rt; told(&behind), Evidence::Forward(&[0], &[1]));
     let unused = fault_of(alloc, not_sized(alloc))?;
-    assert_eq!(rt; told(&unused), Evidence::Unused { det: &[0] });
+    assert_eq!(rt; told(&unused), Evidence::Unused(&[0]));
     let wide = fault_of(alloc, sized(alloc, 0, ten_characters(alloc)))?;
-    assert_eq!(rt; told(&wide), Evidence::DetWidth { det: &[0] });
+    assert_eq!(rt; told(&wide), Evidence::DetWidth(&[0]));
     Ok(())
 }
 
@@ -115,17 +109,12 @@ fn conditions_choose_one_alternative(rt: HostRuntime) -> Result<(), Trouble> {
     );
     assert_eq!(rt; accepted(alloc, one_at_a_time(alloc, octet(alloc))), Ok(()));
     let both = fault_of(alloc, both_together(alloc))?;
-    let expected = Evidence::Overlap {
-        choice: &[2],
-        first: 0,
-        second: 1,
-        values: &[(0, 1), (1, 2)],
-    };
+    let expected = Evidence::Overlap(&[2], 0, 1, &[(0, 1), (1, 2)]);
     assert_eq!(rt; told(&both), expected);
     let ended = fault_of(alloc, one_at_a_time(alloc, ended_digits(alloc)))?;
-    assert_eq!(rt; told(&ended), Evidence::DetWidth { det: &[0] });
+    assert_eq!(rt; told(&ended), Evidence::DetWidth(&[0]));
     let mixed = fault_of(alloc, mixed(alloc, 0))?;
-    assert_eq!(rt; told(&mixed), Evidence::MixedChoice { choice: &[1] });
+    assert_eq!(rt; told(&mixed), Evidence::MixedChoice(&[1]));
     Ok(())
 }
 
@@ -142,13 +131,7 @@ fn an_item_chooses_the_alternative_of_its_name(rt: HostRuntime) -> Result<(), Tr
         Ok(())
     );
     let fault = fault_of(alloc, by_kind(alloc, one_of_two(alloc, b'p', b'r')))?;
-    assert_eq!(rt;
-        told(&fault),
-        Evidence::NoItem {
-            choice: &[1],
-            alternative: 1
-        }
-    );
+    assert_eq!(rt; told(&fault), Evidence::NoItem(&[1], 1));
     Ok(())
 }
 
@@ -156,8 +139,8 @@ fn an_item_chooses_the_alternative_of_its_name(rt: HostRuntime) -> Result<(), Tr
 fn packets_have_few_bits_and_values(rt: HostRuntime) -> Result<(), Trouble> {
     let alloc = rt.alloc();
     let long = fault_of(alloc, too_long(alloc))?;
-    assert_eq!(rt; told(&long), Evidence::TooLong { bits: 1_048_576 });
+    assert_eq!(rt; told(&long), Evidence::TooLong(1_048_576));
     let many = fault_of(alloc, too_many_values(alloc))?;
-    assert_eq!(rt; told(&many), Evidence::TooManyValues { count: 1_049_601 });
+    assert_eq!(rt; told(&many), Evidence::TooManyValues(1_049_601));
     Ok(())
 }
