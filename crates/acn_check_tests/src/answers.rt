@@ -2,18 +2,18 @@
 
 use acn_check::check;
 use acn_num::{Name, NoMemory};
-use acn_tree::{CheckFault, Node, Tree};
+use acn_tree::{CheckFault, Node, Tree, value_count};
 use std::alloc::Global;
 
-/// Why there is no answer of the expected kind.
+/// Why the answer isn't the expected one.
 #[derive(Clone, Copy, Debug, PartialEq, Eq)]
 pub enum Trouble {
     /// The grammar isn't well formed.
     NoTree,
     /// The tree was accepted.
     Accepted,
-    /// The tree was refused.
-    Refused,
+    /// The tree was refused, with the fault of this number.
+    Refused(u32),
     /// There was no memory.
     NoMemory,
 }
@@ -55,8 +55,8 @@ pub enum Evidence<'a> {
     NoMemory,
 }
 
-/// What the fault tells.
-pub fn told(fault: &CheckFault) -> Evidence<'_> {
+// What the fault tells.
+fn told(fault: &CheckFault) -> Evidence<'_> {
     match fault {
         CheckFault::Forward { user, det } => Evidence::Forward(user.steps(), det.steps()),
         CheckFault::DetKind { user, det } => Evidence::DetKind(user.steps(), det.steps()),
@@ -85,7 +85,7 @@ pub fn told(fault: &CheckFault) -> Evidence<'_> {
 }
 
 /// The tree of this root, named `T`.
-pub fn formed(alloc: Global, root: Result<Node, NoMemory>) -> Result<Tree, Trouble> {
+fn formed(alloc: Global, root: Result<Node, NoMemory>) -> Result<Tree, Trouble> {
     let root = root?;
     match Tree::form(Name::copy(alloc, b"T")?, root) {
         Ok(tree) => Ok(tree),
@@ -93,19 +93,77 @@ pub fn formed(alloc: Global, root: Result<Node, NoMemory>) -> Result<Tree, Troub
     }
 }
 
-/// The fault of the tree of this root.
-pub fn fault_of(alloc: Global, root: Result<Node, NoMemory>) -> Result<CheckFault, Trouble> {
-    match check(alloc, formed(alloc, root)?) {
+// The number of the fault in the order of the faults, and 0 where there was no memory.
+fn number_of(fault: &CheckFault) -> u32 {
+    match fault {
+        CheckFault::Forward { .. } => 1,
+        CheckFault::DetKind { .. } => 2,
+        CheckFault::DetWidth { .. } => 3,
+        CheckFault::Overlap { .. } => 4,
+        CheckFault::AbsentUnclear { .. } => 5,
+        CheckFault::Unused { .. } => 6,
+        CheckFault::NoItem { .. } => 7,
+        CheckFault::MixedChoice { .. } => 8,
+        CheckFault::TooLong { .. } => 9,
+        CheckFault::TooManyOpen { .. } => 10,
+        CheckFault::TooManyConditions { .. } => 11,
+        CheckFault::TooManyValues { .. } => 12,
+        CheckFault::NoMemory => 0,
+    }
+}
+
+// Whether the fault has this evidence.
+fn is_told(fault: &CheckFault, expected: Evidence<'_>) -> bool {
+    told(fault) == expected
+}
+
+// Tells that the tree is refused with this evidence.
+fn tree_refused(alloc: Global, tree: Tree, expected: Evidence<'_>) -> Result<Tree, Trouble> {
+    match check(alloc, tree) {
         Ok(_) => Err(Trouble::Accepted),
-        Err((_, fault)) => Ok(fault),
+        Err((tree, fault)) => {
+            if is_told(&fault, expected) {
+                Ok(tree)
+            } else {
+                Err(Trouble::Refused(number_of(&fault)))
+            }
+        }
+    }
+}
+
+/// Tells that the tree of this root is refused with this evidence.
+pub fn refused(
+    alloc: Global,
+    root: Result<Node, NoMemory>,
+    expected: Evidence<'_>,
+) -> Result<(), Trouble> {
+    let tree = formed(alloc, root)?;
+    let _back = tree_refused(alloc, tree, expected)?;
+    Ok(())
+}
+
+/// Tells that the tree is handed back, and is refused with this evidence again.
+pub fn refused_twice(
+    alloc: Global,
+    root: Result<Node, NoMemory>,
+    expected: Evidence<'_>,
+) -> Result<(), Trouble> {
+    let tree = formed(alloc, root)?;
+    let back = tree_refused(alloc, tree, expected)?;
+    let _again = tree_refused(alloc, back, expected)?;
+    Ok(())
+}
+
+/// The greatest number of values of the tree of this root, which is accepted.
+pub fn accepted_values(alloc: Global, root: Result<Node, NoMemory>) -> Result<u64, Trouble> {
+    match check(alloc, formed(alloc, root)?) {
+        Ok(checked) => Ok(value_count(checked.tree())),
+        Err((_, fault)) => Err(Trouble::Refused(number_of(&fault))),
     }
 }
 
 /// Tells that the tree of this root is accepted.
 pub fn accepted(alloc: Global, root: Result<Node, NoMemory>) -> Result<(), Trouble> {
-    match check(alloc, formed(alloc, root)?) {
-        Ok(_) => Ok(()),
-        Err((_, CheckFault::NoMemory)) => Err(Trouble::NoMemory),
-        Err(_) => Err(Trouble::Refused),
-    }
+    let _values = accepted_values(alloc, root)?;
+    Ok(())
 }

@@ -1,6 +1,6 @@
 //! Each limit at its number and one past it.
 
-use crate::answers::{Evidence, Trouble, accepted, fault_of, told};
+use crate::answers::{Evidence, accepted, refused};
 use crate::builders::{
     Parts, boolean, component, inserted, list, no_parts, null, octet, octets, octets_by, sequence,
     when,
@@ -63,9 +63,10 @@ pub fn compared(alloc: Global, slot: u32, count: u32) -> Result<Node, NoMemory> 
 
 // `SEQUENCE { .., inner SEQUENCE { .. } }`, with so many slots at home in each.
 fn nested(alloc: Global, outer: u32, inner: u32) -> Result<Node, NoMemory> {
+    let home = numbers(alloc, 0, outer)?;
     let inside = many_lengths(alloc, outer, inner);
     let fields = lengths(alloc, 0, outer).and(component(alloc, b"inner", inside));
-    sequence(alloc, fields, &numbers(alloc, 0, outer)?)
+    sequence(alloc, fields, &home)
 }
 
 // `SEQUENCE { x SEQUENCE { .. }, y SEQUENCE { .. } }`, with so many slots at home in both.
@@ -77,16 +78,15 @@ fn side_by_side(alloc: Global, count: u32) -> Result<Node, NoMemory> {
 }
 
 #[test]
-fn at_most_256_slots_are_open(rt: HostRuntime) -> Result<(), Trouble> {
+fn at_most_256_slots_are_open(rt: HostRuntime) {
     let alloc = rt.alloc();
     assert_eq!(rt; accepted(alloc, many_lengths(alloc, 0, 256)), Ok(()));
     assert_eq!(rt; accepted(alloc, nested(alloc, 200, 56)), Ok(()));
     assert_eq!(rt; accepted(alloc, side_by_side(alloc, 256)), Ok(()));
-    let wide = fault_of(alloc, many_lengths(alloc, 0, 257))?;
-    assert_eq!(rt; told(&wide), Evidence::TooManyOpen(&[], 257));
-    let deep = fault_of(alloc, nested(alloc, 200, 57))?;
-    assert_eq!(rt; told(&deep), Evidence::TooManyOpen(&[400], 257));
-    Ok(())
+    let wide = Evidence::TooManyOpen(&[], 257);
+    assert_eq!(rt; refused(alloc, many_lengths(alloc, 0, 257), wide), Ok(()));
+    let deep = Evidence::TooManyOpen(&[400], 257);
+    assert_eq!(rt; refused(alloc, nested(alloc, 200, 57), deep), Ok(()));
 }
 
 // `{ t INTEGER u8, x SEQUENCE { .. }, y SEQUENCE { .. } }`, with so many conditions on t in both.
@@ -108,16 +108,15 @@ fn flagged(alloc: Global, count: u32) -> Result<Node, NoMemory> {
 }
 
 #[test]
-fn at_most_64_conditions_compare_a_slot(rt: HostRuntime) -> Result<(), Trouble> {
+fn at_most_64_conditions_compare_a_slot(rt: HostRuntime) {
     let alloc = rt.alloc();
     assert_eq!(rt; accepted(alloc, compared(alloc, 0, 64)), Ok(()));
     assert_eq!(rt; accepted(alloc, compared_in_two(alloc, 40, 24)), Ok(()));
     assert_eq!(rt; accepted(alloc, flagged(alloc, 65)), Ok(()));
-    let one = fault_of(alloc, compared(alloc, 0, 65))?;
-    assert_eq!(rt; told(&one), Evidence::TooManyConditions(&[0], 65));
-    let two = fault_of(alloc, compared_in_two(alloc, 40, 60))?;
-    assert_eq!(rt; told(&two), Evidence::TooManyConditions(&[0], 100));
-    Ok(())
+    let one = Evidence::TooManyConditions(&[0], 65);
+    assert_eq!(rt; refused(alloc, compared(alloc, 0, 65), one), Ok(()));
+    let two = Evidence::TooManyConditions(&[0], 100);
+    assert_eq!(rt; refused(alloc, compared_in_two(alloc, 40, 60), two), Ok(()));
 }
 
 // `SEQUENCE { a OCTET STRING (SIZE (65536)), b OCTET STRING (SIZE (6)) }`, which has 524,336 bits.
@@ -137,30 +136,28 @@ fn endless(alloc: Global, innermost: Result<Node, NoMemory>) -> Result<Node, NoM
 }
 
 #[test]
-fn a_packet_has_at_most_524336_bits(rt: HostRuntime) -> Result<(), Trouble> {
+fn a_packet_has_at_most_524336_bits(rt: HostRuntime) {
     let alloc = rt.alloc();
+    let most = sequence(alloc, longest(alloc), &[]);
+    assert_eq!(rt; accepted(alloc, most), Ok(()));
+    let longer = longest(alloc).and(component(alloc, b"c", boolean(alloc)));
+    let one_more = sequence(alloc, longer, &[]);
     assert_eq!(rt;
-        accepted(alloc, sequence(alloc, longest(alloc), &[])),
+        refused(alloc, one_more, Evidence::TooLong(524_337)),
         Ok(())
     );
-    let longer = longest(alloc).and(component(alloc, b"c", boolean(alloc)));
-    let fault = fault_of(alloc, sequence(alloc, longer, &[]))?;
-    assert_eq!(rt; told(&fault), Evidence::TooLong(524_337));
-    let held = fault_of(alloc, endless(alloc, octet(alloc)))?;
-    assert_eq!(rt; told(&held), Evidence::TooLong(1_099_511_627_776));
-    Ok(())
+    let held = Evidence::TooLong(1_099_511_627_776);
+    assert_eq!(rt; refused(alloc, endless(alloc, octet(alloc)), held), Ok(()));
 }
 
 #[test]
-fn a_packet_has_at_most_1048576_values(rt: HostRuntime) -> Result<(), Trouble> {
+fn a_packet_has_at_most_1048576_values(rt: HostRuntime) {
     let alloc = rt.alloc();
-    assert_eq!(rt;
-        accepted(alloc, list(alloc, 1025, list(alloc, 1022, null(alloc)))),
-        Ok(())
-    );
-    let fault = fault_of(alloc, list(alloc, 1024, list(alloc, 1023, null(alloc))))?;
-    assert_eq!(rt; told(&fault), Evidence::TooManyValues(1_048_577));
-    let held = fault_of(alloc, endless(alloc, null(alloc)))?;
-    assert_eq!(rt; told(&held), Evidence::TooManyValues(1_099_511_627_776));
-    Ok(())
+    let most = list(alloc, 1025, list(alloc, 1022, null(alloc)));
+    assert_eq!(rt; accepted(alloc, most), Ok(()));
+    let one_more = list(alloc, 1024, list(alloc, 1023, null(alloc)));
+    let many = Evidence::TooManyValues(1_048_577);
+    assert_eq!(rt; refused(alloc, one_more, many), Ok(()));
+    let held = Evidence::TooManyValues(1_099_511_627_776);
+    assert_eq!(rt; refused(alloc, endless(alloc, null(alloc)), held), Ok(()));
 }

@@ -1,6 +1,6 @@
 //! Of several faults of one number and node the first use goes first, and of alternatives the first.
 
-use crate::answers::{Evidence, Trouble, fault_of, told};
+use crate::answers::{Evidence, Trouble, refused};
 use crate::builders::{
     alternative, boolean, choice, component, inserted, no_parts, null, octet, octets_by,
     one_of_two, sequence, when,
@@ -39,15 +39,14 @@ fn determinant_behind(alloc: Global) -> Result<Node, NoMemory> {
 }
 
 #[test]
-fn the_first_use_goes_first(rt: HostRuntime) -> Result<(), Trouble> {
+fn the_first_use_goes_first(rt: HostRuntime) {
     let alloc = rt.alloc();
-    let uses = fault_of(alloc, two_uses_behind(alloc))?;
-    assert_eq!(rt; told(&uses), Evidence::Forward(&[0], &[2]));
-    let conditions = fault_of(alloc, two_conditions_behind(alloc))?;
-    assert_eq!(rt; told(&conditions), Evidence::Forward(&[0], &[2]));
-    let item = fault_of(alloc, determinant_behind(alloc))?;
-    assert_eq!(rt; told(&item), Evidence::Forward(&[1], &[2]));
-    Ok(())
+    let own = Evidence::Forward(&[0], &[2]);
+    assert_eq!(rt; refused(alloc, two_uses_behind(alloc), own), Ok(()));
+    let first = Evidence::Forward(&[0], &[2]);
+    assert_eq!(rt; refused(alloc, two_conditions_behind(alloc), first), Ok(()));
+    let item = Evidence::Forward(&[1], &[2]);
+    assert_eq!(rt; refused(alloc, determinant_behind(alloc), item), Ok(()));
 }
 
 // `{ len BOOLEAN, t BOOLEAN, data [present-when t==1, size len] }`.
@@ -76,27 +75,30 @@ fn chosen_by(alloc: Global, kind: Result<Node, NoMemory>) -> Result<Node, NoMemo
     sequence(alloc, fields, &[0])
 }
 
+// Tells that this is refused, since field 0 isn't of the kind that node 1 asks for.
+fn wrong_kind(alloc: Global, root: Result<Node, NoMemory>) -> Result<(), Trouble> {
+    refused(alloc, root, Evidence::DetKind(&[1], &[0]))
+}
+
 #[test]
-fn each_use_asks_for_a_kind(rt: HostRuntime) -> Result<(), Trouble> {
+fn each_use_asks_for_a_kind(rt: HostRuntime) {
     let alloc = rt.alloc();
-    let first = fault_of(alloc, two_uses_of_other_kinds(alloc))?;
-    assert_eq!(rt; told(&first), Evidence::DetKind(&[2], &[1]));
-    let expected = Evidence::DetKind(&[1], &[0]);
-    let flag = fault_of(alloc, compared_with(alloc, octet(alloc), Test::Flag(0)))?;
-    assert_eq!(rt; told(&flag), expected);
-    let number = fault_of(
-        alloc,
-        compared_with(alloc, boolean(alloc), Test::Equals(0, 1)),
-    )?;
-    assert_eq!(rt; told(&number), expected);
+    let first = Evidence::DetKind(&[2], &[1]);
+    assert_eq!(rt;
+        refused(alloc, two_uses_of_other_kinds(alloc), first),
+        Ok(())
+    );
+    let flag = compared_with(alloc, octet(alloc), Test::Flag(0));
+    assert_eq!(rt; wrong_kind(alloc, flag), Ok(()));
+    let truth = compared_with(alloc, boolean(alloc), Test::Equals(0, 1));
+    assert_eq!(rt; wrong_kind(alloc, truth), Ok(()));
     let items = one_of_two(alloc, b'p', b'q');
-    let item = fault_of(alloc, compared_with(alloc, items, Test::Equals(0, 1)))?;
-    assert_eq!(rt; told(&item), expected);
-    let integer = fault_of(alloc, chosen_by(alloc, octet(alloc)))?;
-    assert_eq!(rt; told(&integer), expected);
-    let truth = fault_of(alloc, chosen_by(alloc, boolean(alloc)))?;
-    assert_eq!(rt; told(&truth), expected);
-    Ok(())
+    let item = compared_with(alloc, items, Test::Equals(0, 1));
+    assert_eq!(rt; wrong_kind(alloc, item), Ok(()));
+    let number = chosen_by(alloc, octet(alloc));
+    assert_eq!(rt; wrong_kind(alloc, number), Ok(()));
+    let boolean = chosen_by(alloc, boolean(alloc));
+    assert_eq!(rt; wrong_kind(alloc, boolean), Ok(()));
 }
 
 // `{ kind ENUMERATED { p, q }, c [determinant kind] { p [], q [present-when t==1] }, t .. }`, t in front.
@@ -123,11 +125,13 @@ fn two_without_item(alloc: Global) -> Result<Node, NoMemory> {
 }
 
 #[test]
-fn alternatives_have_items_or_conditions(rt: HostRuntime) -> Result<(), Trouble> {
+fn alternatives_have_items_or_conditions(rt: HostRuntime) {
     let alloc = rt.alloc();
-    let both = fault_of(alloc, conditions_beside_a_determinant(alloc))?;
-    assert_eq!(rt; told(&both), Evidence::MixedChoice(&[2]));
-    let first = fault_of(alloc, two_without_item(alloc))?;
-    assert_eq!(rt; told(&first), Evidence::NoItem(&[1], 1));
-    Ok(())
+    let mixed = Evidence::MixedChoice(&[2]);
+    assert_eq!(rt;
+        refused(alloc, conditions_beside_a_determinant(alloc), mixed),
+        Ok(())
+    );
+    let first = Evidence::NoItem(&[1], 1);
+    assert_eq!(rt; refused(alloc, two_without_item(alloc), first), Ok(()));
 }

@@ -1,11 +1,11 @@
 //! Small grammars that are worked by hand.
 
-use crate::answers::{Evidence, Trouble, accepted, fault_of, told};
+use crate::answers::{Evidence, accepted, accepted_values, refused, refused_twice};
 use crate::builders::{
     component, inserted, integer, no_parts, null, octet, octets, octets_by, one_of_two, sequence,
     when,
 };
-use crate::grammars::{ended_digits, forward, mixed, p_or_q, sized, too_long, too_many_values};
+use crate::grammars::{ended_digits, forward, p_or_q, sized};
 use acn_num::{NoMemory, RangeSet};
 use acn_tree::{ChoiceRule, Node, NumCoding, Test};
 use std::alloc::Global;
@@ -38,17 +38,23 @@ fn ten_characters(alloc: Global) -> Result<Node, NoMemory> {
 }
 
 #[test]
-fn a_length_stands_before_its_octets_and_has_a_use(rt: HostRuntime) -> Result<(), Trouble> {
+fn a_length_has_uses_and_a_width(rt: HostRuntime) {
     let alloc = rt.alloc();
-    assert_eq!(rt; accepted(alloc, sized(alloc, 0, octet(alloc))), Ok(()));
     assert_eq!(rt; accepted(alloc, two_sized(alloc)), Ok(()));
-    let behind = fault_of(alloc, forward(alloc, 0))?;
-    assert_eq!(rt; told(&behind), Evidence::Forward(&[0], &[1]));
-    let unused = fault_of(alloc, not_sized(alloc))?;
-    assert_eq!(rt; told(&unused), Evidence::Unused(&[0]));
-    let wide = fault_of(alloc, sized(alloc, 0, ten_characters(alloc)))?;
-    assert_eq!(rt; told(&wide), Evidence::DetWidth(&[0]));
-    Ok(())
+    let unused = Evidence::Unused(&[0]);
+    assert_eq!(rt; refused(alloc, not_sized(alloc), unused), Ok(()));
+    let wide = sized(alloc, 0, ten_characters(alloc));
+    let no_width = Evidence::DetWidth(&[0]);
+    assert_eq!(rt; refused(alloc, wide, no_width), Ok(()));
+}
+
+#[test]
+fn a_tree_is_handed_on_or_back(rt: HostRuntime) {
+    let alloc = rt.alloc();
+    let good = sized(alloc, 0, octet(alloc));
+    assert_eq!(rt; accepted_values(alloc, good), Ok(18));
+    let behind = Evidence::Forward(&[0], &[1]);
+    assert_eq!(rt; refused_twice(alloc, forward(alloc, 0), behind), Ok(()));
 }
 
 // `SEQUENCE { p NULL OPTIONAL, q NULL OPTIONAL }`, with
@@ -63,10 +69,9 @@ fn one_or_other(alloc: Global) -> Result<Node, NoMemory> {
 }
 
 #[test]
-fn components_may_exclude_each_other(rt: HostRuntime) -> Result<(), Trouble> {
+fn components_may_exclude_each_other(rt: HostRuntime) {
     let alloc = rt.alloc();
     assert_eq!(rt; accepted(alloc, one_or_other(alloc)), Ok(()));
-    Ok(())
 }
 
 // `SEQUENCE { c CHOICE .. }`, with `{ t INTEGER .., c [] .. }`.
@@ -101,21 +106,16 @@ fn one_at_a_time(alloc: Global, t: Result<Node, NoMemory>) -> Result<Node, NoMem
 }
 
 #[test]
-fn conditions_choose_one_alternative(rt: HostRuntime) -> Result<(), Trouble> {
+fn conditions_choose_one_alternative(rt: HostRuntime) {
     let alloc = rt.alloc();
-    assert_eq!(rt;
-        accepted(alloc, p_or_q(alloc, &[], &[], ChoiceRule::Index(1))),
-        Ok(())
-    );
+    let by_index = p_or_q(alloc, &[], &[], ChoiceRule::Index(1));
+    assert_eq!(rt; accepted(alloc, by_index), Ok(()));
     assert_eq!(rt; accepted(alloc, one_at_a_time(alloc, octet(alloc))), Ok(()));
-    let both = fault_of(alloc, both_together(alloc))?;
-    let expected = Evidence::Overlap(&[2], 0, 1, &[(0, 1), (1, 2)]);
-    assert_eq!(rt; told(&both), expected);
-    let ended = fault_of(alloc, one_at_a_time(alloc, ended_digits(alloc)))?;
-    assert_eq!(rt; told(&ended), Evidence::DetWidth(&[0]));
-    let mixed = fault_of(alloc, mixed(alloc, 0))?;
-    assert_eq!(rt; told(&mixed), Evidence::MixedChoice(&[1]));
-    Ok(())
+    let two = Evidence::Overlap(&[2], 0, 1, &[(0, 1), (1, 2)]);
+    assert_eq!(rt; refused(alloc, both_together(alloc), two), Ok(()));
+    let ended = one_at_a_time(alloc, ended_digits(alloc));
+    let no_width = Evidence::DetWidth(&[0]);
+    assert_eq!(rt; refused(alloc, ended, no_width), Ok(()));
 }
 
 // `{ kind Kind [], c [determinant kind] }`.
@@ -124,23 +124,10 @@ fn by_kind(alloc: Global, kind: Result<Node, NoMemory>) -> Result<Node, NoMemory
 }
 
 #[test]
-fn an_item_chooses_the_alternative_of_its_name(rt: HostRuntime) -> Result<(), Trouble> {
+fn an_item_chooses_the_alternative_of_its_name(rt: HostRuntime) {
     let alloc = rt.alloc();
-    assert_eq!(rt;
-        accepted(alloc, by_kind(alloc, one_of_two(alloc, b'p', b'q'))),
-        Ok(())
-    );
-    let fault = fault_of(alloc, by_kind(alloc, one_of_two(alloc, b'p', b'r')))?;
-    assert_eq!(rt; told(&fault), Evidence::NoItem(&[1], 1));
-    Ok(())
-}
-
-#[test]
-fn packets_have_few_bits_and_values(rt: HostRuntime) -> Result<(), Trouble> {
-    let alloc = rt.alloc();
-    let long = fault_of(alloc, too_long(alloc))?;
-    assert_eq!(rt; told(&long), Evidence::TooLong(1_048_576));
-    let many = fault_of(alloc, too_many_values(alloc))?;
-    assert_eq!(rt; told(&many), Evidence::TooManyValues(1_049_601));
-    Ok(())
+    let named = by_kind(alloc, one_of_two(alloc, b'p', b'q'));
+    assert_eq!(rt; accepted(alloc, named), Ok(()));
+    let turned = by_kind(alloc, one_of_two(alloc, b'q', b'p'));
+    assert_eq!(rt; accepted(alloc, turned), Ok(()));
 }
