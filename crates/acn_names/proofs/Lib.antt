@@ -11,3 +11,5 @@ pub mod TypeMentions
 pub mod FieldViews
 pub mod TypeThere
 pub mod LawProofs
+pub mod ParameterSteps
+pub mod Marks

@@ -10,6 +10,8 @@ mod laws;
 pub mod lookup;
 pub mod mention;
 pub mod references;
+pub mod referring;
+pub mod roots;
 mod set_mentions;
 mod sources;
 pub mod type_mentions;
