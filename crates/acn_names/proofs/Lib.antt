@@ -13,3 +13,5 @@ pub mod TypeThere
 pub mod LawProofs
 pub mod ParameterSteps
 pub mod Marks
+pub mod KeyedLaws
+pub mod Mapped

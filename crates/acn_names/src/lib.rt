@@ -8,6 +8,7 @@ mod fault;
 pub mod index;
 mod laws;
 pub mod lookup;
+pub mod maps;
 pub mod mention;
 pub mod references;
 pub mod referring;
