@@ -11,3 +11,7 @@ pub mod TypeMentions
 pub mod FieldViews
 pub mod TypeThere
 pub mod LawProofs
+pub mod ParameterSteps
+pub mod Marks
+pub mod KeyedLaws
+pub mod Mapped

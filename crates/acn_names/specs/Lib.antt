@@ -9,6 +9,7 @@ pub mod Cycles
 pub mod Faults
 pub mod Views
 pub mod Sorts
+pub mod Keyed
 pub mod Found
 pub mod Linked
 pub mod Chained

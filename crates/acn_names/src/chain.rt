@@ -68,9 +68,9 @@ pub fn assigned_link(index: &Index, place: TypeId) -> Option<Link<'_>>
     })
 }
 
-// The link to which a type refers.
+/// The link to which a type refers.
 #[tactic(auto, unfolding(crate::specs::Chains::next_link))]
-fn next_link<'w>(index: &'w Index, link: Link<'w>) -> Option<Link<'w>>
+pub fn next_link<'w>(index: &'w Index, link: Link<'w>) -> Option<Link<'w>>
     ensures { option_map link_view result ≡ spec.next_link (index_view index.now) (link_view link.entry) }
 {
     let reference = reference_of(link.of)?;

@@ -64,8 +64,8 @@ fn constraints_along<'w>(
     Ok(all)
 }
 
-// The entry of a link's assignment, with the number of its module.
-fn link_entry<'w>(index: &'w Index, link: Link<'w>) -> Option<(u32, &'w AcnEntry)>
+/// The entry of a link's assignment, with the number of its module.
+pub fn link_entry<'w>(index: &'w Index, link: Link<'w>) -> Option<(u32, &'w AcnEntry)>
     ensures { option_map entry_view result ≡ spec.link_entry (index_view index.now) (link_view link.entry) }
 {
     let place = link.assigned?;

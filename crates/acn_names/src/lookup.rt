@@ -1,15 +1,16 @@
-ghost use Rattle.std.specs.Prelude.{◌≡◌, ◌<◌, ◌+◌, length, map, option_map, slice_get, Option, Some, None, IfOk, find};
-ghost use Rattle.std.specs.List.{position_from, list_any};
+ghost use Rattle.std.specs.Prelude.{◌≡◌, option_map, option_and_then, slice_get};
+ghost use Rattle.std.specs.List.{position_from};
 ghost use Rattle.std.specs.Str.{bytes_eq};
 ghost use Rattle.acn_asn_syntax.specs.View.{module_view, assign_view};
 ghost use Rattle.acn_names.specs.Views.{index_view};
 ghost use Rattle.acn_names.specs.Lookup as spec;
-ghost use Rattle.acn_names.specs.Sorts.{meant};
+ghost use Rattle.acn_names.specs.Sorts.{meant, sorted};
 
 use crate::TypeId;
 use crate::index::Index;
+use crate::maps::OwnNames;
 use acn_asn_syntax::{AsnModule, Assign, Import};
-use acn_num::Name;
+use acn_maps::Firsts;
 
 // Whether the two texts are the same.
 pub fn same(a: &[u8], b: &[u8]) -> bool
@@ -18,25 +19,19 @@ pub fn same(a: &[u8], b: &[u8]) -> bool
     a == b
 }
 
-// The number of the first module with this name.
-fn module_position(modules: &[AsnModule], name: &[u8]) -> Option<u32>
-    requires { length modules.now < 4294967296 }
-    ensures { result ≡ position_from (λ m. bytes_eq m.name name.now) 0 (map module_view modules.now) }
+// The place of the first module with this name.
+fn module_place(index: &Index, name: &[u8]) -> Option<usize>
+    ensures { result ≡ spec.module_named (index_view index.now) name.now }
 {
-    for (i, module) in modules.iter().enumerate() {
-        if same(module.name.bytes(), name) {
-            return Some(i as u32);
-        }
-    }
-    None
+    index.maps.modules.get(name)
 }
 
 /// The number of the first module with this name.
-#[tactic(auto, unfolding(crate::specs::Lookup::module_named))]
 pub fn module_named(index: &Index, name: &[u8]) -> Option<u32>
     ensures { result ≡ spec.module_named (index_view index.now) name.now }
 {
-    module_position(index.modules.items(), name)
+    let k = module_place(index, name)?;
+    Some(k as u32)
 }
 
 /// The module with this number.
@@ -53,30 +48,6 @@ pub fn item_at(owner: &AsnModule, i: u32) -> Option<&Assign>
     owner.items.items().get(i as usize)
 }
 
-// Whether the names hold this one.
-fn holds(names: &[Name], name: &[u8]) -> bool
-    ensures { result ≡ list_any (bytes_eq name.now) names.now }
-{
-    for other in names {
-        if same(name, other.bytes()) {
-            return true;
-        }
-    }
-    false
-}
-
-// The first import that has this name.
-fn import_position<'m>(imports: &'m [Import], name: &[u8]) -> Option<&'m Import>
-    ensures { option_map (λ i. i.now) result ≡ find (spec.imports_name name.now) imports.now }
-{
-    for import in imports {
-        if holds(import.names.items(), name) {
-            return Some(import);
-        }
-    }
-    None
-}
-
 /// What a module imports; nothing where IMPORTS isn't written.
 pub fn imports_of(owner: &AsnModule) -> &[Import]
     ensures { result.now ≡ spec.imports_of (module_view owner.now) }
@@ -87,20 +58,35 @@ pub fn imports_of(owner: &AsnModule) -> &[Import]
     }
 }
 
-// The import by which a module has this name.
-fn import_of<'m>(owner: &'m AsnModule, name: &[u8]) -> Option<&'m Import>
-    ensures { option_map (λ i. i.now) result ≡ spec.import_of (module_view owner.now) name.now }
+// The first places of the names in the module with this number.
+fn own_names_at(index: &Index, k: u32) -> Option<&OwnNames>
+    ensures { option_map (λ o. o.now) result ≡ slice_get index.now.maps.own k }
 {
-    import_position(imports_of(owner), name)
+    index.maps.own.items().get(k as usize)
+}
+
+// The import with this number.
+fn import_at(owner: &AsnModule, i: usize) -> Option<&Import>
+    ensures { option_map (λ i. i.now) result ≡ slice_get (spec.imports_of (module_view owner.now)) i }
+{
+    imports_of(owner).get(i)
+}
+
+// The first import by which the module with this number has the name.
+fn import_of<'w>(index: &'w Index, k: u32, name: &[u8]) -> Option<&'w Import>
+    ensures { option_map (λ i. i.now) result ≡ option_and_then (λ m. spec.import_of m name.now) (slice_get (index_view index.now).modules k) }
+{
+    let owner = module_at(index, k)?;
+    let own = own_names_at(index, k)?;
+    let place = own.imports.get(name)?;
+    import_at(owner, place)
 }
 
 // The module from which a module imports the name.
-#[tactic(auto, unfolding(crate::specs::Lookup::imported_from))]
 fn imported_from(index: &Index, name: &[u8], k: u32) -> Option<u32>
     ensures { result ≡ spec.imported_from (index_view index.now) name.now k }
 {
-    let owner = module_at(index, k)?;
-    let import = import_of(owner, name)?;
+    let import = import_of(index, k, name)?;
     module_named(index, import.module.bytes())
 }
 
@@ -115,41 +101,34 @@ pub enum Sort {
     Any,
 }
 
-// Whether the assignment is one of this sort with this name.
-fn is_meant(sort: Sort, name: &[u8], item: &Assign) -> bool
-    ensures { result ≡ meant sort name.now (assign_view item.now) }
+// The first places of the names of a sort.
+fn of_sort(own: &OwnNames, sort: Sort) -> &Firsts
+    ensures { result.now ≡ sorted sort own.now }
 {
-    match (sort, item) {
-        (Sort::Types, Assign::TypeIs(own, _)) => same(own.bytes(), name),
-        (Sort::Values, Assign::ValueIs(own, _, _)) => same(own.bytes(), name),
-        (Sort::Any, Assign::TypeIs(own, _)) => same(own.bytes(), name),
-        (Sort::Any, Assign::ValueIs(own, _, _)) => same(own.bytes(), name),
-        (Sort::Types, Assign::ValueIs(_, _, _)) => false,
-        (Sort::Values, Assign::TypeIs(_, _)) => false,
+    match sort {
+        Sort::Types => &own.types,
+        Sort::Values => &own.values,
+        Sort::Any => &own.names,
     }
 }
 
-// The number of the first that is meant among the assignments.
-fn item_position(items: &[Assign], sort: Sort, name: &[u8]) -> Option<u32>
-    requires { length items.now < 4294967296 }
-    ensures { result ≡ position_from (meant sort name.now) 0 (map assign_view items.now) }
+// The number of the first that is meant among the assignments of the module with this number.
+fn own_place(index: &Index, sort: Sort, name: &[u8], k: u32) -> Option<usize>
+    ensures { result ≡ option_and_then (λ m. position_from (meant sort name.now) 0 m.items) (slice_get (index_view index.now).modules k) }
 {
-    for (i, item) in items.iter().enumerate() {
-        if is_meant(sort, name, item) {
-            return Some(i as u32);
-        }
-    }
-    None
+    let own = own_names_at(index, k)?;
+    of_sort(own, sort).get(name)
 }
 
 // The first of a module's own assignments that is meant.
-#[tactic(auto, unfolding(crate::specs::Lookup::own))]
 pub fn own(index: &Index, sort: Sort, name: &[u8], k: u32) -> Option<TypeId>
     ensures { result ≡ spec.own (index_view index.now) (meant sort name.now) k }
 {
-    let owner = module_at(index, k)?;
-    let item = item_position(owner.items.items(), sort, name)?;
-    Some(TypeId { module: k, item })
+    let item = own_place(index, sort, name, k)?;
+    Some(TypeId {
+        module: k,
+        item: item as u32,
+    })
 }
 
 /// What a name leads to in a module: its own assignment, else that of the module from which it is imported.

@@ -1,4 +1,5 @@
-ghost use Rattle.std.specs.Prelude.{◌≡◌, ◌<◌, length, map, option_map, option_copied, option_and_then, slice_get, Option, Some, None, find};
+ghost use Rattle.std.specs.Prelude.{◌≡◌, option_map, option_copied, option_and_then, slice_get};
+ghost use Rattle.std.specs.List.{position_from};
 ghost use Rattle.std.specs.Str.{bytes_eq};
 ghost use Rattle.acn_asn_syntax.specs.View.{module_view, assign_view, type_view};
 ghost use Rattle.acn_acn_syntax.specs.View.{module_of, entry_of};
@@ -8,9 +9,10 @@ ghost use Rattle.acn_names.specs.Lookup as spec;
 
 use crate::TypeId;
 use crate::index::Index;
-use crate::lookup::{Sort, found, item_at, module_at, module_named, own, same};
+use crate::lookup::{Sort, found, item_at, module_at, module_named, own};
 use acn_acn_syntax::{AcnEntry, AcnModule, MapTable};
-use acn_asn_syntax::{AsnModule, AsnType, Assign};
+use acn_asn_syntax::{AsnType, Assign};
+use acn_maps::Firsts;
 use acn_num::Name;
 
 /// The type to which a reference in a module leads, with or without a module's name in front.
@@ -63,43 +65,50 @@ pub fn name_of(item: &Assign) -> &Name
     }
 }
 
-// The first ACN module with this name.
-fn acn_position<'m>(modules: &'m [AcnModule], name: &[u8]) -> Option<&'m AcnModule>
-    ensures { option_map (λ m. module_of m.now) result ≡ find (λ m. bytes_eq m.name name.now) (map module_of modules.now) }
+// The number of the first ACN module with this name.
+fn acn_place(index: &Index, name: &[u8]) -> Option<usize>
+    ensures { result ≡ position_from (λ m. bytes_eq m.name name.now) 0 (index_view index.now).acn }
 {
-    for owner in modules {
-        if same(owner.name.bytes(), name) {
-            return Some(owner);
-        }
-    }
-    None
+    index.maps.acn.get(name)
 }
 
-// The first entry with this name.
-fn entry_position<'m>(entries: &'m [AcnEntry], name: &[u8]) -> Option<&'m AcnEntry>
-    ensures { option_map (λ e. entry_of e.now) result ≡ find (λ e. bytes_eq e.name name.now) (map entry_of entries.now) }
+// The ACN module with this number.
+fn acn_at(index: &Index, k: usize) -> Option<&AcnModule>
+    ensures { option_map (λ m. module_of m.now) result ≡ slice_get (index_view index.now).acn k }
 {
-    for entry in entries {
-        if same(entry.name.bytes(), name) {
-            return Some(entry);
-        }
-    }
-    None
+    index.acn.items().get(k)
 }
 
-// The first ACN module with this name.
-fn acn_named<'w>(index: &'w Index, name: &[u8]) -> Option<&'w AcnModule>
-    ensures { option_map (λ m. module_of m.now) result ≡ spec.acn_named (index_view index.now) name.now }
+// The first places of the entries in the ACN module with this number.
+fn entry_names_at(index: &Index, k: usize) -> Option<&Firsts>
+    ensures { option_map (λ f. f.now) result ≡ slice_get index.now.maps.entries k }
 {
-    acn_position(index.acn.items(), name)
+    index.maps.entries.items().get(k)
+}
+
+// The entry with this number.
+fn entry_numbered(owner: &AcnModule, i: usize) -> Option<&AcnEntry>
+    ensures { option_map (λ e. entry_of e.now) result ≡ slice_get (module_of owner.now).entries i }
+{
+    owner.entries.items().get(i)
+}
+
+// The first entry with this name in the ACN module with this number.
+fn entry_in<'w>(index: &'w Index, k: usize, name: &[u8]) -> Option<&'w AcnEntry>
+    ensures { option_map (λ e. entry_of e.now) result ≡ option_and_then (λ m. spec.entry_named m name.now) (slice_get (index_view index.now).acn k) }
+{
+    let owner = acn_at(index, k)?;
+    let names = entry_names_at(index, k)?;
+    let place = names.get(name)?;
+    entry_numbered(owner, place)
 }
 
 // What the ACN module with a name says of an assignment.
 fn entry_of_assign<'w>(index: &'w Index, owner: &[u8], item: &Assign) -> Option<&'w AcnEntry>
     ensures { option_map (λ e. entry_of e.now) result ≡ spec.entry_of_assign (index_view index.now) owner.now (assign_view item.now) }
 {
-    let acn = acn_named(index, owner)?;
-    entry_position(acn.entries.items(), name_of(item).bytes())
+    let k = acn_place(index, owner)?;
+    entry_in(index, k, name_of(item).bytes())
 }
 
 /// What the ACN module of an assignment's module says of it.
@@ -112,24 +121,19 @@ pub fn entry_at(index: &Index, place: TypeId) -> Option<&AcnEntry>
     entry_of_assign(index, owner.name.bytes(), item)
 }
 
-// The first table with this name.
-fn table_position<'m>(tables: &'m [MapTable], name: &[u8]) -> Option<&'m MapTable>
-    ensures { option_copied result ≡ find (λ t. bytes_eq t.name name.now) tables.now }
+// The table with this number.
+fn table_at(index: &Index, i: usize) -> Option<&MapTable>
+    ensures { option_copied result ≡ slice_get (index_view index.now).tables i }
 {
-    for table in tables {
-        if same(table.name.bytes(), name) {
-            return Some(table);
-        }
-    }
-    None
+    index.tables.items().get(i)
 }
 
 /// The first table with this name.
-#[tactic(auto, unfolding(crate::specs::Lookup::table_named))]
 pub fn table_named<'w>(index: &'w Index, name: &[u8]) -> Option<&'w MapTable>
     ensures { option_copied result ≡ spec.table_named (index_view index.now) name.now }
 {
-    table_position(index.tables.items(), name)
+    let k = index.maps.tables.get(name)?;
+    table_at(index, k)
 }
 
 // The type of a type's assignment.

@@ -5,11 +5,12 @@ use crate::chains::{Chain, chain_of};
 use crate::index::Index;
 use crate::lookup::{item_at, module_at};
 use crate::references::{entry_at, name_of, table_named, type_at, type_in, type_named};
+use crate::roots::roots_of;
 use crate::sources::TypeId;
 use crate::values::value_of;
 use acn_acn_syntax::{AcnEntry, MapTable};
 use acn_asn_syntax::{AsnType, AsnValue};
-use acn_num::{Name, NoMemory};
+use acn_num::{Name, NoMemory, Row};
 use std::alloc::Global;
 
 /// The modules and tables of all files, in which each name leads somewhere, none to itself, and each to what
@@ -39,6 +40,13 @@ impl World {
         ensures { world_view result ≡ index_view index }
     {
         World { index }
+    }
+
+    /// The types without parameters to which no other type refers, in the order of the text.
+    pub fn roots(&self, alloc: Global) -> Result<Row<TypeId>, NoMemory>
+        ensures { IfOk result (λ all. all ≡ faults.roots (world_view self.now)) }
+    {
+        roots_of(alloc, &self.index)
     }
 
     /// The type with this name in the module with that name, by an assignment of that module itself. None comes

@@ -54,9 +54,5 @@ pub fn gather(alloc: Global, sources: Sources) -> Result<Index, NoMemory>
     let modules = gather_asn(alloc, asn.into_vec())?;
     let acn = gather_acn(alloc, acn.into_vec())?;
     let tables = gather_tables(alloc, maps.into_vec())?;
-    Ok(Index {
-        modules,
-        acn,
-        tables,
-    })
+    Index::new(alloc, modules, acn, tables)
 }
