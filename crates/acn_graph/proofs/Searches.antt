@@ -5,7 +5,7 @@ use Rattle.std.proofs.Math.Seq.{get_or-append_seam}
 use Rattle.std.specs.List.{list_any}
 use Rattle.acn_graph.specs.Graph.{Graph, Among, here, there, onward, Leads, once, more}
 use Rattle.acn_graph.specs.Search.{State, begun, grow_if, grow, grow_all, IsOrdered, IsTrail}
-use Rattle.acn_graph.proofs.Lists.{none_in_nothing, among_left, among_right, among_at, place_of, among_one, among_first_or_rest, none_among, below_or_at, marked, marked-le, marked-set, marked-none, unmarked, flag_within, set_or_stood}
+use Rattle.acn_graph.proofs.Lists.{none_in_nothing, among_left, among_right, among_at, place_of, among_one, among_first_or_rest, any_among, none_among, below_or_at, marked, marked-le, marked-set, marked-none, unmarked, flag_within, set_or_stood}
 use Rattle.acn_graph.proofs.Ways.{is_node, starts_at_a_node}
 
 pub record IsValid (g : Graph) (s : State) : Type 0 where
@@ -162,3 +162,13 @@ module _ (g : Graph) (start : ℕ) (s : State) (at : ℕ) (h : IsSearched g star
 
   pub ended : {way : List ℕ} → Leads g start start way → ⊥
   ended l = unreached (subst (λ (n : ℕ). Among n s.order) h.first (among_at s.order 0 h.some)) l
+
+-- the way back from a place that leads to the start
+pub closed : (g : Graph) (start : ℕ) (s : State) (at : ℕ) → IsSearched g start s at → list_any (nat_eq start) (onward g (get_or s.order at 0)) ≡ true
+    → (order parents way : List ℕ) → order ≡ s.order → parents ≡ s.parents
+    → ((h : Graph) → IsTrail h order parents → Among (get_or order 0 0) (onward h (get_or order at 0)) → Leads h (get_or order 0 0) (get_or order 0 0) way)
+    → Leads g start start way
+closed g start s at h hit order parents way same_order same_parents made =
+    let by_order = subst (λ (o : List ℕ). (x : Graph) → IsTrail x o parents → Among (get_or o 0 0) (onward x (get_or o at 0)) → Leads x (get_or o 0 0) (get_or o 0 0) way) same_order made in
+    let by_parents = subst (λ (p : List ℕ). (x : Graph) → IsTrail x s.order p → Among (get_or s.order 0 0) (onward x (get_or s.order at 0)) → Leads x (get_or s.order 0 0) (get_or s.order 0 0) way) same_parents by_order in
+    subst (λ (n : ℕ). Among n (onward g (get_or s.order at 0)) → Leads g n n way) h.first (by_parents g h.valid.trail) (any_among start (onward g (get_or s.order at 0)) hit)
