@@ -1,9 +1,9 @@
 //! Finds the first type or value that reaches itself over references.
 #![tactic(auto)]
 
-pub mod graph;
-mod ranks;
-mod ring;
-mod search;
+mod cycle;
+mod numbers;
+mod rows;
+mod targets;
 
-pub use ring::{Ring, first_ring};
+pub use cycle::{Round, first_cycle};

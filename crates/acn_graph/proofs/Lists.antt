@@ -1,7 +1,7 @@
 -- Lists of nodes and of flags.
-use Rattle.std.proofs.Common.{◌≡◌, ℕ, zero, suc, ◌+◌, ◌<◌, ◌≤◌, Bool, true, false, List, [], ◌∷◌, ◌++◌, length, get_or, refl, sym, ap, subst, ◌∙◌, arith, nat_eq, nat_lt, inl, inr, ◌⊎◌, set, replicate, ◌||◌, ◌&&◌}
+use Rattle.std.proofs.Common.{◌≡◌, ℕ, zero, suc, ◌<◌, ◌≤◌, Bool, true, false, List, [], ◌∷◌, ◌++◌, length, get_or, refl, ap, subst, arith, nat_eq, nat_lt, inl, inr, ◌⊎◌, set, replicate, ◌||◌, ◌&&◌}
 use Rattle.std.proofs.lemmas.Bool.{eqb-true, eq-eqb, ltb-true}
-use Rattle.std.specs.List.{list_any, list_all}
+use Rattle.std.specs.List.{list_any}
 use Rattle.acn_graph.specs.Graph.{Among, here, there, are_below}
 
 pub none_in_nothing : {A : Type 0} {x : A} → Among x [] → ⊥

@@ -1,7 +1,7 @@
 -- Ways through a graph.
-use Rattle.std.proofs.Common.{◌≡◌, ℕ, zero, suc, ◌+◌, ◌<◌, ◌≤◌, true, List, [], ◌∷◌, ◌++◌, length, get_or, reverse, refl, sym, ap, subst, ◌∙◌, arith, ◌&&◌}
+use Rattle.std.proofs.Common.{◌≡◌, ℕ, zero, suc, ◌+◌, ◌<◌, true, List, [], ◌∷◌, ◌++◌, length, get_or, reverse, sym, subst, arith}
 use Rattle.std.proofs.lemmas.List.{reverse-append}
-use Rattle.acn_graph.specs.Graph.{Graph, Among, here, there, onward, Leads, once, more, HasNoRing, are_below, ranks_fall}
+use Rattle.acn_graph.specs.Graph.{Graph, Among, onward, Leads, once, more, HasNoRing, are_below, ranks_fall}
 use Rattle.acn_graph.specs.Search.{IsTrail}
 use Rattle.acn_graph.proofs.Lists.{none_in_nothing, each_below, both_true}
 

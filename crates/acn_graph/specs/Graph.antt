@@ -1,5 +1,5 @@
 -- A graph of numbers: each node has a row of the nodes to which it leads.
-use Rattle.std.specs.Prelude.{ℕ, ◌<◌, Bool, true, List, [], ◌∷◌, get_or, nat_lt, ◌&&◌, ◌+◌}
+use Rattle.std.specs.Prelude.{ℕ, ◌<◌, Bool, true, List, [], ◌∷◌, length, get_or, nat_lt, ◌&&◌, ◌+◌}
 use Rattle.std.specs.List.{list_all}
 
 abbrev pub Graph : Type 0
@@ -20,6 +20,7 @@ pub data Leads (g : Graph) : ℕ → ℕ → List ℕ → Type 0 where
 
 -- the first node that leads to itself, with a way
 pub record IsFirstRing (g : Graph) (n : ℕ) (way : List ℕ) : Type 0 where
+  pub is_node : n < length g
   pub round : Leads g n n way
   pub none_before : (m : ℕ) (other : List ℕ) → m < n → Leads g m m other → ⊥
 

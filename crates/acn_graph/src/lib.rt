@@ -7,3 +7,6 @@ mod rows;
 mod search;
 
 pub use ring::{Ring, first_ring};
+
+#[cfg(test)]
+mod tests;

@@ -103,7 +103,12 @@ pub fn round_of(
         }
         let nodes = targets(graph, search.order[at]);
         if holds(nodes, start) {
-            let way = way_back(alloc, search.order.as_slice(), search.parents.as_slice(), at)?;
+            let way = way_back(
+                alloc,
+                search.order.as_slice(),
+                search.parents.as_slice(),
+                at,
+            )?;
             return Ok(Some(way));
         }
         reach_all(&mut search, at, nodes)?;

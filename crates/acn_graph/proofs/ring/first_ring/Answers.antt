@@ -1,5 +1,4 @@
-use Rattle.std.proofs.Common.{sym, ap, ◌∙◌, subst, List, ℕ, arith, ◌≡◌, true}
-use Rattle.acn_graph.specs.Graph.{HasNoRing, ranks_fall}
+use Rattle.std.proofs.Common.{sym, ◌∙◌, arith}
 use Rattle.acn_graph.proofs.Ways.{no_ring, starts_at_a_node}
 use Rattle.acn_graph.proofs.ring.first_ring.Goals as goal
 

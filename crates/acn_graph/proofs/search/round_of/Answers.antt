@@ -1,4 +1,4 @@
-use Rattle.std.proofs.Common.{◌≡◌, ◌<◌, ◌≤◌, ◌+◌, length, get_or, true, false, nat_eq, sym, ap, ◌∙◌, subst, arith, List, ℕ}
+use Rattle.std.proofs.Common.{◌<◌, ◌≤◌, ◌+◌, length, nat_eq, sym, ap, ◌∙◌, subst, arith, List, ℕ}
 use Rattle.std.proofs.lemmas.List.{get_or_read}
 use Rattle.std.specs.List.{list_any}
 use Rattle.acn_graph.specs.Graph.{onward}

@@ -1,4 +1,4 @@
-use Rattle.std.proofs.Common.{◌≡◌, ◌<◌, length, get_or, [], ◌∷◌, ◌++◌, ℕ, List, ap, ◌∙◌, arith}
+use Rattle.std.proofs.Common.{◌<◌, get_or, [], ◌∷◌, ◌++◌, ℕ, List, ap, ◌∙◌, arith}
 use Rattle.acn_graph.specs.Graph.{once}
 use Rattle.acn_graph.proofs.Ways.{one_back}
 use Rattle.acn_graph.proofs.search.way_back.Goals as goal
