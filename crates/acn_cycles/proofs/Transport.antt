@@ -1,9 +1,9 @@
 -- A way over references is a way in the graph of numbers, and the other way round.
-use Rattle.std.proofs.Common.{◌≡◌, ℕ, suc, ◌<◌, List, [], ◌∷◌, length, take, drop, map, sym, ap, subst, ◌∙◌, arith}
-use Rattle.std.specs.Prelude.{Option, Some, slice_get}
+use Rattle.std.proofs.Common.{refl, ◌≡◌, ℕ, suc, ◌<◌, List, [], ◌∷◌, length, take, drop, map, sym, ap, subst, ◌∙◌, arith}
+use Rattle.std.specs.Prelude.{IsSome, Option, Some, None, slice_get}
 use Rattle.std.specs.List.{cons_option}
 use Rattle.std.proofs.lemmas.List.{length-map}
-use Rattle.acn_names.specs.World.{World, places}
+use Rattle.acn_names.specs.World.{World, places, assignment}
 use Rattle.acn_names.specs.Cycles.{Within, targets, Reaches, once, more, HasNoCycle, IsFirstCycle}
 use Rattle.acn_names.specs.declared.sources.TypeId.{TypeId}
 use Rattle.acn_graph.specs.Graph as graph
@@ -47,7 +47,7 @@ module _ (w : World) where
   round : {p : TypeId} {way : List TypeId} → Reaches w p p way → (n : ℕ) → stands n p → (ns : List ℕ) × graph.Leads (graph_of w) n n ns
   round {p} r n e = let h = leads r n e in (h.0, subst (λ (m : ℕ). graph.Leads (graph_of w) n m h.0) (number_of_place w n p e) h.1)
 
-  start_assigned : {p q : TypeId} {way : List TypeId} → Reaches w p q way → IsAssigned w p
+  pub start_assigned : {p q : TypeId} {way : List TypeId} → Reaches w p q way → IsAssigned w p
   start_assigned (once {p} i) = source_assigned w p i
   start_assigned (more {p} i rest) = source_assigned w p i
 
@@ -91,3 +91,11 @@ module _ (w : World) where
   pub node_stands : (n : ℕ) → n < length (graph_of w) → n < length (places w)
   unfolding graph_of
   node_stands n lt = let e = length-map (places w) (row_in w (starts w)) in omega arith
+
+  is_some : {A : Type 0} (o : Option A) (x : A) → o ≡ Some x → IsSome o
+  is_some None x e = absurd (cc e)
+  is_some (Some y) x e = refl
+
+  -- what reaches itself is an assignment
+  pub cyclic_there : (p : TypeId) (way : List TypeId) → IsFirstCycle w p way → IsSome (assignment w p)
+  cyclic_there p way h = let a = start_assigned h.cyclic in is_some (assignment w p) a.0 a.1

@@ -1,4 +1,4 @@
-ghost use Rattle.std.specs.Prelude.{◌≡◌, IfOk, MatchOption};
+ghost use Rattle.std.specs.Prelude.{◌≡◌, IfOk, IfSome, IsSome, MatchOption};
 ghost use Rattle.acn_names.specs.Views.{index_view};
 ghost use Rattle.acn_names.specs.World as world;
 ghost use Rattle.acn_names.specs.Cycles.{HasNoCycle, IsFirstCycle};
@@ -37,9 +37,10 @@ fn ring_of(alloc: Global, index: &Index, places: &[TypeId]) -> Result<Option<Rin
 /// The first type or value, in the order of the text, that reaches itself over references, with a way. None comes
 /// exactly where none does. X.680 permits types that contain themselves; that none does is this profile's own.
 pub fn first_cycle(alloc: Global, index: &Index) -> Result<Option<Round>, NoMemory>
-    ensures { IfOk result (λ found. MatchOption found
+    ensures exact { IfOk result (λ found. MatchOption found
         (HasNoCycle (index_view index.now))
         (λ round. IsFirstCycle (index_view index.now) round.first round.way)) }
+    ensures there { IfOk result (λ found. IfSome found (λ round. IsSome (world.assignment (index_view index.now) round.first))) }
 {
     let places = places_of(alloc, index.modules.items())?;
     match ring_of(alloc, index, places.as_slice())? {

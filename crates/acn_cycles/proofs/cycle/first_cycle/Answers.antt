@@ -10,7 +10,7 @@ use Rattle.acn_names.specs.Cycles.{IsFirstCycle}
 use Rattle.acn_names.specs.declared.sources.TypeId.{TypeId}
 use Rattle.acn_cycles.specs.Numbers.{places_at}
 use Rattle.acn_cycles.proofs.Places.{small_items}
-use Rattle.acn_cycles.proofs.Transport.{no_cycle, first_cycle, node_stands}
+use Rattle.acn_cycles.proofs.Transport.{no_cycle, first_cycle, node_stands, cyclic_there}
 use Rattle.acn_cycles.proofs.cycle.first_cycle.Goals as goal
 
 pub places_of-requires-clause-small : goal.places_of-requires-clause-small
@@ -20,8 +20,8 @@ pub ring_of-requires : goal.ring_of-requires
 unfolding places
 ring_of-requires c = c.as_slice.ensures.value ∙ (c.in_ok-places.ensures {u = tt} ∙ ap (λ (ms : List AsnModule). flat_map module_places (enumerate_from 0 (map module_view ms))) c.items.ensures)
 
-pub returns-in-None : goal.returns-in-None
-returns-in-None c = no_cycle (index_view c.args.index.now) (rw c.in-None.is at (c.in_ok-ring_of.ensures {u = tt}))
+pub returns-in-None-clause-exact : goal.returns-in-None-clause-exact
+returns-in-None-clause-exact c = no_cycle (index_view c.args.index.now) (rw c.in-None.is at (c.in_ok-ring_of.ensures {u = tt}))
 
 pub index-first-requires : goal.index-first-requires
 unfolding places
@@ -32,9 +32,9 @@ index-first-requires c =
     let size : length c.in_ok-places.places.items ≡ length (places (index_view c.args.index.now)) = ap length all in
     omega (arith, c.in_ok-places.places.ok.0)
 
-pub returns : goal.returns
+pub returns-clause-exact : goal.returns-clause-exact
 unfolding places
-returns c =
+returns-clause-exact c =
     let w = index_view c.args.index.now in
     let ring = rw c.in-Some.is at (c.in_ok-ring_of.ensures {u = tt}) in
     let all : c.in_ok-places.places.items ≡ places w = c.in_ok-places.ensures {u = tt} ∙ ap (λ (ms : List AsnModule). flat_map module_places (enumerate_from 0 (map module_view ms))) c.items.ensures in
@@ -45,3 +45,6 @@ returns c =
     let way : c.in_ok-way-in-Some.way ≡ places_at (places w) c.in-Some.ring.way =
     c.in_ok-way-in-Some.ensures {u = tt} ∙ (ap (λ (ps : List TypeId). places_at ps c.items-in-Some.result.now) (c.as_slice-in-Some.ensures.value ∙ all) ∙ ap (λ (ns : List ℕ). places_at (places w) ns) c.items-in-Some.ensures) in
     subst (λ (ps : List TypeId). IsFirstCycle w c.index-first.result.now ps) (sym way) (first_cycle w c.in-Some.ring.first c.in-Some.ring.way c.index-first.result.now ring stands)
+
+pub returns-clause-there : goal.returns-clause-there
+returns-clause-there c = cyclic_there (index_view c.args.index.now) c.index-first.result.now c.in_ok-way-in-Some.way (returns-clause-exact c)
