@@ -12,10 +12,10 @@ loop-file-preserved c =
     let here = weight (map module_view c.file-item.result.modules) in
     let rest = weight (asn_modules (drop (suc c.loop-file.file-index) c.args.files.now)) in
     let opened = file_opened c.args.files.now c.loop-file.file-index c.file-item.result c.loop-file-test.true c.file-item.is in
-    let added = c.weigh.ensures ∙ ap (λ (ms : List AsnModule). min (c.loop-file.all + weight (map module_view ms)) 4294967296) c.items.ensures in
+    let added = c.weigh-all.ensures ∙ ap (λ (ms : List AsnModule). min (c.loop-file.all + weight (map module_view ms)) 4294967296) c.items.ensures in
     let told = ap (λ (n : ℕ). min (c.loop-file.all + n) 4294967296) (sym opened) ∙ c.loop-file.invariant.told in
     record {
-      within = omega (arith, c.weigh.ensures);
-      told = subst (λ (n : ℕ). min (c.weigh.result + weight (asn_modules (drop n c.args.files.now))) 4294967296 ≡ min (weight (asn_modules c.args.files.now)) 4294967296) on
-        (capped_more c.loop-file.all c.weigh.result here rest _ added told);
+      within = omega (arith, c.weigh-all.ensures);
+      told = subst (λ (n : ℕ). min (c.weigh-all.result + weight (asn_modules (drop n c.args.files.now))) 4294967296 ≡ min (weight (asn_modules c.args.files.now)) 4294967296) on
+        (capped_more c.loop-file.all c.weigh-all.result here rest _ added told);
     }
