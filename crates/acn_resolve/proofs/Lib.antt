@@ -1,1 +1,4 @@
 pub mod TwiceTypes
+pub mod Weights
+pub mod Named
+pub mod Faulty

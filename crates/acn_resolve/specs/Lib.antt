@@ -1,2 +1,4 @@
 pub mod Named
 pub mod Blamed
+pub mod Few
+pub mod Rounds

@@ -3,11 +3,13 @@
 
 mod blame;
 mod early;
+mod few;
 mod gathering;
 mod lists;
 mod missing;
 mod repeated;
 mod repeated_acn;
+mod resolving;
 mod seen;
 mod twice_types;
 mod unknown;
@@ -15,5 +17,7 @@ mod unknown_acn;
 mod wrong;
 
 pub use early::early_fault;
+pub use few::are_few;
 pub use gathering::gather;
+pub use resolving::resolve;
 pub use wrong::late_fault;

@@ -1,0 +1,106 @@
+ghost use Rattle.std.specs.Prelude.{◌≡◌, ◌<◌, ◌++◌, length, map, flat_map, slice_get, IfOk, OnOk};
+ghost use Rattle.std.specs.List.{enumerate_from};
+ghost use Rattle.acn_asn_syntax.specs.View.{module_view, assign_view};
+ghost use Rattle.acn_names.specs.World.{place, module_places};
+ghost use Rattle.acn_cycles.specs.Numbers as spec;
+
+use acn_asn_syntax::{AsnModule, Assign};
+use acn_names::TypeId;
+use acn_num::{NoMemory, Row};
+use std::alloc::Global;
+
+/// The number of the first assignment of each module.
+pub fn starts_of(alloc: Global, modules: &[AsnModule]) -> Result<Vec<usize>, NoMemory>
+    requires { length (flat_map (λ m. m.items) (map module_view modules.now)) < 4294967296 }
+    ensures { IfOk result (λ firsts. firsts.items ≡ spec.starts_from 0 (map module_view modules.now)) }
+{
+    let mut firsts = Vec::new(alloc);
+    let mut next: usize = 0;
+    for owner in modules {
+        firsts.push(next)?;
+        next += owner.items.items().len();
+    }
+    Ok(firsts)
+}
+
+// Adds the places of the assignments of a module.
+fn push_places(module: u32, items: &[Assign], all: &mut Vec<TypeId>) -> Result<(), NoMemory>
+    requires { length items.now < 4294967296 }
+    ensures { OnOk result (all.new.items ≡ all.old.items ++ map (λ a. place «module» a.0) (enumerate_from 0 (map assign_view items.now))) }
+{
+    for (i, _item) in items.iter().enumerate() {
+        all.push(TypeId {
+            module,
+            item: i as u32,
+        })?;
+    }
+    Ok(())
+}
+
+/// The places of all assignments, in the order of the text.
+pub fn places_of(alloc: Global, modules: &[AsnModule]) -> Result<Vec<TypeId>, NoMemory>
+    requires few { length modules.now < 4294967296 }
+    requires small { length (flat_map (λ m. m.items) (map module_view modules.now)) < 4294967296 }
+    ensures { IfOk result (λ all. all.items ≡ flat_map module_places (enumerate_from 0 (map module_view modules.now))) }
+{
+    let mut all = Vec::new(alloc);
+    for (k, owner) in modules.iter().enumerate() {
+        push_places(k as u32, owner.items.items(), &mut all)?;
+    }
+    Ok(all)
+}
+
+// The number of an assignment.
+fn number_in(firsts: &[usize], place: TypeId) -> usize
+    requires { spec.AreSmall firsts.now }
+    ensures { result ≡ spec.number_in firsts.now place }
+{
+    match firsts.get(place.module as usize) {
+        None => place.item as usize,
+        Some(first) => *first + place.item as usize,
+    }
+}
+
+/// The numbers of assignments.
+pub fn numbers_in(
+    alloc: Global,
+    firsts: &[usize],
+    places: &[TypeId],
+) -> Result<Row<usize>, NoMemory>
+    requires { spec.AreSmall firsts.now }
+    ensures { IfOk result (λ row. row ≡ map (spec.number_in firsts.now) places.now) }
+{
+    let mut all = Vec::new(alloc);
+    for place in places {
+        all.push(number_in(firsts, *place))?;
+    }
+    Ok(Row::from_vec(all))
+}
+
+// The assignment with this number.
+fn place_at(places: &[TypeId], number: usize) -> Option<TypeId>
+    ensures { result ≡ slice_get places.now number }
+{
+    match places.get(number) {
+        None => None,
+        Some(place) => Some(*place),
+    }
+}
+
+/// The assignments with these numbers.
+pub fn places_at(
+    alloc: Global,
+    places: &[TypeId],
+    numbers: &[usize],
+) -> Result<Row<TypeId>, NoMemory>
+    ensures { IfOk result (λ row. row ≡ spec.places_at places.now numbers.now) }
+{
+    let mut all = Vec::new(alloc);
+    for number in numbers {
+        match place_at(places, *number) {
+            None => {}
+            Some(place) => all.push(place)?,
+        }
+    }
+    Ok(Row::from_vec(all))
+}
