@@ -1,4 +1,3 @@
-pub mod TwiceTypes
-pub mod Weights
-pub mod Named
 pub mod Faulty
+pub mod Named
+pub mod Weights

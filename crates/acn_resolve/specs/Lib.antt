@@ -1,4 +1,2 @@
-pub mod Named
-pub mod Blamed
 pub mod Few
 pub mod Rounds

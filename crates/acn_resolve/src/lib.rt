@@ -1,17 +1,11 @@
 //! Resolves the names of the sources: the index of what they say, and the first fault of a name.
 #![tactic(auto)]
 
-mod blame;
 mod early;
 mod few;
 mod gathering;
-mod lists;
 mod missing;
-mod repeated;
-mod repeated_acn;
 mod resolving;
-mod seen;
-mod twice_types;
 mod unknown;
 mod unknown_acn;
 mod wrong;

@@ -4,15 +4,15 @@ ghost use Rattle.acn_acn_syntax.specs.View.{module_of};
 ghost use Rattle.acn_names.specs.Views.{index_view};
 ghost use Rattle.acn_names.specs.Repeated.{when};
 ghost use Rattle.acn_names.specs.Unknown as spec;
-ghost use Rattle.acn_resolve.specs.Named.{names_view};
-ghost use Rattle.acn_resolve.specs.Blamed.{blames_view};
+ghost use Rattle.acn_repeated.specs.Named.{names_view};
+ghost use Rattle.acn_repeated.specs.Blamed.{blames_view};
 
-use crate::blame::{Blame, Kind, push_blames};
 use acn_acn_syntax::AcnModule;
 use acn_asn_syntax::{AsnModule, Import};
 use acn_names::index::Index;
 use acn_names::lookup::{imports_of, module_named};
 use acn_num::{Name, NoMemory};
+use acn_repeated::{Blame, Kind, push_blames};
 use std::alloc::Global;
 
 // Adds the name, where no ASN.1 module has it.

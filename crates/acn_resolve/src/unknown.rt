@@ -6,10 +6,9 @@ ghost use Rattle.acn_names.specs.Mentioned.{mention_view, mentions_view, governo
 ghost use Rattle.acn_names.specs.Mentions as mentions;
 ghost use Rattle.acn_names.specs.Repeated as repeated;
 ghost use Rattle.acn_names.specs.Unknown as spec;
-ghost use Rattle.acn_resolve.specs.Named.{names_view};
-ghost use Rattle.acn_resolve.specs.Blamed.{blames_view};
+ghost use Rattle.acn_repeated.specs.Named.{names_view};
+ghost use Rattle.acn_repeated.specs.Blamed.{blames_view};
 
-use crate::blame::{Blame, Kind, push_blames};
 use acn_asn_syntax::{AsnBase, AsnModule, AsnType, AsnValue, Assign, Import, Item, Named};
 use acn_names::chain::{Link, base_of};
 use acn_names::index::Index;
@@ -18,6 +17,7 @@ use acn_names::mention::Mention;
 use acn_names::references::{type_named, value_named};
 use acn_names::type_mentions::push_type;
 use acn_num::{Name, NoMemory, Row};
+use acn_repeated::{Blame, Kind, push_blames};
 use std::alloc::Global;
 
 // Whether one of the named numbers has this name.

@@ -5,10 +5,9 @@ ghost use Rattle.acn_names.specs.AcnMentioned.{acn_mention_view, acn_mentions_vi
 ghost use Rattle.acn_names.specs.Unknown as spec;
 ghost use Rattle.acn_names.specs.Repeated.{when};
 ghost use Rattle.acn_names.specs.Lookup.{type_in};
-ghost use Rattle.acn_resolve.specs.Named.{names_view};
-ghost use Rattle.acn_resolve.specs.Blamed.{blames_view};
+ghost use Rattle.acn_repeated.specs.Named.{names_view};
+ghost use Rattle.acn_repeated.specs.Blamed.{blames_view};
 
-use crate::blame::{Blame, Kind, push_blames};
 use acn_acn_syntax::{AcnEntry, AcnModule};
 use acn_names::TypeId;
 use acn_names::acn_mentions::{AcnMention, push_entry};
@@ -16,6 +15,7 @@ use acn_names::index::Index;
 use acn_names::lookup::module_named;
 use acn_names::references::{table_named, type_in, type_named};
 use acn_num::{Name, NoMemory};
+use acn_repeated::{Blame, Kind, push_blames};
 use std::alloc::Global;
 
 /// The type to which a reference in the ACN module with a name leads.

@@ -9,10 +9,9 @@ ghost use Rattle.acn_names.specs.Repeated.{when};
 ghost use Rattle.acn_names.specs.Unknown.{mention_name, acn_mention_name};
 ghost use Rattle.acn_names.specs.Cycles as spec;
 ghost use Rattle.acn_names.specs.Faults.{first};
-ghost use Rattle.acn_resolve.specs.Named.{names_view};
-ghost use Rattle.acn_resolve.specs.Blamed.{blames_view};
+ghost use Rattle.acn_repeated.specs.Named.{names_view};
+ghost use Rattle.acn_repeated.specs.Blamed.{blames_view};
 
-use crate::blame::{Blame, Kind, push_blames};
 use crate::early::first_fault;
 use crate::unknown::{is_governed, mention_name, push_assign};
 use crate::unknown_acn::{acn_mention_name, acn_type_named};
@@ -25,6 +24,7 @@ use acn_names::index::Index;
 use acn_names::mention::{Mention, Role};
 use acn_names::values::leads_to_number;
 use acn_num::{Name, NoMemory};
+use acn_repeated::{Blame, Kind, push_blames};
 use std::alloc::Global;
 
 // Whether the type is INTEGER.

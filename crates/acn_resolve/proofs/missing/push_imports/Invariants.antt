@@ -2,7 +2,7 @@ use Rattle.std.proofs.Common.{◌≡◌, drop, ◌++◌}
 use Rattle.acn_names.specs.Views.{index_view}
 use Rattle.std.specs.Prelude.{map, flat_map}
 use Rattle.acn_names.specs.Repeated.{when}
-use Rattle.acn_resolve.specs.Named.{names_view}
+use Rattle.acn_repeated.specs.Named.{names_view}
 use Rattle.acn_names.specs.Unknown.{is_no_module}
 use Rattle.acn_resolve.proofs.missing.push_imports.Given as goal
 

@@ -1,7 +1,7 @@
 use Rattle.std.proofs.Common.{◌≡◌, drop, ◌++◌}
 use Rattle.acn_names.specs.Views.{index_view}
 use Rattle.std.specs.Prelude.{map, flat_map}
-use Rattle.acn_resolve.specs.Blamed.{blames_view}
+use Rattle.acn_repeated.specs.Blamed.{blames_view}
 use Rattle.acn_names.specs.Unknown.{missing_of, import_modules}
 use Rattle.acn_asn_syntax.specs.View.{module_view}
 use Rattle.acn_resolve.proofs.missing.push_missing_modules.Given as goal

@@ -1,6 +1,6 @@
 use Rattle.std.proofs.Common.{◌≡◌, drop, ◌++◌}
 use Rattle.acn_names.specs.Views.{index_view}
-use Rattle.acn_resolve.specs.Named.{names_view}
+use Rattle.acn_repeated.specs.Named.{names_view}
 use Rattle.std.specs.Prelude.{map, flat_map}
 use Rattle.acn_asn_syntax.specs.View.{assign_view}
 use Rattle.acn_names.specs.Mentions.{assign_mentions}

@@ -1,6 +1,6 @@
 use Rattle.std.proofs.Common.{◌≡◌, drop, ◌++◌}
 use Rattle.acn_names.specs.Views.{index_view}
-use Rattle.acn_resolve.specs.Named.{names_view}
+use Rattle.acn_repeated.specs.Named.{names_view}
 use Rattle.acn_names.specs.Mentioned.{mentions_view}
 use Rattle.acn_names.specs.Unknown.{unknown_mentions}
 use Rattle.acn_resolve.proofs.unknown.push_mentions.Given as goal

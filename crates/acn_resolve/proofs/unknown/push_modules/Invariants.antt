@@ -4,7 +4,7 @@ use Rattle.std.specs.Prelude.{map, flat_map}
 use Rattle.std.specs.List.{enumerate_from}
 use Rattle.acn_asn_syntax.specs.View.{module_view}
 use Rattle.acn_names.specs.Unknown.{unknown_of, unknown_in}
-use Rattle.acn_resolve.specs.Blamed.{blames_view}
+use Rattle.acn_repeated.specs.Blamed.{blames_view}
 use Rattle.acn_resolve.proofs.unknown.push_modules.Given as goal
 
 abbrev pub invariant-loop-k : goal.invariant-loop-k

@@ -1,7 +1,7 @@
 use Rattle.std.proofs.Common.{◌≡◌, drop, ◌++◌}
 use Rattle.acn_names.specs.Views.{index_view}
 use Rattle.std.specs.Prelude.{map, flat_map}
-use Rattle.acn_resolve.specs.Named.{names_view}
+use Rattle.acn_repeated.specs.Named.{names_view}
 use Rattle.acn_names.specs.Unknown.{entry_unknown}
 use Rattle.acn_acn_syntax.specs.View.{entry_of}
 use Rattle.acn_resolve.proofs.unknown_acn.push_entries.Given as goal

@@ -1,7 +1,7 @@
 use Rattle.std.proofs.Common.{◌≡◌, drop, ◌++◌}
 use Rattle.acn_names.specs.Views.{index_view}
 use Rattle.std.specs.Prelude.{map, flat_map}
-use Rattle.acn_resolve.specs.Blamed.{blames_view}
+use Rattle.acn_repeated.specs.Blamed.{blames_view}
 use Rattle.acn_names.specs.Cycles.{wrong_of, acn_wrong_in}
 use Rattle.acn_acn_syntax.specs.View.{module_of}
 use Rattle.acn_resolve.proofs.wrong.push_acn_modules.Given as goal

@@ -1,7 +1,7 @@
 use Rattle.std.proofs.Common.{◌≡◌, drop, ◌++◌}
 use Rattle.acn_names.specs.Views.{index_view}
 use Rattle.std.specs.Prelude.{map, flat_map}
-use Rattle.acn_resolve.specs.Named.{names_view}
+use Rattle.acn_repeated.specs.Named.{names_view}
 use Rattle.acn_names.specs.Cycles.{wrong_in}
 use Rattle.acn_asn_syntax.specs.View.{assign_view}
 use Rattle.acn_resolve.proofs.wrong.push_items.Given as goal

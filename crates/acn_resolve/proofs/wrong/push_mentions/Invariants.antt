@@ -3,7 +3,7 @@ use Rattle.acn_names.specs.Views.{index_view}
 use Rattle.std.specs.Prelude.{flat_map}
 use Rattle.acn_names.specs.Repeated.{when}
 use Rattle.acn_names.specs.Mentioned.{mentions_view}
-use Rattle.acn_resolve.specs.Named.{names_view}
+use Rattle.acn_repeated.specs.Named.{names_view}
 use Rattle.acn_names.specs.Unknown.{mention_name}
 use Rattle.acn_names.specs.Cycles.{is_wrong}
 use Rattle.acn_resolve.proofs.wrong.push_mentions.Given as goal

@@ -2,7 +2,7 @@ use Rattle.std.proofs.Common.{◌≡◌, drop, ◌++◌}
 use Rattle.acn_names.specs.Views.{index_view}
 use Rattle.std.specs.Prelude.{map, flat_map}
 use Rattle.std.specs.List.{enumerate_from}
-use Rattle.acn_resolve.specs.Blamed.{blames_view}
+use Rattle.acn_repeated.specs.Blamed.{blames_view}
 use Rattle.acn_names.specs.Cycles.{wrong_in, wrong_of}
 use Rattle.acn_asn_syntax.specs.View.{module_view}
 use Rattle.acn_resolve.proofs.wrong.push_modules.Given as goal
