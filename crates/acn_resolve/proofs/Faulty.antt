@@ -31,12 +31,12 @@ module _ (w : World) where
   pub made : (p : TypeId) (way : List TypeId) (owner own : Name) (owners names : Option Name) → owners ≡ module_name_at w p → names ≡ name_at w p → owners ≡ Some owner → names ≡ Some own
       → (m n : Name) (all : List Name) → m ≡ owner → n ≡ own → all ≡ names_at w way → IsCycleFault w p way (fault.Cycle m n all)
   made p way owner own owners names e f g h m n all i j k = record {
-      owner = owner;
-      name = own;
-      of_module = sym e ∙ g;
-      own = sym f ∙ h;
-      is = ap (λ (x : Name). fault.Cycle x n all) i ∙ (ap (λ (x : Name). fault.Cycle owner x all) j ∙ ap (λ (x : List Name). fault.Cycle owner own x) k);
-    }
+    owner = owner;
+    name = own;
+    of_module = sym e ∙ g;
+    own = sym f ∙ h;
+    is = ap (λ (x : Name). fault.Cycle x n all) i ∙ (ap (λ (x : Name). fault.Cycle owner x all) j ∙ ap (λ (x : List Name). fault.Cycle owner own x) k);
+  }
 
 pub copied_there : (r : Option (Bor num.Name)) (o : Option Name) → option_copied r ≡ o → IsSome o → IsSome r
 copied_there None o e h = rw (sym e) at h

@@ -17,5 +17,5 @@ loop-file-preserved c =
     record {
       within = omega (arith, c.weigh-all.ensures);
       told = subst (λ (n : ℕ). min (c.weigh-all.result + weight (asn_modules (drop n c.args.files.now))) 4294967296 ≡ min (weight (asn_modules c.args.files.now)) 4294967296) on
-        (capped_more c.loop-file.all c.weigh-all.result here rest _ added told);
+          (capped_more c.loop-file.all c.weigh-all.result here rest _ added told);
     }
