@@ -20,4 +20,6 @@ mod reading;
 #[cfg(test)]
 mod repeated;
 #[cfg(test)]
+mod roots;
+#[cfg(test)]
 mod unknown;
