@@ -33,10 +33,6 @@ fn characters_are_evaluated_inside_from(rt: HostRuntime) -> Result<(), Trouble> 
             "(SIZE (1..2) ^ FROM (\"a\"..\"c\") ^ FROM (\"b\"..\"d\"))",
             "98..99",
         ),
-        (
-            "(SIZE (1..4) EXCEPT SIZE (2) ^ FROM (\"a\"..\"c\"))",
-            "97..99",
-        ),
         ("(FROM (\"a\"\"b\"))", "34 97..98"),
         ("(FROM (\"\"\"\"))", "34"),
         ("(FROM (\" \"..\"~\"))", "32..126"),
@@ -50,6 +46,29 @@ fn characters_are_evaluated_inside_from(rt: HostRuntime) -> Result<(), Trouble> 
             "v IA5String ::= \"abc\" to-v IA5String ::= v
             first IA5String ::= \"f\" T ::= IA5String {text}"
         )?;
+        assert_eq!(rt; characters(alloc, whole.as_str())?.as_str(), want, "{text}");
+    }
+    Ok(())
+}
+
+#[test]
+fn a_part_of_sizes_alone_leaves_all_characters(rt: HostRuntime) -> Result<(), Trouble> {
+    for (text, want) in [
+        ("(SIZE (1) | SIZE (3))", "0..127"),
+        ("(SIZE (1..4) ^ SIZE (2..9))", "0..127"),
+        ("(SIZE (1..4) EXCEPT SIZE (2))", "0..127"),
+        ("(SIZE (9) | (SIZE (1..4) EXCEPT SIZE (2)))", "0..127"),
+        (
+            "(SIZE (1..4) EXCEPT SIZE (2) ^ FROM (\"a\"..\"c\"))",
+            "97..99",
+        ),
+        (
+            "(FROM (\"a\"..\"c\"))(SIZE (1..4) EXCEPT SIZE (2))",
+            "97..99",
+        ),
+    ] {
+        let alloc = rt.alloc();
+        let whole = format!(in alloc; "T ::= IA5String {text}")?;
         assert_eq!(rt; characters(alloc, whole.as_str())?.as_str(), want, "{text}");
     }
     Ok(())
