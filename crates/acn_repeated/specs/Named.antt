@@ -3,10 +3,6 @@ use Rattle.std.specs.Prelude.{List, map}
 use Rattle.std.specs.Borrow.{Bor}
 use Rattle.acn_names.specs.World.{Name}
 use Rattle.acn_num.specs.declared.name.Name as num
-use Rattle.acn_repeated.specs.declared.seen.Seen.{Seen}
 
 abbrev pub names_view : List (Bor num.Name) → List Name
 names_view names = map (λ (n : Bor num.Name). n.now) names
-
-abbrev pub seen_view : Seen → List Name
-seen_view s = names_view s.names.items

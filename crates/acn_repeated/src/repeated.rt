@@ -2,12 +2,12 @@ ghost use Rattle.std.specs.Prelude.{◌≡◌, [], ◌∷◌, ◌++◌, map, OnO
 ghost use Rattle.acn_asn_syntax.specs.View.{assign_view, module_view, type_view};
 ghost use Rattle.acn_names.specs.World as world;
 ghost use Rattle.acn_names.specs.Repeated as spec;
-ghost use Rattle.acn_repeated.specs.Named.{names_view, seen_view};
+ghost use Rattle.acn_repeated.specs.Named.{names_view};
 ghost use Rattle.acn_repeated.specs.Blamed.{blames_view};
 
 use crate::blame::{Blame, Kind, push_blames};
 use crate::lists::push_imports;
-use crate::seen::{Seen, push_again, push_repeated, see};
+use crate::seen::{Seen, nothing_seen, push_again, push_repeated_behind, see};
 use crate::twice_types::push_twice;
 use acn_asn_syntax::{AsnModule, AsnType, Assign};
 use acn_names::lookup::imports_of;
@@ -32,8 +32,8 @@ fn push_twice_assign<'t>(
     seen: &mut Seen<'t>,
     all: &mut Vec<&'t Name>,
 ) -> Result<(), NoMemory>
-    ensures all { OnOk result (names_view all.new.items ≡ names_view all.old.items ++ (spec.again (world.name_of (assign_view item.now)) (seen_view seen.old) ++ spec.twice (world.type_of_assign (assign_view item.now)))) }
-    ensures seen { OnOk result (seen_view seen.new ≡ seen_view seen.old ++ world.name_of (assign_view item.now) ∷ []) }
+    ensures all { OnOk result (names_view all.new.items ≡ names_view all.old.items ++ (spec.again (world.name_of (assign_view item.now)) seen.old ++ spec.twice (world.type_of_assign (assign_view item.now)))) }
+    ensures seen { OnOk result (seen.new ≡ seen.old ++ world.name_of (assign_view item.now) ∷ []) }
 {
     push_again(name_of(item), seen, all)?;
     push_twice(alloc, type_of(item), all)?;
@@ -49,7 +49,7 @@ fn push_twice_assigns<'t>(
     seen: &mut Seen<'t>,
     all: &mut Vec<&'t Name>,
 ) -> Result<(), NoMemory>
-    ensures { OnOk result (names_view all.new.items ≡ names_view all.old.items ++ spec.twice_items (seen_view seen.old) (map assign_view items.now)) }
+    ensures { OnOk result (names_view all.new.items ≡ names_view all.old.items ++ spec.twice_items seen.old (map assign_view items.now)) }
 {
     for item in items {
         push_twice_assign(alloc, item, seen, all)?;
@@ -68,8 +68,8 @@ fn push_twice_module<'t>(
 {
     let mut names = Vec::new(alloc);
     push_imports(imports_of(owner), &mut names)?;
-    push_repeated(alloc, names.as_slice(), all)?;
-    let mut seen = Seen { names };
+    let mut seen = nothing_seen(alloc);
+    push_repeated_behind(names.as_slice(), &mut seen, all)?;
     push_twice_assigns(alloc, owner.items.items(), &mut seen, all)?;
     Ok(())
 }
@@ -81,8 +81,8 @@ fn push_module<'t>(
     seen: &mut Seen<'t>,
     all: &mut Vec<Blame<'t>>,
 ) -> Result<(), NoMemory>
-    ensures all { OnOk result (blames_view all.new.items ≡ blames_view all.old.items ++ spec.repeats_of owner.now.name (spec.again owner.now.name (seen_view seen.old) ++ spec.twice_module (module_view owner.now))) }
-    ensures seen { OnOk result (seen_view seen.new ≡ seen_view seen.old ++ owner.now.name ∷ []) }
+    ensures all { OnOk result (blames_view all.new.items ≡ blames_view all.old.items ++ spec.repeats_of owner.now.name (spec.again owner.now.name seen.old ++ spec.twice_module (module_view owner.now))) }
+    ensures seen { OnOk result (seen.new ≡ seen.old ++ owner.now.name ∷ []) }
 {
     let mut names = Vec::new(alloc);
     push_again(&owner.name, seen, &mut names)?;
@@ -100,7 +100,7 @@ pub fn push_modules<'t>(
     seen: &mut Seen<'t>,
     all: &mut Vec<Blame<'t>>,
 ) -> Result<(), NoMemory>
-    ensures { OnOk result (blames_view all.new.items ≡ blames_view all.old.items ++ spec.asn_repeats (seen_view seen.old) (map module_view modules.now)) }
+    ensures { OnOk result (blames_view all.new.items ≡ blames_view all.old.items ++ spec.asn_repeats seen.old (map module_view modules.now)) }
 {
     for owner in modules {
         push_module(alloc, owner, seen, all)?;

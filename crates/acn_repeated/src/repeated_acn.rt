@@ -1,7 +1,7 @@
 ghost use Rattle.std.specs.Prelude.{◌≡◌, [], ◌∷◌, ◌++◌, map, OnOk, IfOk};
 ghost use Rattle.acn_acn_syntax.specs.View.{field_of, fields_view, braces_view, entry_of, module_of};
 ghost use Rattle.acn_names.specs.Repeated as spec;
-ghost use Rattle.acn_repeated.specs.Named.{names_view, seen_view};
+ghost use Rattle.acn_repeated.specs.Named.{names_view};
 ghost use Rattle.acn_repeated.specs.Blamed.{blames_view};
 
 use crate::blame::{Blame, Kind, push_blames};
@@ -20,8 +20,8 @@ fn push_twice_field<'t>(
     seen: &mut Seen<'t>,
     all: &mut Vec<&'t Name>,
 ) -> Result<(), NoMemory>
-    ensures all { OnOk result (names_view all.new.items ≡ names_view all.old.items ++ (spec.again (spec.field_name (field_of field.now)) (seen_view seen.old) ++ spec.twice_field (field_of field.now))) }
-    ensures seen { OnOk result (seen_view seen.new ≡ seen_view seen.old ++ spec.field_name (field_of field.now) ∷ []) }
+    ensures all { OnOk result (names_view all.new.items ≡ names_view all.old.items ++ (spec.again (spec.field_name (field_of field.now)) seen.old ++ spec.twice_field (field_of field.now))) }
+    ensures seen { OnOk result (seen.new ≡ seen.old ++ spec.field_name (field_of field.now) ∷ []) }
 {
     match field {
         AcnField::Plain { name, fields, .. } => {
@@ -58,7 +58,7 @@ fn push_twice_fields<'t>(
     seen: &mut Seen<'t>,
     all: &mut Vec<&'t Name>,
 ) -> Result<(), NoMemory>
-    ensures { OnOk result (names_view all.new.items ≡ names_view all.old.items ++ spec.twice_fields (seen_view seen.old) (fields_view fields.now)) }
+    ensures { OnOk result (names_view all.new.items ≡ names_view all.old.items ++ spec.twice_fields seen.old (fields_view fields.now)) }
 {
     for field in fields {
         push_twice_field(alloc, field, seen, all)?;
@@ -93,8 +93,8 @@ fn push_twice_entry<'t>(
     seen: &mut Seen<'t>,
     all: &mut Vec<&'t Name>,
 ) -> Result<(), NoMemory>
-    ensures all { OnOk result (names_view all.new.items ≡ names_view all.old.items ++ (spec.again entry.now.name (seen_view seen.old) ++ spec.twice_entry (entry_of entry.now))) }
-    ensures seen { OnOk result (seen_view seen.new ≡ seen_view seen.old ++ entry.now.name ∷ []) }
+    ensures all { OnOk result (names_view all.new.items ≡ names_view all.old.items ++ (spec.again entry.now.name seen.old ++ spec.twice_entry (entry_of entry.now))) }
+    ensures seen { OnOk result (seen.new ≡ seen.old ++ entry.now.name ∷ []) }
 {
     push_again(&entry.name, seen, all)?;
     push_twice_parameters(alloc, entry.parameters.items(), all)?;
@@ -111,7 +111,7 @@ fn push_twice_entries<'t>(
     seen: &mut Seen<'t>,
     all: &mut Vec<&'t Name>,
 ) -> Result<(), NoMemory>
-    ensures { OnOk result (names_view all.new.items ≡ names_view all.old.items ++ spec.twice_entries (seen_view seen.old) (map entry_of entries.now)) }
+    ensures { OnOk result (names_view all.new.items ≡ names_view all.old.items ++ spec.twice_entries seen.old (map entry_of entries.now)) }
 {
     for entry in entries {
         push_twice_entry(alloc, entry, seen, all)?;
@@ -126,8 +126,8 @@ fn push_acn_module<'t>(
     seen: &mut Seen<'t>,
     all: &mut Vec<Blame<'t>>,
 ) -> Result<(), NoMemory>
-    ensures all { OnOk result (blames_view all.new.items ≡ blames_view all.old.items ++ spec.repeats_of owner.now.name (spec.again owner.now.name (seen_view seen.old) ++ spec.twice_entries [] (module_of owner.now).entries)) }
-    ensures seen { OnOk result (seen_view seen.new ≡ seen_view seen.old ++ owner.now.name ∷ []) }
+    ensures all { OnOk result (blames_view all.new.items ≡ blames_view all.old.items ++ spec.repeats_of owner.now.name (spec.again owner.now.name seen.old ++ spec.twice_entries [] (module_of owner.now).entries)) }
+    ensures seen { OnOk result (seen.new ≡ seen.old ++ owner.now.name ∷ []) }
 {
     let mut names = Vec::new(alloc);
     push_again(&owner.name, seen, &mut names)?;
@@ -146,7 +146,7 @@ pub fn push_acn_modules<'t>(
     seen: &mut Seen<'t>,
     all: &mut Vec<Blame<'t>>,
 ) -> Result<(), NoMemory>
-    ensures { OnOk result (blames_view all.new.items ≡ blames_view all.old.items ++ spec.acn_repeats (seen_view seen.old) (map module_of modules.now)) }
+    ensures { OnOk result (blames_view all.new.items ≡ blames_view all.old.items ++ spec.acn_repeats seen.old (map module_of modules.now)) }
 {
     for owner in modules {
         push_acn_module(alloc, owner, seen, all)?;

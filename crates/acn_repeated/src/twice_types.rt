@@ -1,7 +1,7 @@
 ghost use Rattle.std.specs.Prelude.{◌≡◌, [], ◌∷◌, ◌++◌, map, OnOk, Option, Some, None, option_map};
 ghost use Rattle.acn_asn_syntax.specs.View.{type_view, base_view, constraint_view, component_view, alternative_view, components_of, alternatives_of, constraints_of};
 ghost use Rattle.acn_names.specs.Repeated as spec;
-ghost use Rattle.acn_repeated.specs.Named.{names_view, seen_view};
+ghost use Rattle.acn_repeated.specs.Named.{names_view};
 
 use crate::lists::{push_twice_items, push_twice_named};
 use crate::seen::{Seen, nothing_seen, push_again, see};
@@ -68,7 +68,7 @@ fn push_twice_components<'t>(
     seen: &mut Seen<'t>,
     all: &mut Vec<&'t Name>,
 ) -> Result<(), NoMemory>
-    ensures { OnOk result (names_view all.new.items ≡ names_view all.old.items ++ spec.twice_components (seen_view seen.old) (components_of (map component_view components.now))) }
+    ensures { OnOk result (names_view all.new.items ≡ names_view all.old.items ++ spec.twice_components seen.old (components_of (map component_view components.now))) }
 {
     for component in components {
         push_twice_component(alloc, component, seen, all)?;
@@ -85,8 +85,8 @@ fn push_twice_component<'t>(
     seen: &mut Seen<'t>,
     all: &mut Vec<&'t Name>,
 ) -> Result<(), NoMemory>
-    ensures all { OnOk result (names_view all.new.items ≡ names_view all.old.items ++ (spec.again (component_view component.now).name (seen_view seen.old) ++ spec.twice (component_view component.now).of)) }
-    ensures seen { OnOk result (seen_view seen.new ≡ seen_view seen.old ++ (component_view component.now).name ∷ []) }
+    ensures all { OnOk result (names_view all.new.items ≡ names_view all.old.items ++ (spec.again (component_view component.now).name seen.old ++ spec.twice (component_view component.now).of)) }
+    ensures seen { OnOk result (seen.new ≡ seen.old ++ (component_view component.now).name ∷ []) }
 {
     push_again(&component.name, seen, all)?;
     push_twice(alloc, &component.of, all)?;
@@ -103,7 +103,7 @@ fn push_twice_alternatives<'t>(
     seen: &mut Seen<'t>,
     all: &mut Vec<&'t Name>,
 ) -> Result<(), NoMemory>
-    ensures { OnOk result (names_view all.new.items ≡ names_view all.old.items ++ spec.twice_alternatives (seen_view seen.old) (alternatives_of (map alternative_view alternatives.now))) }
+    ensures { OnOk result (names_view all.new.items ≡ names_view all.old.items ++ spec.twice_alternatives seen.old (alternatives_of (map alternative_view alternatives.now))) }
 {
     for alternative in alternatives {
         push_twice_alternative(alloc, alternative, seen, all)?;
@@ -120,8 +120,8 @@ fn push_twice_alternative<'t>(
     seen: &mut Seen<'t>,
     all: &mut Vec<&'t Name>,
 ) -> Result<(), NoMemory>
-    ensures all { OnOk result (names_view all.new.items ≡ names_view all.old.items ++ (spec.again (alternative_view alternative.now).name (seen_view seen.old) ++ spec.twice (alternative_view alternative.now).of)) }
-    ensures seen { OnOk result (seen_view seen.new ≡ seen_view seen.old ++ (alternative_view alternative.now).name ∷ []) }
+    ensures all { OnOk result (names_view all.new.items ≡ names_view all.old.items ++ (spec.again (alternative_view alternative.now).name seen.old ++ spec.twice (alternative_view alternative.now).of)) }
+    ensures seen { OnOk result (seen.new ≡ seen.old ++ (alternative_view alternative.now).name ∷ []) }
 {
     push_again(&alternative.name, seen, all)?;
     push_twice(alloc, &alternative.of, all)?;

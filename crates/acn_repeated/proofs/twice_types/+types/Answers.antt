@@ -3,7 +3,6 @@ use Rattle.acn_asn_syntax.specs.View.{base_view, constraint_view}
 use Rattle.acn_names.specs.Repeated.{twice, twice_base, twice_constraint}
 use Rattle.acn_names.proofs.Joined.{joined, nothing}
 use Rattle.acn_names.proofs.TypeViews.{view_Boolean, view_Null, view_OctetString, view_BitString, view_Ia5String, view_Ref, view_Set, view_Size}
-use Rattle.acn_repeated.specs.Named.{seen_view}
 use Rattle.acn_repeated.proofs.TwiceTypes.{opened_type, opened_list, opened_component, opened_alternative}
 use Rattle.acn_repeated.proofs.twice_types.+types.Goals as goal
 
@@ -42,10 +41,10 @@ push_twice-returns t c =
     joined _ _ _ _ _ _ (c.in_ok-push_twice_base.ensures {u = tt}) (rw c.items.ensures at (c.in_ok-push_twice_constraints.ensures {u = tt})) (opened_type c.args.of.now)
 
 pub push_twice_component-returns-clause-all : goal.push_twice_component-returns-clause-all
-push_twice_component-returns-clause-all t c = joined _ _ _ _ _ _ (c.in_ok-push_again.ensures {u = tt}) (c.in_ok-push_twice.ensures {u = tt}) (opened_component (seen_view c.args.seen.now) c.args.component.now)
+push_twice_component-returns-clause-all t c = joined _ _ _ _ _ _ (c.in_ok-push_again.ensures {u = tt}) (c.in_ok-push_twice.ensures {u = tt}) (opened_component c.args.seen.now c.args.component.now)
 
 pub push_twice_alternative-returns-clause-all : goal.push_twice_alternative-returns-clause-all
-push_twice_alternative-returns-clause-all t c = joined _ _ _ _ _ _ (c.in_ok-push_again.ensures {u = tt}) (c.in_ok-push_twice.ensures {u = tt}) (opened_alternative (seen_view c.args.seen.now) c.args.alternative.now)
+push_twice_alternative-returns-clause-all t c = joined _ _ _ _ _ _ (c.in_ok-push_again.ensures {u = tt}) (c.in_ok-push_twice.ensures {u = tt}) (opened_alternative c.args.seen.now c.args.alternative.now)
 
 pub push_twice_constraint-returns-in-Set : goal.push_twice_constraint-returns-in-Set
 unfolding twice_constraint
