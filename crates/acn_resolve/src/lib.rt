@@ -4,6 +4,7 @@
 mod early;
 mod few;
 mod gathering;
+mod laws;
 mod missing;
 mod resolving;
 mod unknown;
@@ -13,5 +14,6 @@ mod wrong;
 pub use early::early_fault;
 pub use few::are_few;
 pub use gathering::gather;
+pub use laws::each_named_value_is_found;
 pub use resolving::resolve;
 pub use wrong::late_fault;
