@@ -1,5 +1,6 @@
 -- What the constraints of a chain leave: numbers, sizes and characters, or the fault that is theirs.
 use Rattle.std.specs.Prelude.{ℕ, Bool, true, false, not, ◌||◌, List, [], ◌∷◌, ◌++◌, Option, Some, None, option_and_then, if◌then◌else◌, ℤ, pos, negsuc, int_lt, Result, Ok, Err}
+use Rattle.std.specs.Option.{option_or}
 use Rattle.std.specs.List.{filter_map, flat_map, list_any}
 use Rattle.acn_num.specs.Ranges.{Ranges, has, meet, bottom, top, least, greatest}
 use Rattle.acn_asn_syntax.specs.Mirror.{Set, all_except, union_of, Meets, no_meets, and_meet, Meet, meet_of, Parts, no_parts, and_part, Part, part_of, part_but, Element, value_of, range_of as range_element, size_of as size_element, from_of, inner_of, AsnBase, sequence_size, Constraint, by_set, by_size, containing}
@@ -125,10 +126,6 @@ too_low x = if int_lt x (negsuc 9223372036854775807) then Some x else None
 abbrev pub first : {A : Type 0} → List A → Option A
 first [] = None
 first (x ∷ xs) = Some x
-
-abbrev pub earlier : {A : Type 0} → Option A → Option A → Option A
-earlier None b = b
-earlier (Some x) b = Some x
 
 abbrev pub low_number : World → List Named → ℕ → AsnValue → Option ℤ
 low_number w ns k v = option_and_then too_low (number_in w ns k v)

@@ -45,16 +45,6 @@ fn end_low(at: Names<'_>, end: &Option<AsnValue>) -> Option<i128>
     }
 }
 
-// The first of two that is there.
-fn earlier(first: Option<i128>, second: Option<i128>) -> Option<i128>
-    ensures { result ≡ spec.earlier first second }
-{
-    match first {
-        Some(number) => Some(number),
-        None => second,
-    }
-}
-
 /// The first number of a set that is too low.
 #[cycle(low)]
 #[tactic(auto, unfolding(crate::specs::Constraints::set_values, crate::specs::Constraints::meets_values, crate::specs::Constraints::meet_values, crate::specs::Constraints::parts_values, crate::specs::Constraints::part_values, crate::specs::Constraints::element_values), using(acn_names::proofs::SetViews::set_views, crate::proofs::Firsts::low_append))]
@@ -63,7 +53,7 @@ pub fn set_low(set: &Set, at: Names<'_>) -> Option<i128>
 {
     match set {
         Set::AllExcept(element) => element_low(element, at),
-        Set::Union(first, more) => earlier(meet_low(first, at), meets_low(more.items(), at)),
+        Set::Union(first, more) => meet_low(first, at).or(meets_low(more.items(), at)),
     }
 }
 
@@ -86,7 +76,7 @@ fn meets_low(more: &[(bool, Meet)], at: Names<'_>) -> Option<i128>
 fn meet_low(meet: &Meet, at: Names<'_>) -> Option<i128>
     ensures { result ≡ spec.low_among (world_view at.entry.world.now) at.entry.names.now at.entry.owner (spec.meet_values (meet_view meet.now)) }
 {
-    earlier(part_low(&meet.first, at), parts_low(meet.more.items(), at))
+    part_low(&meet.first, at).or(parts_low(meet.more.items(), at))
 }
 
 #[cycle(low)]
@@ -110,7 +100,7 @@ fn part_low(part: &Part, at: Names<'_>) -> Option<i128>
 {
     match &part.but {
         None => element_low(&part.element, at),
-        Some(but) => earlier(element_low(&part.element, at), element_low(but, at)),
+        Some(but) => element_low(&part.element, at).or(element_low(but, at)),
     }
 }
 
@@ -121,7 +111,7 @@ fn element_low(element: &Element, at: Names<'_>) -> Option<i128>
 {
     match element {
         Element::Value(value) => low_number(at, value),
-        Element::Range(range) => earlier(end_low(at, &range.low), end_low(at, &range.high)),
+        Element::Range(range) => end_low(at, &range.low).or(end_low(at, &range.high)),
         Element::SizeOf(set) => set_low(set.get(), at),
         Element::From(set) => set_low(set.get(), at),
         Element::Inner(set) => set_low(set.get(), at),

@@ -1,10 +1,11 @@
 -- What a name leads to is an assignment.
 use Rattle.std.proofs.Common.{◌≡◌, ℕ, zero, suc, Bool, length, refl, ap, subst, ◌∙◌, arith, inl, inr, ◌⊎◌}
 use Rattle.std.specs.Prelude.{Option, Some, None, slice_get, option_map, option_and_then}
+use Rattle.std.specs.Option.{option_or}
 use Rattle.std.specs.List.{position_from}
 use Rattle.acn_asn_syntax.specs.Mirror.{AsnModule, Assign, TypeIs, ValueIs}
 use Rattle.acn_names.specs.World.{World, Name, place, assignment}
-use Rattle.acn_names.specs.Lookup.{own, imported_from, first_of, found_within, found, type_named, value_named, is_type, is_value, module_named}
+use Rattle.acn_names.specs.Lookup.{own, imported_from, found_within, found, type_named, value_named, is_type, is_value, module_named}
 use Rattle.acn_names.specs.Mentions.{Mention, to_type, in_constraint, in_default, in_assignment, mentions, value_mentions}
 use Rattle.acn_names.specs.Cycles.{Within, type_target, value_target, targets_of, targets_at, targets}
 use Rattle.acn_names.specs.declared.sources.TypeId.{TypeId}
@@ -21,7 +22,7 @@ chained : {A B : Type 0} (f : A → Option B) (o : Option A) (y : B) → option_
 chained f None y e = absurd (cc e)
 chained f (Some x) y e = (x, refl, e)
 
-either_of : {A : Type 0} (a b : Option A) (y : A) → first_of a b ≡ Some y → (a ≡ Some y) ⊎ (b ≡ Some y)
+either_of : {A : Type 0} (a b : Option A) (y : A) → option_or a b ≡ Some y → (a ≡ Some y) ⊎ (b ≡ Some y)
 either_of None b y e = inr e
 either_of (Some x) b y e = inl e
 

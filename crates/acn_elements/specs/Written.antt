@@ -1,5 +1,6 @@
 -- Which number or text a value in a constraint stands for.
 use Rattle.std.specs.Prelude.{ℕ, zero, suc, Bool, true, false, List, [], ◌∷◌, Option, Some, None, option_and_then, option_map, if◌then◌else◌, nat_eq, ◌&&◌, ℤ, pos, negsuc}
+use Rattle.std.specs.Option.{option_or}
 use Rattle.std.specs.List.{find}
 use Rattle.std.specs.Str.{bytes_eq}
 use Rattle.acn_asn_syntax.specs.Mirror.{AsnBase, integer}
@@ -28,14 +29,10 @@ named_in ns name = option_map (λ n. signed n.negative n.number) (find (λ n. by
 unfoldable pub referred_number : World → ℕ → Name → Option ℤ
 referred_number w k name = option_and_then (λ v. number_is v.is) (value_of w k name)
 
-abbrev pub or_else : {A : Type 0} → Option A → Option A → Option A
-or_else None b = b
-or_else (Some x) b = Some x
-
 -- a number as it is written in a module, where these names stand for numbers before any other
 abbrev pub number_in : World → List Named → ℕ → AsnValue → Option ℤ
 number_in w ns k (value.Number negative n) = Some (signed negative n)
-number_in w ns k (value.Ref name) = or_else (named_in ns name) (referred_number w k name)
+number_in w ns k (value.Ref name) = option_or (named_in ns name) (referred_number w k name)
 number_in w ns k _ = None
 
 -- the named numbers of an INTEGER

@@ -15,3 +15,4 @@ pub mod ParameterSteps
 pub mod Marks
 pub mod KeyedLaws
 pub mod Mapped
+pub mod FoundTypes

@@ -1,5 +1,6 @@
 -- What a name leads to in a module (X.680 clause 13: assignments and imports).
 use Rattle.std.specs.Prelude.{ℕ, zero, suc, Bool, false, List, [], ◌∷◌, length, Option, Some, None, option_and_then, option_map, slice_get, find}
+use Rattle.std.specs.Option.{option_or}
 use Rattle.std.specs.List.{list_any, position_from}
 use Rattle.std.specs.Str.{bytes_eq}
 use Rattle.acn_asn_syntax.specs.Mirror.{AsnModule, Assign, TypeIs, ValueIs}
@@ -51,14 +52,10 @@ imported_from w name k = option_and_then (λ m. option_and_then (λ (i : Import)
 
 -- ---- a name in a module: its own assignment, else what the name leads to in the module from which it is imported
 
-abbrev pub first_of : {A : Type 0} → Option A → Option A → Option A
-first_of None b = b
-first_of (Some x) b = Some x
-
 -- over at most so many modules
 unfoldable pub found_within : ℕ → World → (Assign → Bool) → Name → ℕ → Option TypeId
 found_within zero w test name k = None
-found_within (suc n) w test name k = first_of (own w test k) (option_and_then (found_within n w test name) (imported_from w name k))
+found_within (suc n) w test name k = option_or (own w test k) (option_and_then (found_within n w test name) (imported_from w name k))
 
 -- A way over more modules than there are comes back to one of them, so a ring of imports names nothing.
 unfoldable pub found : World → (Assign → Bool) → Name → ℕ → Option TypeId

@@ -1,5 +1,5 @@
 -- The modules and tables of all files, as plain data, and the places of assignments.
-use Rattle.std.specs.Prelude.{ℕ, Bool, ◌&&◌, nat_eq, ◌+◌, ◌<◌, List, [], ◌∷◌, ◌++◌, length, map, Option, Some, None, option_and_then, slice_get, flat_map}
+use Rattle.std.specs.Prelude.{ℕ, Bool, ◌&&◌, nat_eq, ◌+◌, ◌<◌, List, [], ◌∷◌, ◌++◌, length, map, Option, Some, None, option_and_then, slice_get, flat_map, IsSome}
 use Rattle.std.specs.List.{enumerate_from}
 use Rattle.acn_asn_syntax.specs.Mirror.{AsnModule, AsnType, Assign, TypeIs, ValueIs}
 use Rattle.acn_asn_syntax.specs.View.{module_view}
@@ -68,6 +68,10 @@ assignment w p = option_and_then (λ m. slice_get m.items p.item) (slice_get w.m
 -- the type that a place gives a name to; none where a value or nothing stands there
 unfoldable pub type_at : World → TypeId → Option AsnType
 type_at w p = option_and_then type_part (assignment w p)
+
+-- a type stands there
+abbrev pub IsType : World → TypeId → Type 0
+IsType w p = IsSome (type_at w p)
 
 -- the places of a module's assignments, and those of all modules, in the order of the text
 abbrev pub module_places : ℕ × AsnModule → List TypeId

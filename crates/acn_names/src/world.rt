@@ -22,7 +22,8 @@ pub struct World {
 }
 
 impl World {
-    ghost use Rattle.std.specs.Prelude.{◌≡◌, option_map, option_copied, Some, None, IfOk, IsSome};
+    ghost use Rattle.std.specs.Prelude.{◌≡◌, option_map, option_copied, Some, None, IfOk, IfSome};
+    ghost use Rattle.std.specs.List.{All};
     ghost use Rattle.acn_asn_syntax.specs.View.{type_view};
     ghost use Rattle.acn_acn_syntax.specs.View.{entry_of};
     ghost use Rattle.acn_names.specs.Viewed.{world_view, valued_view};
@@ -43,16 +44,20 @@ impl World {
     }
 
     /// The types without parameters to which no other type refers, in the order of the text.
+    #[tactic(auto, using(crate::proofs::FoundTypes::roots_are_types))]
     pub fn roots(&self, alloc: Global) -> Result<Row<TypeId>, NoMemory>
-        ensures { IfOk result (λ all. all ≡ faults.roots (world_view self.now)) }
+        ensures roots { IfOk result (λ all. all ≡ faults.roots (world_view self.now)) }
+        ensures of_types { IfOk result (λ all. All (world.IsType (world_view self.now)) all) }
     {
         roots_of(alloc, &self.index)
     }
 
     /// The type with this name in the module with that name, by an assignment of that module itself. None comes
     /// exactly where there is none. It takes no memory.
+    #[tactic(auto, using(crate::proofs::FoundTypes::found_is_type))]
     pub fn find(&self, module: &[u8], name: &[u8]) -> Option<TypeId>
-        ensures { result ≡ lookup.type_in (world_view self.now) «module».now name.now }
+        ensures found { result ≡ lookup.type_in (world_view self.now) «module».now name.now }
+        ensures of_type { IfSome result (world.IsType (world_view self.now)) }
     {
         type_in(&self.index, module, name)
     }
@@ -78,7 +83,7 @@ impl World {
 
     /// The type that an assignment gives a name to. It takes no memory.
     pub fn type_at(&self, of: TypeId) -> &AsnType
-        requires { IsSome (world.type_at (world_view self.now) of) }
+        requires { world.IsType (world_view self.now) of }
         ensures { Some (type_view result.now) ≡ world.type_at (world_view self.now) of }
     {
         type_at(&self.index, of).unwrap()
@@ -86,7 +91,7 @@ impl World {
 
     /// The name of an assignment's module, and its own. It takes no memory.
     pub fn name_of(&self, of: TypeId) -> (&Name, &Name)
-        requires { IsSome (world.type_at (world_view self.now) of) }
+        requires { world.IsType (world_view self.now) of }
         ensures owner { Some result.0.now ≡ faults.module_name_at (world_view self.now) of }
         ensures own { Some result.1.now ≡ faults.name_at (world_view self.now) of }
     {
@@ -105,8 +110,10 @@ impl World {
 
     /// The type to which a reference in the module with this number leads: its own assignment, else one that it
     /// imports. None comes exactly where it names nothing. It takes no memory.
+    #[tactic(auto, using(crate::proofs::FoundTypes::named_is_type))]
     pub fn lookup(&self, module: u32, name: &[u8]) -> Option<TypeId>
-        ensures { result ≡ lookup.type_named (world_view self.now) «module» None name.now }
+        ensures found { result ≡ lookup.type_named (world_view self.now) «module» None name.now }
+        ensures of_type { IfSome result (world.IsType (world_view self.now)) }
     {
         type_named(&self.index, module, &None, name)
     }

@@ -17,13 +17,18 @@ fn push_name(name: &Name, words: &mut Vec<u8>) -> Result<(), Trouble> {
     Ok(())
 }
 
-// A kind, a module and a name, as `Unknown M.T`.
-fn push_fault(kind: &[u8], module: &Name, name: &Name, words: &mut Vec<u8>) -> Result<(), Trouble> {
-    words.extend_from_slice(kind)?;
+/// The name of an assignment behind that of its module, as ` M.T`.
+pub fn push_full_name(module: &Name, name: &Name, words: &mut Vec<u8>) -> Result<(), Trouble> {
     push_name(module, words)?;
     words.push(b'.')?;
     words.extend_from_slice(name.bytes())?;
     Ok(())
+}
+
+// A kind, a module and a name, as `Unknown M.T`.
+fn push_fault(kind: &[u8], module: &Name, name: &Name, words: &mut Vec<u8>) -> Result<(), Trouble> {
+    words.extend_from_slice(kind)?;
+    push_full_name(module, name, words)
 }
 
 // The names of a cycle behind a colon.
@@ -95,7 +100,6 @@ pub fn world_of(alloc: Global, asn: &str, acn: &str, map: &str) -> Result<World,
 }
 
 /// The place of the type with this name in the module with that name.
-#[tactic(auto, using(crate::proofs::TypePlaces::found_is_type))]
 pub fn place_of(world: &World, module: &str, name: &str) -> Result<TypeId, Trouble>
     ensures { IfOk result (λ place. IsSome (type_at (world_view world.now) place)) }
 {

@@ -1,8 +1,12 @@
 //! Which types are roots.
 
-use crate::asking::world_of;
+ghost use Rattle.std.specs.List.{All};
+ghost use Rattle.acn_names.specs.Viewed.{world_view};
+ghost use Rattle.acn_names.specs.World.{IsType};
+
+use crate::asking::{push_full_name, world_of};
 use crate::reading::{Trouble, module};
-use acn_names::World;
+use acn_names::{TypeId, World};
 use std::alloc::Global;
 
 // The roots in words, each by the number of its module and its own among the assignments.
@@ -20,6 +24,28 @@ fn roots_of(alloc: Global, asn: &str, acn: &str) -> Result<String, Trouble> {
     let entries = module(alloc, "M", acn)?;
     let world = world_of(alloc, types.as_str(), entries.as_str(), "")?;
     roots_in_words(alloc, &world)
+}
+
+// The names of roots, each behind that of its module.
+fn push_names(world: &World, roots: &[TypeId], words: &mut Vec<u8>) -> Result<(), Trouble>
+    requires { All (IsType (world_view world.now)) roots.now }
+{
+    for root in roots {
+        let (owner, own) = world.name_of(*root);
+        push_full_name(owner, own, words)?;
+    }
+    Ok(())
+}
+
+#[test]
+fn each_root_has_a_name(rt: HostRuntime) -> Result<(), Trouble> {
+    let alloc = rt.alloc();
+    let types = module(alloc, "M", "T ::= U U ::= NULL v INTEGER ::= 1 V ::= NULL")?;
+    let world = world_of(alloc, types.as_str(), "", "")?;
+    let mut words = Vec::new(alloc);
+    push_names(&world, world.roots(alloc)?.items(), &mut words)?;
+    assert_eq!(rt; words.as_slice(), b" M.T M.V".as_slice());
+    Ok(())
 }
 
 #[test]

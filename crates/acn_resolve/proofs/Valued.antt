@@ -1,11 +1,12 @@
 -- What an identifier of a value names is a value's assignment.
 use Rattle.std.proofs.Common.{◌≡◌, ℕ, zero, suc, ◌+◌, Bool, true, false, List, [], ◌∷◌, refl, ap, subst, ◌∙◌, arith, inl, inr, ◌⊎◌}
 use Rattle.std.specs.Prelude.{Option, Some, None, slice_get, option_map, option_and_then, cond}
+use Rattle.std.specs.Option.{option_or}
 use Rattle.std.specs.List.{position_from}
 use Rattle.acn_asn_syntax.specs.Mirror.{AsnModule, AsnType, Assign, TypeIs, ValueIs}
 use Rattle.acn_asn_syntax.specs.declared.values.AsnValue.{AsnValue}
 use Rattle.acn_names.specs.World.{World, Name, place, assignment}
-use Rattle.acn_names.specs.Lookup.{own, imported_from, first_of, found_within, found, value_named, is_value}
+use Rattle.acn_names.specs.Lookup.{own, imported_from, found_within, found, value_named, is_value}
 use Rattle.acn_names.specs.declared.sources.TypeId.{TypeId}
 
 mapped : {A B : Type 0} (f : A → B) (o : Option A) (y : B) → option_map f o ≡ Some y → (x : A) × (o ≡ Some x) × (f x ≡ y)
@@ -16,7 +17,7 @@ pub chained : {A B : Type 0} (f : A → Option B) (o : Option A) (y : B) → opt
 chained f None y e = absurd (cc e)
 chained f (Some x) y e = (x, refl, e)
 
-either_of : {A : Type 0} (a b : Option A) (y : A) → first_of a b ≡ Some y → (a ≡ Some y) ⊎ (b ≡ Some y)
+either_of : {A : Type 0} (a b : Option A) (y : A) → option_or a b ≡ Some y → (a ≡ Some y) ⊎ (b ≡ Some y)
 either_of None b y e = inr e
 either_of (Some x) b y e = inl e
 
