@@ -2,7 +2,6 @@
 #![tactic(auto)]
 
 mod questions;
-
 #[cfg(test)]
 mod tests;
 

@@ -24,6 +24,10 @@ fn each_question_stands_alone(rt: HostRuntime) -> Result<(), Fail> {
 
 #[test]
 fn each_question_has_its_text(rt: HostRuntime) {
-    assert!(rt; Question::Help.text().starts_with("Usage: acn decode MODULE.TYPE FILE\n"));
+    assert!(rt;
+        Question::Help
+            .text()
+            .starts_with("Usage: acn decode MODULE.TYPE FILE\n")
+    );
     assert_eq!(rt; Question::Version.text(), "acn 0.1\n");
 }

@@ -1,6 +1,5 @@
 -- What the constraints of a chain leave: numbers, sizes and characters, or the fault that is theirs.
 use Rattle.std.specs.Prelude.{ℕ, Bool, true, false, not, ◌||◌, List, [], ◌∷◌, ◌++◌, Option, Some, None, option_and_then, if◌then◌else◌, ℤ, pos, negsuc, int_lt, Result, Ok, Err}
-use Rattle.std.specs.Option.{option_or}
 use Rattle.std.specs.List.{filter_map, flat_map, list_any}
 use Rattle.acn_num.specs.Ranges.{Ranges, has, meet, bottom, top, least, greatest}
 use Rattle.acn_asn_syntax.specs.Mirror.{Set, all_except, union_of, Meets, no_meets, and_meet, Meet, meet_of, Parts, no_parts, and_part, Part, part_of, part_but, Element, value_of, range_of as range_element, size_of as size_element, from_of, inner_of, AsnBase, sequence_size, Constraint, by_set, by_size, containing}

@@ -1,11 +1,9 @@
 -- The numbers of assignments count the places.
-use Rattle.std.proofs.Common.{◌≡◌, ℕ, zero, suc, ◌+◌, ◌<◌, ◌≤◌, List, [], ◌∷◌, ◌++◌, length, get_or, drop, map, refl, sym, ap, subst, ◌∙◌, arith, inl, inr, length-append, append_assoc}
+use Rattle.std.proofs.Common.{◌≡◌, ℕ, zero, suc, ◌+◌, ◌<◌, ◌≤◌, List, [], ◌∷◌, length, get_or, map, refl, sym, ap, subst, ◌∙◌, arith, inl, inr, length-append}
 use Rattle.std.specs.Prelude.{Option, Some, None, slice_get, flat_map, option_and_then}
 use Rattle.std.proofs.lemmas.Option.{slice_get_within}
 use Rattle.std.specs.List.{enumerate_from}
 use Rattle.acn_asn_syntax.specs.Mirror.{AsnModule, Assign}
-use Rattle.acn_asn_syntax.specs.View.{module_view}
-use Rattle.acn_asn_syntax.specs.declared.modules.AsnModule as tree
 use Rattle.acn_names.specs.World.{World, place, assignment, module_places, places, count, IsSmall}
 use Rattle.acn_names.specs.declared.sources.TypeId.{TypeId}
 use Rattle.acn_cycles.specs.Numbers.{starts_from, starts, number_in, AreSmall}
@@ -100,27 +98,3 @@ small_starts w small = λ k. let h = start_bounded w.modules 0 k in omega arith
 pub small_items : (w : World) → IsSmall w → length (flat_map (λ (m : AsnModule). m.items) w.modules) < 4294967296
 unfolding count
 small_items w small = omega arith
-
-pub fewer_left : (ms : List tree.AsnModule) (k : ℕ) → length (flat_map (λ (m : AsnModule). m.items) (map module_view (drop (suc k) ms))) ≤ length (flat_map (λ (m : AsnModule). m.items) (map module_view (drop k ms)))
-fewer_left [] zero = omega arith
-fewer_left [] (suc k) = omega arith
-fewer_left (m ∷ ms) zero = let h = length-append (module_view m).items (flat_map (λ (m : AsnModule). m.items) (map module_view ms)) in omega arith
-fewer_left (m ∷ ms) (suc k) = fewer_left ms k
-
-module _ (f : ℕ × AsnModule → List TypeId) where
-  opened : (ms : List tree.AsnModule) (j k : ℕ) (m : tree.AsnModule) → k < length ms → m ≡ get_or ms k m
-      → flat_map f (enumerate_from j (map module_view (drop k ms))) ≡ f (j, module_view m) ++ flat_map f (enumerate_from (j + 1) (map module_view (drop (suc k) ms)))
-  opened [] j k m lt e = absurd (omega arith)
-  opened (x ∷ ms) j zero m lt e = ap (λ (y : tree.AsnModule). f (j, module_view y) ++ flat_map f (enumerate_from (j + 1) (map module_view ms))) (sym e)
-  opened (x ∷ ms) j (suc k) m lt e = opened ms j k m (omega arith) e
-
-  -- one module more
-  pub one_more : (ms : List tree.AsnModule) (k : ℕ) (m : tree.AsnModule) (done next whole : List TypeId) → k < length ms → m ≡ get_or ms k m
-      → next ≡ done ++ f (k, module_view m)
-      → done ++ flat_map f (enumerate_from k (map module_view (drop k ms))) ≡ whole
-      → next ++ flat_map f (enumerate_from (k + 1) (map module_view (drop (k + 1) ms))) ≡ whole
-  one_more ms k m done next whole lt e added told =
-      let rest = flat_map f (enumerate_from (k + 1) (map module_view (drop (suc k) ms))) in
-      let on : suc k ≡ k + 1 = omega arith in
-      let joined : next ++ rest ≡ whole = ap (λ (xs : List TypeId). xs ++ rest) added ∙ (append_assoc done (f (k, module_view m)) rest ∙ (ap (λ (xs : List TypeId). done ++ xs) (sym (opened ms k k m lt e)) ∙ told)) in
-      subst (λ (n : ℕ). next ++ flat_map f (enumerate_from (k + 1) (map module_view (drop n ms))) ≡ whole) on joined

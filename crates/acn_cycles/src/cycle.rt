@@ -5,11 +5,12 @@ ghost use Rattle.acn_names.specs.Cycles.{HasNoCycle, IsFirstCycle};
 ghost use Rattle.acn_graph.specs.Graph.{HasNoRing, IsFirstRing};
 ghost use Rattle.acn_cycles.specs.Numbers.{graph_of};
 
-use crate::numbers::{places_at, places_of, starts_of};
+use crate::numbers::{places_at, starts_of};
 use crate::rows::rows_in;
 use acn_graph::{Ring, first_ring};
 use acn_names::TypeId;
 use acn_names::index::Index;
+use acn_names::roots::places;
 use acn_num::{NoMemory, Row};
 use std::alloc::Global;
 
@@ -42,7 +43,7 @@ pub fn first_cycle(alloc: Global, index: &Index) -> Result<Option<Round>, NoMemo
         (λ round. IsFirstCycle (index_view index.now) round.first round.way)) }
     ensures there { IfOk result (λ found. IfSome found (λ round. IsSome (world.assignment (index_view index.now) round.first))) }
 {
-    let places = places_of(alloc, index.modules.items())?;
+    let places = places(alloc, index)?;
     match ring_of(alloc, index, places.as_slice())? {
         None => Ok(None),
         Some(ring) => {

@@ -1,10 +1,8 @@
-ghost use Rattle.std.specs.Prelude.{◌≡◌, ◌<◌, ◌++◌, length, map, flat_map, slice_get, IfOk, OnOk};
-ghost use Rattle.std.specs.List.{enumerate_from};
-ghost use Rattle.acn_asn_syntax.specs.View.{module_view, assign_view};
-ghost use Rattle.acn_names.specs.World.{place, module_places};
+ghost use Rattle.std.specs.Prelude.{◌≡◌, ◌<◌, length, map, flat_map, slice_get, IfOk};
+ghost use Rattle.acn_asn_syntax.specs.View.{module_view};
 ghost use Rattle.acn_cycles.specs.Numbers as spec;
 
-use acn_asn_syntax::{AsnModule, Assign};
+use acn_asn_syntax::AsnModule;
 use acn_names::TypeId;
 use acn_num::{NoMemory, Row};
 use std::alloc::Global;
@@ -21,33 +19,6 @@ pub fn starts_of(alloc: Global, modules: &[AsnModule]) -> Result<Vec<usize>, NoM
         next += owner.items.items().len();
     }
     Ok(firsts)
-}
-
-// Adds the places of the assignments of a module.
-fn push_places(module: u32, items: &[Assign], all: &mut Vec<TypeId>) -> Result<(), NoMemory>
-    requires { length items.now < 4294967296 }
-    ensures { OnOk result (all.new.items ≡ all.old.items ++ map (λ a. place «module» a.0) (enumerate_from 0 (map assign_view items.now))) }
-{
-    for (i, _item) in items.iter().enumerate() {
-        all.push(TypeId {
-            module,
-            item: i as u32,
-        })?;
-    }
-    Ok(())
-}
-
-/// The places of all assignments, in the order of the text.
-pub fn places_of(alloc: Global, modules: &[AsnModule]) -> Result<Vec<TypeId>, NoMemory>
-    requires few { length modules.now < 4294967296 }
-    requires small { length (flat_map (λ m. m.items) (map module_view modules.now)) < 4294967296 }
-    ensures { IfOk result (λ all. all.items ≡ flat_map module_places (enumerate_from 0 (map module_view modules.now))) }
-{
-    let mut all = Vec::new(alloc);
-    for (k, owner) in modules.iter().enumerate() {
-        push_places(k as u32, owner.items.items(), &mut all)?;
-    }
-    Ok(all)
 }
 
 // The number of an assignment.

@@ -1,5 +1,5 @@
 -- The steps of a look-up from module to module.
-use Rattle.std.proofs.Common.{◌≡◌, ℕ, zero, suc, ◌<◌, ◌≤◌, Bool, Option, Some, None, refl, arith}
+use Rattle.std.proofs.Common.{◌≡◌, ℕ, zero, suc, ◌<◌, ◌≤◌, Bool, Some, None, refl, arith}
 use Rattle.acn_asn_syntax.specs.Mirror.{Assign}
 use Rattle.acn_names.specs.World.{World, Name}
 use Rattle.acn_names.specs.Lookup.{own, imported_from, found_within}

@@ -1,13 +1,12 @@
 -- What is found by the name of a type, and each root, is the place of a type.
-use Rattle.std.proofs.Common.{◌≡◌, ℕ, zero, suc, ◌+◌, ◌×◌, ⊤, Bool, true, false, not, ◌&&◌, List, [], ◌∷◌, length, Option, Some, None, refl, sym, arith}
-use Rattle.std.specs.Prelude.{option_and_then, option_map, slice_get, IsSome, IfSome, cond, filter}
+use Rattle.std.proofs.Common.{◌≡◌, ℕ, zero, suc, ◌+◌, Bool, true, false, not, ◌&&◌, List, [], ◌∷◌, length, Option, Some, None, refl, sym, arith}
+use Rattle.std.specs.Prelude.{option_and_then, option_map, slice_get, IsSome, IfSome, IfOk, Result, Ok, Err, cond, filter}
 use Rattle.std.specs.Option.{option_or}
 use Rattle.std.specs.List.{position_from, list_any, All, AllByRecursion}
 use Rattle.std.proofs.lemmas.List.Elements.{All-from_recursion}
 use Rattle.acn_asn_syntax.specs.Mirror.{AsnModule, AsnType, Assign, TypeIs, ValueIs}
 use Rattle.acn_names.specs.World.{World, Name, IsType, place, places, is_same, type_part, assignment, type_at}
 use Rattle.acn_names.specs.Lookup.{is_type, own, found, found_within, imported_from, module_named, type_in, type_named}
-use Rattle.acn_names.specs.Chains.{Link, assigned_link}
 use Rattle.acn_names.specs.Faults.{is_root, is_without_parameters, referred, roots}
 use Rattle.acn_names.specs.declared.sources.TypeId.{TypeId}
 
@@ -60,8 +59,8 @@ unfolding found_within
 within_is_type zero w name k = tt
 within_is_type (suc n) w name k =
     either (IsType w) (own w (is_type name) k) (option_and_then (found_within n w (is_type name) name) (imported_from w name k))
-      (own_is_type w name k)
-      (behind (IsType w) (found_within n w (is_type name) name) (within_is_type n w name) (imported_from w name k))
+    (own_is_type w name k)
+    (behind (IsType w) (found_within n w (is_type name) name) (within_is_type n w name) (imported_from w name k))
 
 pub found_is_type : (w : World) (owner name : Name) → IfSome (type_in w owner name) (IsType w)
 unfolding type_in
@@ -73,13 +72,13 @@ named_is_type w k name = within_is_type (length w.modules) w name k
 
 -- ---- roots
 
+kept : {A : Type 0} (P : A → Type 0) (b : Bool) (x : A) (xs : List A) → (b ≡ true → P x) → AllByRecursion P xs → AllByRecursion P (cond b (x ∷ xs) xs)
+kept P true x xs h r = (h refl, r)
+kept P false x xs h r = r
+
 each_kept : {A : Type 0} (P : A → Type 0) (test : A → Bool) → ((x : A) → test x ≡ true → P x) → (xs : List A) → AllByRecursion P (filter test xs)
 each_kept P test h [] = tt
-each_kept {A} P test h (x ∷ xs) = kept (test x) refl
-  where
-    kept : (b : Bool) → b ≡ test x → AllByRecursion P (cond b (x ∷ filter test xs) (filter test xs))
-    kept true e = (h x (sym e), each_kept P test h xs)
-    kept false e = each_kept P test h xs
+each_kept P test h (x ∷ xs) = kept P (test x) x (filter test xs) (h x) (each_kept P test h xs)
 
 linked : (w : World) (p : TypeId) (o : Option AsnType) (b : Bool) → (is_without_parameters w (option_map (λ (t : AsnType). record { owner = p.module; of = t; assigned = Some p }) o) && b) ≡ true → IsSome o
 linked w p None b e = absurd (cc e)
@@ -89,6 +88,10 @@ root_is_type : (w : World) (p : TypeId) → is_root w p ≡ true → IsType w p
 unfolding is_root
 root_is_type w p e = linked w p (type_at w p) (not (list_any (is_same p) (referred w))) e
 
-pub roots_are_types : (w : World) → All (IsType w) (roots w)
+each_root : (w : World) → All (IsType w) (roots w)
 unfolding roots
-roots_are_types w = All-from_recursion (IsType w) (roots w) (each_kept (IsType w) (is_root w) (root_is_type w) (places w))
+each_root w = All-from_recursion (IsType w) (roots w) (each_kept (IsType w) (is_root w) (root_is_type w) (places w))
+
+pub roots_are_types : {E : Type 0} (w : World) (r : Result (List TypeId) E) → IfOk r (λ all. all ≡ roots w) → IfOk r (λ all. All (IsType w) all)
+roots_are_types w (Ok all) e = rw e (each_root w)
+roots_are_types w (Err x) e = tt

@@ -1,7 +1,7 @@
 -- The faults of a world and its soundness exclude each other; ranks exclude cycles.
 use Rattle.std.proofs.Common.{◌≡◌, ℕ, ◌<◌, List, Option, Some, None, sym, ◌∙◌, arith}
 use Rattle.acn_names.specs.World.{World}
-use Rattle.acn_names.specs.Cycles.{Within, targets, Reaches, once, more, IsFirstCycle, HasNoCycle}
+use Rattle.acn_names.specs.Cycles.{Within, targets, Reaches, once, more, HasNoCycle}
 use Rattle.acn_names.specs.Faults.{IsFault, early, cyclic, late, IsSound}
 use Rattle.acn_names.specs.declared.sources.TypeId.{TypeId}
 use Rattle.acn_names.specs.declared.fault.NameFault.{NameFault}

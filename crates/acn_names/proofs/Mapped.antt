@@ -1,7 +1,7 @@
 -- What the maps of an index say of its modules and tables.
-use Rattle.std.proofs.Common.{◌≡◌, ℕ, ◌<◌, List, [], ◌∷◌, length, Option, Some, None, refl, sym, ap, ◌∙◌, arith}
+use Rattle.std.proofs.Common.{◌≡◌, ℕ, ◌<◌, List, [], Option, Some, None, refl, sym, ap, ◌∙◌, arith}
 use Rattle.std.proofs.lemmas.Option.{slice_get-map}
-use Rattle.std.specs.Prelude.{map, option_map, option_and_then, slice_get, find}
+use Rattle.std.specs.Prelude.{map, option_map, option_and_then, slice_get}
 use Rattle.std.specs.List.{list_any, position_from}
 use Rattle.std.specs.Str.{bytes_eq}
 use Rattle.acn_asn_syntax.specs.Mirror.{AsnModule, Assign, TypeIs, ValueIs}
@@ -9,7 +9,7 @@ use Rattle.acn_asn_syntax.specs.declared.modules.Import.{Import}
 use Rattle.acn_acn_syntax.specs.Mirror.{Module, Entry}
 use Rattle.acn_acn_syntax.specs.declared.maps.MapTable.{MapTable}
 use Rattle.acn_maps.specs.Placed.{place_of, noted_all}
-use Rattle.acn_names.specs.World.{Name, World, name_of, place, IsSmall}
+use Rattle.acn_names.specs.World.{Name, World, name_of, IsSmall}
 use Rattle.acn_names.specs.Lookup.{module_named, imports_of, imports_name, import_of, entry_named, acn_named, table_named, own}
 use Rattle.acn_names.specs.Keyed.{keyed, firsts, module_name, own_name, type_name, value_name, import_names, acn_name, entry_name, table_name, own_names, entry_places, maps_of}
 use Rattle.acn_names.specs.Sorts.{meant, sorted}
@@ -17,7 +17,6 @@ use Rattle.acn_names.specs.declared.lookup.Sort.{Sort}
 use Rattle.acn_names.specs.declared.lookup.Sort.TheVariants.{Types, Values, Any}
 use Rattle.acn_names.specs.declared.maps.OwnNames.{OwnNames}
 use Rattle.acn_names.specs.declared.maps.Maps.{Maps}
-use Rattle.acn_names.specs.declared.sources.TypeId.{TypeId}
 use Rattle.acn_names.proofs.KeyedLaws.{first_from, alone, found_at, place_within}
 use Rattle.acn_names.proofs.Sizes.{items_small}
 

@@ -1,5 +1,5 @@
 -- A chain from the base outward.
-use Rattle.std.proofs.Common.{◌≡◌, ℕ, List, [], ◌∷◌, refl, sym, ◌∙◌, ap}
+use Rattle.std.proofs.Common.{◌≡◌, ℕ, List, [], ◌∷◌, refl, ◌∙◌, ap}
 use Rattle.std.specs.Prelude.{map, reverse, flat_map, filter_map}
 use mathlib.Core.List.{reverse_aux}
 use Rattle.acn_asn_syntax.specs.Mirror.{Constraint}

@@ -1,5 +1,5 @@
 -- Worked rows.
-use Rattle.std.proofs.Common.{◌≡◌, ℕ, List, [], ◌∷◌, refl, Some, None, Option, true, false}
+use Rattle.std.proofs.Common.{◌≡◌, ℕ, List, [], ◌∷◌, refl, Some, None, Option, false}
 use Rattle.std.specs.Prelude.{codes, map}
 use Rattle.acn_asn_syntax.specs.declared.values.AsnValue.{AsnValue}
 use Rattle.acn_asn_syntax.specs.declared.values.AsnValue.TheVariants as value

@@ -1,5 +1,5 @@
 -- One level of what a set stands for.
-use Rattle.std.proofs.Common.{◌≡◌, ℕ, Bool, List, [], ◌∷◌, Option, Some, None, refl, sym, ap, ◌∙◌}
+use Rattle.std.proofs.Common.{◌≡◌, Bool, List, Option, Some, None, sym, ap, ◌∙◌}
 use Rattle.std.specs.Prelude.{map}
 use Rattle.acn_asn_syntax.specs.declared.values.AsnValue.{AsnValue}
 use Rattle.acn_asn_syntax.specs.declared.sets.AsnRange.{AsnRange}
@@ -9,8 +9,8 @@ use Rattle.acn_asn_syntax.specs.declared.sets.Set.{Set}
 use Rattle.acn_asn_syntax.specs.declared.sets.Set.TheVariants as set
 use Rattle.acn_asn_syntax.specs.declared.sets.Meet.{Meet}
 use Rattle.acn_asn_syntax.specs.declared.sets.Part.{Part}
-use Rattle.acn_asn_syntax.specs.declared.sets.Element.TheOpen.{Element-F, Set-F, Meet-F, Part-F}
-use Rattle.acn_asn_syntax.specs.declared.sets.Element.TheViews.{roll-Element, roll-Set, roll-Meet, roll-Part, out-Element, out-Set, out-Meet, out-Part, roll-out-Element, roll-out-Set, roll-out-Meet, roll-out-Part}
+use Rattle.acn_asn_syntax.specs.declared.sets.Element.TheOpen.{Element-F, Set-F}
+use Rattle.acn_asn_syntax.specs.declared.sets.Element.TheViews.{roll-Part, out-Meet, out-Part, roll-out-Meet, roll-out-Part}
 use Rattle.acn_asn_syntax.specs.declared.sets.Element.TheFolds.{fold-roll-Element, fold-roll-Set, fold-roll-Meet, fold-roll-Part}
 use Rattle.acn_asn_syntax.specs.Mirror as plain
 use Rattle.acn_names.specs.Mentioned.{seen_meet, seen_part}

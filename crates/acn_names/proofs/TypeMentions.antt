@@ -1,5 +1,5 @@
 -- What is mentioned in a type and in a component, part by part.
-use Rattle.std.proofs.Common.{◌≡◌, List, ◌++◌, Option, Some, None, refl, sym, ◌∙◌, ap, subst}
+use Rattle.std.proofs.Common.{◌≡◌, List, ◌++◌, Option, Some, None, refl, sym, ap, subst}
 use Rattle.std.specs.Prelude.{map, option_map}
 use Rattle.acn_asn_syntax.specs.declared.types.AsnType.{AsnType}
 use Rattle.acn_asn_syntax.specs.declared.types.Tag.{Tag}

@@ -1,5 +1,5 @@
 -- A place of a type has a module and an assignment.
-use Rattle.std.proofs.Common.{◌≡◌, Option, Some, None, refl, sym, ap, ◌∙◌}
+use Rattle.std.proofs.Common.{◌≡◌, Option, Some, None, refl, sym}
 use Rattle.std.specs.Prelude.{option_map, slice_get, IsSome}
 use Rattle.std.specs.Borrow.{Bor}
 use Rattle.acn_asn_syntax.specs.Mirror as plain

@@ -13,8 +13,8 @@ use Rattle.acn_asn_syntax.specs.declared.types.Constraint.{Constraint}
 use Rattle.acn_asn_syntax.specs.declared.types.Constraint.TheVariants as constraint
 use Rattle.acn_asn_syntax.specs.declared.types.Component.{Component}
 use Rattle.acn_asn_syntax.specs.declared.types.Alternative.{Alternative}
-use Rattle.acn_asn_syntax.specs.declared.types.AsnBase.TheOpen.{AsnBase-F, Constraint-F, AsnType-F, Component-F, Alternative-F}
-use Rattle.acn_asn_syntax.specs.declared.types.AsnBase.TheViews.{roll-AsnBase, roll-AsnType, roll-Constraint, roll-Component, roll-Alternative, out-AsnBase, out-AsnType, out-Constraint, out-Component, out-Alternative, roll-out-AsnBase, roll-out-AsnType, roll-out-Constraint, roll-out-Component, roll-out-Alternative}
+use Rattle.acn_asn_syntax.specs.declared.types.AsnBase.TheOpen.{AsnBase-F, Constraint-F}
+use Rattle.acn_asn_syntax.specs.declared.types.AsnBase.TheViews.{roll-AsnType, roll-Component, roll-Alternative, out-AsnType, out-Component, out-Alternative, roll-out-AsnType, roll-out-Component, roll-out-Alternative}
 use Rattle.acn_asn_syntax.specs.declared.types.AsnBase.TheFolds.{fold-roll-AsnBase, fold-roll-AsnType, fold-roll-Constraint, fold-roll-Component, fold-roll-Alternative}
 use Rattle.acn_asn_syntax.specs.Mirror as plain
 use Rattle.acn_asn_syntax.specs.View.{type_view, base_view, constraint_view, component_view, alternative_view, base_step, constraint_step, alternative_step, type_step, component_step, components_of, alternatives_of, constraints_of, set_view}

@@ -1,9 +1,8 @@
 -- The chain of a type: the types to which it refers, one after another, from the outermost to the base.
 use Rattle.std.specs.Prelude.{ℕ, zero, suc, Bool, true, false, List, [], ◌∷◌, map, reverse, Option, Some, None, option_and_then, option_map, flat_map, filter_map}
 use Rattle.std.specs.List.{list_any}
-use Rattle.acn_asn_syntax.specs.Mirror.{AsnBase, AsnType, Constraint, Constraints, type_of, constraint_list, reference}
+use Rattle.acn_asn_syntax.specs.Mirror.{AsnBase, AsnType, Constraint, type_of, constraint_list, reference}
 use Rattle.acn_acn_syntax.specs.Mirror.{Entry}
-use Rattle.acn_acn_syntax.specs.declared.modules.Param.{Param}
 use Rattle.acn_names.specs.World.{Name, World, type_at, count}
 use Rattle.acn_names.specs.Lookup.{type_named, entry_at}
 use Rattle.acn_names.specs.declared.sources.TypeId.{TypeId}

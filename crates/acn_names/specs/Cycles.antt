@@ -1,13 +1,13 @@
 -- Types and values that reach themselves, and references of the wrong kind.
-use Rattle.std.specs.Prelude.{◌≡◌, ℕ, Bool, true, false, not, ◌&&◌, List, [], ◌∷◌, ◌++◌, map, filter, Option, Some, None, option_and_then, is_some, flat_map, filter_map}
+use Rattle.std.specs.Prelude.{◌≡◌, ℕ, Bool, true, false, not, ◌&&◌, List, [], ◌∷◌, ◌++◌, map, Option, Some, None, option_and_then, flat_map, filter_map}
 use Rattle.std.specs.List.{enumerate_from}
 use Rattle.acn_asn_syntax.specs.Mirror.{AsnModule, AsnType, AsnBase, boolean, null, integer, enumerated, Assign, TypeIs, ValueIs}
 use Rattle.acn_acn_syntax.specs.Mirror.{Entry, Module}
-use Rattle.acn_names.specs.World.{Name, World, name_of, assignment, places, type_at}
+use Rattle.acn_names.specs.World.{Name, World, assignment, places}
 use Rattle.acn_names.specs.Lookup.{type_named, value_named}
 use Rattle.acn_names.specs.Values.{leads_to_number}
 use Rattle.acn_names.specs.Chains.{Link, written, assigned_link, base_of}
-use Rattle.acn_names.specs.Mentions.{Mention, to_type, in_constraint, in_default, in_assignment, AcnMention, of_parameter, of_field, to_table, mentions, value_mentions, assign_mentions, entry_mentions}
+use Rattle.acn_names.specs.Mentions.{Mention, to_type, in_constraint, in_assignment, AcnMention, of_parameter, of_field, to_table, mentions, value_mentions, assign_mentions, entry_mentions}
 use Rattle.acn_names.specs.Repeated.{is_among, when}
 use Rattle.acn_names.specs.Unknown.{governor_names, acn_type_named, mention_name, acn_mention_name}
 use Rattle.acn_names.specs.declared.mention.Role.{Role}

@@ -1,7 +1,7 @@
 -- The fault of the names of a world, and which of its types are roots.
-use Rattle.std.specs.Prelude.{◌≡◌, ℕ, Bool, true, false, not, ◌&&◌, List, [], ◌∷◌, ◌++◌, map, filter, Option, Some, None, option_and_then, option_map, flat_map, filter_map, slice_get}
+use Rattle.std.specs.Prelude.{◌≡◌, ℕ, Bool, false, not, ◌&&◌, List, [], ◌∷◌, ◌++◌, filter, Option, Some, None, option_map, flat_map, filter_map, slice_get}
 use Rattle.std.specs.List.{list_any}
-use Rattle.acn_asn_syntax.specs.Mirror.{AsnModule, AsnType, Assign}
+use Rattle.acn_asn_syntax.specs.Mirror.{AsnModule, AsnType}
 use Rattle.acn_acn_syntax.specs.Mirror.{Entry}
 use Rattle.acn_names.specs.World.{Name, World, name_of, assignment, places, is_same, type_at}
 use Rattle.acn_names.specs.Lookup.{type_named, entry_at}

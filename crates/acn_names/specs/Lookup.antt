@@ -1,5 +1,5 @@
 -- What a name leads to in a module (X.680 clause 13: assignments and imports).
-use Rattle.std.specs.Prelude.{ℕ, zero, suc, Bool, false, List, [], ◌∷◌, length, Option, Some, None, option_and_then, option_map, slice_get, find}
+use Rattle.std.specs.Prelude.{ℕ, zero, suc, Bool, false, List, [], length, Option, Some, None, option_and_then, option_map, slice_get, find}
 use Rattle.std.specs.Option.{option_or}
 use Rattle.std.specs.List.{list_any, position_from}
 use Rattle.std.specs.Str.{bytes_eq}

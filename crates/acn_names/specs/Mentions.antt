@@ -1,8 +1,7 @@
 -- Where the text of a type, an assignment or an ACN entry refers to something by name, in the order of the text.
-use Rattle.std.specs.Prelude.{ℕ, Bool, List, [], ◌∷◌, ◌++◌, Option, Some, None, flat_map}
+use Rattle.std.specs.Prelude.{List, [], ◌∷◌, ◌++◌, Option, Some, None, flat_map}
 use Rattle.acn_asn_syntax.specs.declared.values.AsnValue.{AsnValue}
 use Rattle.acn_asn_syntax.specs.declared.values.AsnValue.TheVariants as value
-use Rattle.acn_asn_syntax.specs.declared.sets.AsnRange.{AsnRange}
 use Rattle.acn_asn_syntax.specs.declared.types.Rest.{Rest}
 use Rattle.acn_asn_syntax.specs.declared.types.Rest.TheVariants as rest
 use Rattle.acn_asn_syntax.specs.Mirror.{Set, all_except, union_of, Meets, no_meets, and_meet, Meet, meet_of, Parts, no_parts, and_part, Part, part_of, part_but, Element, value_of, range_of, size_of, from_of, inner_of}
@@ -12,7 +11,6 @@ use Rattle.acn_acn_syntax.specs.declared.modules.Attr.{Attr}
 use Rattle.acn_acn_syntax.specs.declared.modules.Attr.TheVariants as attr
 use Rattle.acn_acn_syntax.specs.declared.modules.FieldKind.{FieldKind}
 use Rattle.acn_acn_syntax.specs.declared.modules.FieldKind.TheVariants as field_kind
-use Rattle.acn_acn_syntax.specs.declared.modules.ParamKind.{ParamKind}
 use Rattle.acn_acn_syntax.specs.declared.modules.ParamKind.TheVariants as param_kind
 use Rattle.acn_acn_syntax.specs.declared.modules.Param.{Param}
 use Rattle.acn_names.specs.World.{Name}

@@ -2,7 +2,7 @@
 -- of ACN modules and tables this profile's own). A name stands once among the modules of one kind, the imports and
 -- assignments of a module, the entries of an ACN module, the parameters of an entry, the tables, and the names inside
 -- one pair of braces.
-use Rattle.std.specs.Prelude.{ℕ, Bool, true, false, List, [], ◌∷◌, ◌++◌, map, Option, Some, None, flat_map}
+use Rattle.std.specs.Prelude.{Bool, true, false, List, [], ◌∷◌, ◌++◌, map, Option, Some, None, flat_map}
 use Rattle.std.specs.List.{list_any}
 use Rattle.std.specs.Str.{bytes_eq}
 use Rattle.acn_asn_syntax.specs.Mirror.{AsnModule, AsnType, type_of, AsnBase, integer, enumerated, sequence, sequence_of, sequence_size, choice, Constraints, no_constraints, and_constraint, Constraint, containing, Components, no_components, and_component, Alternatives, no_alternatives, and_alternative, Assign}

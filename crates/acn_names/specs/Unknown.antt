@@ -1,5 +1,5 @@
 -- Modules that aren't there, and references that name nothing, each in the order of the text.
-use Rattle.std.specs.Prelude.{ℕ, Bool, true, false, not, ◌||◌, List, [], ◌∷◌, ◌++◌, map, filter, Option, Some, None, option_and_then, is_some, flat_map}
+use Rattle.std.specs.Prelude.{ℕ, Bool, not, ◌||◌, List, [], ◌∷◌, ◌++◌, map, Option, Some, None, option_and_then, is_some, flat_map}
 use Rattle.std.specs.List.{enumerate_from}
 use Rattle.acn_asn_syntax.specs.Mirror.{AsnModule, AsnType, AsnBase, integer, enumerated, Assign}
 use Rattle.acn_asn_syntax.specs.declared.types.Item.{Item}

@@ -1,5 +1,5 @@
 -- The modules and tables of all files, as plain data, and the places of assignments.
-use Rattle.std.specs.Prelude.{ℕ, Bool, ◌&&◌, nat_eq, ◌+◌, ◌<◌, List, [], ◌∷◌, ◌++◌, length, map, Option, Some, None, option_and_then, slice_get, flat_map, IsSome}
+use Rattle.std.specs.Prelude.{ℕ, Bool, ◌&&◌, nat_eq, ◌+◌, ◌<◌, List, length, map, Option, Some, None, option_and_then, slice_get, flat_map, IsSome}
 use Rattle.std.specs.List.{enumerate_from}
 use Rattle.acn_asn_syntax.specs.Mirror.{AsnModule, AsnType, Assign, TypeIs, ValueIs}
 use Rattle.acn_asn_syntax.specs.View.{module_view}

@@ -44,7 +44,6 @@ impl World {
     }
 
     /// The types without parameters to which no other type refers, in the order of the text.
-    #[tactic(auto, using(crate::proofs::FoundTypes::roots_are_types))]
     pub fn roots(&self, alloc: Global) -> Result<Row<TypeId>, NoMemory>
         ensures roots { IfOk result (λ all. all ≡ faults.roots (world_view self.now)) }
         ensures of_types { IfOk result (λ all. All (world.IsType (world_view self.now)) all) }

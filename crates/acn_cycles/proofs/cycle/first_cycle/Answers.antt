@@ -1,43 +1,33 @@
-use Rattle.std.proofs.Common.{◌≡◌, ◌<◌, ℕ, List, map, sym, ap, ◌∙◌, subst, arith, refl}
-use Rattle.std.specs.Prelude.{flat_map, slice_get, Some, length}
-use Rattle.std.specs.List.{enumerate_from}
+use Rattle.std.proofs.Common.{◌≡◌, ◌<◌, ℕ, List, sym, ap, ◌∙◌, subst, arith, refl}
+use Rattle.std.specs.Prelude.{slice_get, Some, length}
 use Rattle.std.proofs.lemmas.Option.{slice_get_read}
-use Rattle.acn_asn_syntax.specs.View.{module_view}
-use Rattle.acn_asn_syntax.specs.declared.modules.AsnModule.{AsnModule}
 use Rattle.acn_names.specs.Views.{index_view}
-use Rattle.acn_names.specs.World.{places, module_places}
+use Rattle.acn_names.specs.World.{places}
 use Rattle.acn_names.specs.Cycles.{IsFirstCycle}
 use Rattle.acn_names.specs.declared.sources.TypeId.{TypeId}
 use Rattle.acn_cycles.specs.Numbers.{places_at}
-use Rattle.acn_cycles.proofs.Places.{small_items}
 use Rattle.acn_cycles.proofs.Transport.{no_cycle, first_cycle, node_stands, cyclic_there}
 use Rattle.acn_cycles.proofs.cycle.first_cycle.Goals as goal
 
-pub places_of-requires-clause-small : goal.places_of-requires-clause-small
-places_of-requires-clause-small c = rw c.items.ensures (small_items (index_view c.args.index.now) c.args.index.now.small)
-
 pub ring_of-requires : goal.ring_of-requires
-unfolding places
-ring_of-requires c = c.as_slice.ensures.value ∙ (c.in_ok-places.ensures {u = tt} ∙ ap (λ (ms : List AsnModule). flat_map module_places (enumerate_from 0 (map module_view ms))) c.items.ensures)
+ring_of-requires c = c.as_slice.ensures.value ∙ c.in_ok-places.ensures {u = tt}
 
 pub returns-in-None-clause-exact : goal.returns-in-None-clause-exact
 returns-in-None-clause-exact c = no_cycle (index_view c.args.index.now) (rw c.in-None.is at (c.in_ok-ring_of.ensures {u = tt}))
 
 pub index-first-requires : goal.index-first-requires
-unfolding places
 index-first-requires c =
     let ring = rw c.in-Some.is at (c.in_ok-ring_of.ensures {u = tt}) in
     let within = node_stands (index_view c.args.index.now) c.in-Some.ring.first ring.is_node in
-    let all : c.in_ok-places.places.items ≡ places (index_view c.args.index.now) = c.in_ok-places.ensures {u = tt} ∙ ap (λ (ms : List AsnModule). flat_map module_places (enumerate_from 0 (map module_view ms))) c.items.ensures in
+    let all : c.in_ok-places.places.items ≡ places (index_view c.args.index.now) = c.in_ok-places.ensures {u = tt} in
     let size : length c.in_ok-places.places.items ≡ length (places (index_view c.args.index.now)) = ap length all in
     omega (arith, c.in_ok-places.places.ok.0)
 
 pub returns-clause-exact : goal.returns-clause-exact
-unfolding places
 returns-clause-exact c =
     let w = index_view c.args.index.now in
     let ring = rw c.in-Some.is at (c.in_ok-ring_of.ensures {u = tt}) in
-    let all : c.in_ok-places.places.items ≡ places w = c.in_ok-places.ensures {u = tt} ∙ ap (λ (ms : List AsnModule). flat_map module_places (enumerate_from 0 (map module_view ms))) c.items.ensures in
+    let all : c.in_ok-places.places.items ≡ places w = c.in_ok-places.ensures {u = tt} in
     let size : length c.in_ok-places.places.items ≡ length (places w) = ap length all in
     let within : c.in-Some.ring.first < length c.in_ok-places.places.items = (let h = node_stands w c.in-Some.ring.first ring.is_node in omega arith) in
     let stands : slice_get (places w) c.in-Some.ring.first ≡ Some c.index-first.result.now =
