@@ -33,7 +33,7 @@ returns-clause-exact c =
     let stands : slice_get (places w) c.in-Some.ring.first ≡ Some c.index-first.result.now =
     ap (λ (ps : List TypeId). slice_get ps c.in-Some.ring.first) (sym all) ∙ slice_get_read c.in_ok-places.places.items (length c.in_ok-places.places.items) c.in-Some.ring.first c.index-first.result.now refl within c.index-first.ensures in
     let way : c.in_ok-way-in-Some.way ≡ places_at (places w) c.in-Some.ring.way =
-    c.in_ok-way-in-Some.ensures {u = tt} ∙ (ap (λ (ps : List TypeId). places_at ps c.items-in-Some.result.now) (c.as_slice-in-Some.ensures.value ∙ all) ∙ ap (λ (ns : List ℕ). places_at (places w) ns) c.items-in-Some.ensures) in
+    c.in_ok-way-in-Some.ensures {u = tt} ∙ (ap (λ (ps : List TypeId). places_at ps c.items.result.now) (c.as_slice-in-Some.ensures.value ∙ all) ∙ ap (λ (ns : List ℕ). places_at (places w) ns) c.items.ensures) in
     subst (λ (ps : List TypeId). IsFirstCycle w c.index-first.result.now ps) (sym way) (first_cycle w c.in-Some.ring.first c.in-Some.ring.way c.index-first.result.now ring stands)
 
 pub returns-clause-there : goal.returns-clause-there
