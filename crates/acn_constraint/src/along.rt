@@ -172,7 +172,7 @@ fn constraint_low(constraint: &Constraint, at: Names<'_>) -> Option<i128>
 }
 
 /// The first number of the constraints that is too low.
-#[tactic(auto, using(crate::proofs::Firsts::first_append, crate::proofs::Firsts::earlier_some, crate::proofs::Firsts::earlier_none))]
+#[tactic(auto, using(crate::proofs::Firsts::first_append, crate::proofs::Firsts::option_or_some, crate::proofs::Firsts::option_or_none))]
 pub fn first_low(constraints: &[(u32, &Constraint)], world: &World, names: &[Named]) -> Option<i128>
     ensures { result ≡ spec.first (flat_map (spec.low_numbers (world_view world.now) names.now) (constraints_view constraints.now)) }
 {
