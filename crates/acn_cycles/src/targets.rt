@@ -1,16 +1,15 @@
 ghost use Rattle.std.specs.Prelude.{◌≡◌, ◌++◌, filter_map, OnOk};
 ghost use Rattle.acn_asn_syntax.specs.View.{assign_view};
 ghost use Rattle.acn_names.specs.Views.{index_view};
-ghost use Rattle.acn_names.specs.Mentioned.{mention_view, mentions_view};
-ghost use Rattle.acn_names.specs.Mentions.{value_mentions};
+ghost use Rattle.acn_mentions.specs.Mentioned.{mention_view, mentions_view};
+ghost use Rattle.acn_mentions.specs.Mentions.{value_mentions};
 ghost use Rattle.acn_names.specs.Cycles as spec;
 
 use acn_asn_syntax::{AsnValue, Assign};
+use acn_mentions::{Mention, push_type};
 use acn_names::TypeId;
 use acn_names::index::Index;
-use acn_names::mention::Mention;
 use acn_names::references::{assignment, type_named, value_named};
-use acn_names::type_mentions::push_type;
 use acn_num::NoMemory;
 use std::alloc::Global;
 

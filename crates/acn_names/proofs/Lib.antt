@@ -2,13 +2,8 @@ pub mod Rows
 pub mod Sizes
 pub mod Following
 pub mod ValueSteps
-pub mod TypeViews
 pub mod ChainSteps
 pub mod Reversed
-pub mod SetViews
-pub mod Joined
-pub mod TypeMentions
-pub mod FieldViews
 pub mod TypeThere
 pub mod LawProofs
 pub mod ParameterSteps

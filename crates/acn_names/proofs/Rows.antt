@@ -19,7 +19,7 @@ use Rattle.acn_names.specs.World.{World, place, assignment, type_at, places, cou
 use Rattle.acn_names.specs.Lookup.{module_named, own, imported_from, found_within, found, type_named, value_named, type_in, entry_at, table_named}
 use Rattle.acn_names.specs.Values.{first_worth, value_within, value_of, leads_to_number}
 use Rattle.acn_names.specs.Chains.{written, next_link, links_within, links, base_link, base_of, chain_of, has_parameters}
-use Rattle.acn_names.specs.Mentions.{in_set, in_meets, in_meet, in_parts, in_part, in_element, mentions, base_mentions, component_mentions, alternative_mentions, all_constraint_mentions, constraint_mentions, assign_mentions, field_mentions, braces_mentions, fields_mentions, entry_mentions}
+use Rattle.acn_mentions.specs.Mentions.{in_set, in_meets, in_meet, in_parts, in_part, in_element, mentions, base_mentions, component_mentions, alternative_mentions, all_constraint_mentions, constraint_mentions, assign_mentions, field_mentions, braces_mentions, fields_mentions, entry_mentions}
 use Rattle.acn_names.specs.Repeated.{repeated, twice, twice_base, twice_components, twice_alternatives, twice_constraints, twice_constraint, twice_items, twice_module, asn_repeats, twice_field, twice_braces, twice_fields, twice_entry, twice_entries, acn_repeats, repeats}
 use Rattle.acn_names.specs.Unknown.{missing_modules, names_of, is_known, unknown_in, acn_type_named, is_acn_known, acn_unknown_in, unknowns}
 use Rattle.acn_names.specs.Cycles.{Within, here, Reaches, once, more, IsFirstCycle, targets_of, targets, is_as_number, is_acn_wrong, wrong_kinds}

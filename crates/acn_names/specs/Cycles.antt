@@ -7,11 +7,11 @@ use Rattle.acn_names.specs.World.{Name, World, assignment, places}
 use Rattle.acn_names.specs.Lookup.{type_named, value_named}
 use Rattle.acn_names.specs.Values.{leads_to_number}
 use Rattle.acn_names.specs.Chains.{Link, written, assigned_link, base_of}
-use Rattle.acn_names.specs.Mentions.{Mention, to_type, in_constraint, in_assignment, AcnMention, of_parameter, of_field, to_table, mentions, value_mentions, assign_mentions, entry_mentions}
+use Rattle.acn_mentions.specs.Mentions.{Mention, to_type, in_constraint, in_assignment, AcnMention, of_parameter, of_field, to_table, mentions, value_mentions, assign_mentions, entry_mentions}
 use Rattle.acn_names.specs.Repeated.{is_among, when}
 use Rattle.acn_names.specs.Unknown.{governor_names, acn_type_named, mention_name, acn_mention_name}
-use Rattle.acn_names.specs.declared.mention.Role.{Role}
-use Rattle.acn_names.specs.declared.mention.Role.TheVariants as role
+use Rattle.acn_mentions.specs.declared.mention.Role.{Role}
+use Rattle.acn_mentions.specs.declared.mention.Role.TheVariants as role
 use Rattle.acn_names.specs.declared.sources.TypeId.{TypeId}
 use Rattle.acn_names.specs.declared.fault.NameFault.{NameFault}
 use Rattle.acn_names.specs.declared.fault.NameFault.TheVariants as fault

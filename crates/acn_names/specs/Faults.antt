@@ -6,7 +6,7 @@ use Rattle.acn_acn_syntax.specs.Mirror.{Entry}
 use Rattle.acn_names.specs.World.{Name, World, name_of, assignment, places, is_same, type_at}
 use Rattle.acn_names.specs.Lookup.{type_named, entry_at}
 use Rattle.acn_names.specs.Chains.{Link, assigned_link, has_parameters}
-use Rattle.acn_names.specs.Mentions.{AcnMention, of_parameter, of_field, to_table, entry_mentions, mentions}
+use Rattle.acn_mentions.specs.Mentions.{AcnMention, of_parameter, of_field, to_table, entry_mentions, mentions}
 use Rattle.acn_names.specs.Repeated.{repeats}
 use Rattle.acn_names.specs.Unknown.{missing_modules, unknowns}
 use Rattle.acn_names.specs.Cycles.{HasNoCycle, IsFirstCycle, wrong_kinds, type_targets}

@@ -2,7 +2,6 @@ pub mod World
 pub mod Lookup
 pub mod Values
 pub mod Chains
-pub mod Mentions
 pub mod Repeated
 pub mod Unknown
 pub mod Cycles
@@ -13,7 +12,5 @@ pub mod Keyed
 pub mod Found
 pub mod Linked
 pub mod Chained
-pub mod Mentioned
 pub mod Viewed
-pub mod AcnMentioned
 pub mod Laws

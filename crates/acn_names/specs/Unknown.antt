@@ -8,7 +8,7 @@ use Rattle.acn_acn_syntax.specs.Mirror.{Entry, Module}
 use Rattle.acn_names.specs.World.{Name, World}
 use Rattle.acn_names.specs.Lookup.{module_named, imports_of, found, is_named, type_named, type_in, value_named, table_named}
 use Rattle.acn_names.specs.Chains.{written, base_of}
-use Rattle.acn_names.specs.Mentions.{Mention, to_type, in_constraint, in_default, in_assignment, AcnMention, of_parameter, of_field, to_table, assign_mentions, entry_mentions}
+use Rattle.acn_mentions.specs.Mentions.{Mention, to_type, in_constraint, in_default, in_assignment, AcnMention, of_parameter, of_field, to_table, assign_mentions, entry_mentions}
 use Rattle.acn_names.specs.Repeated.{is_among, named_names, when}
 use Rattle.acn_names.specs.declared.sources.TypeId.{TypeId}
 use Rattle.acn_names.specs.declared.fault.NameFault.{NameFault}

@@ -43,7 +43,7 @@ fn push_constraints<'w>(
 }
 
 // Adds the constraints of a link.
-#[tactic(auto, using(crate::proofs::TypeViews::open_type, crate::proofs::TypeViews::constraints_back))]
+#[tactic(auto, using(acn_mentions::proofs::TypeViews::open_type, acn_mentions::proofs::TypeViews::constraints_back))]
 fn push_link<'w>(link: Link<'w>, all: &mut Row<(u32, &'w Constraint)>) -> Result<(), NoMemory>
     ensures { OnOk result (constraints_view all.new ≡ constraints_view all.old ++ spec.link_constraints (link_view link.entry)) }
 {

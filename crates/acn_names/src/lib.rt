@@ -1,7 +1,6 @@
 //! What the names of ASN.1 modules, ACN modules and mapping tables lead to, and which name is at fault.
 #![tactic(auto)]
 
-pub mod acn_mentions;
 pub mod chain;
 mod chains;
 mod fault;
@@ -9,13 +8,10 @@ pub mod index;
 mod laws;
 pub mod lookup;
 pub mod maps;
-pub mod mention;
 pub mod references;
 pub mod referring;
 pub mod roots;
-mod set_mentions;
 mod sources;
-pub mod type_mentions;
 pub mod values;
 mod world;
 

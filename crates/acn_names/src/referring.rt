@@ -2,20 +2,18 @@ ghost use Rattle.std.specs.Prelude.{◌≡◌, ◌++◌, map, not, filter, flat_
 ghost use Rattle.acn_asn_syntax.specs.View.{type_view};
 ghost use Rattle.acn_acn_syntax.specs.View.{entry_of};
 ghost use Rattle.acn_names.specs.Views.{index_view};
-ghost use Rattle.acn_names.specs.Mentioned.{mention_view, mentions_view};
-ghost use Rattle.acn_names.specs.AcnMentioned.{acn_mention_view, acn_mentions_view};
+ghost use Rattle.acn_mentions.specs.Mentioned.{mention_view, mentions_view};
+ghost use Rattle.acn_mentions.specs.AcnMentioned.{acn_mention_view, acn_mentions_view};
 ghost use Rattle.acn_names.specs.World as world;
 ghost use Rattle.acn_names.specs.Lookup as lookup;
-ghost use Rattle.acn_names.specs.Mentions as spec;
+ghost use Rattle.acn_mentions.specs.Mentions as spec;
 ghost use Rattle.acn_names.specs.Cycles as cycles;
 ghost use Rattle.acn_names.specs.Faults as faults;
 
 use crate::TypeId;
-use crate::acn_mentions::{AcnMention, push_entry};
 use crate::index::Index;
-use crate::mention::Mention;
 use crate::references::{entry_at, type_at, type_named};
-use crate::type_mentions::push_type;
+use acn_mentions::{AcnMention, Mention, push_entry, push_type};
 use acn_num::NoMemory;
 use std::alloc::Global;
 

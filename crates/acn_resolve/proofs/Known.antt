@@ -7,7 +7,7 @@ use Rattle.acn_asn_syntax.specs.Mirror.{AsnModule, AsnType, Assign, ValueIs}
 use Rattle.acn_asn_syntax.specs.declared.values.AsnValue.TheVariants as value
 use Rattle.acn_names.specs.World.{World, Name, assignment}
 use Rattle.acn_names.specs.Lookup.{value_named, imports_of}
-use Rattle.acn_names.specs.Mentions.{Mention, in_assignment, mentions, assign_mentions}
+use Rattle.acn_mentions.specs.Mentions.{Mention, in_assignment, mentions, assign_mentions}
 use Rattle.acn_names.specs.Repeated.{repeats, when}
 use Rattle.acn_names.specs.Unknown.{missing_modules, unknowns, unknown_of, unknown_in, unknown_mentions, import_unknown, acn_unknown_in, is_known, mention_name}
 use Rattle.acn_acn_syntax.specs.Mirror.{Module}

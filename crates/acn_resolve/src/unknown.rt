@@ -2,20 +2,19 @@ ghost use Rattle.std.specs.Prelude.{◌≡◌, [], ◌∷◌, ◌++◌, not, is_
 ghost use Rattle.std.specs.List.{enumerate_from};
 ghost use Rattle.acn_asn_syntax.specs.View.{assign_view, module_view, base_view, type_view};
 ghost use Rattle.acn_names.specs.Views.{index_view};
-ghost use Rattle.acn_names.specs.Mentioned.{mention_view, mentions_view, governor_view};
-ghost use Rattle.acn_names.specs.Mentions as mentions;
+ghost use Rattle.acn_mentions.specs.Mentioned.{mention_view, mentions_view, governor_view};
+ghost use Rattle.acn_mentions.specs.Mentions as mentions;
 ghost use Rattle.acn_names.specs.Repeated as repeated;
 ghost use Rattle.acn_names.specs.Unknown as spec;
 ghost use Rattle.acn_repeated.specs.Named.{names_view};
 ghost use Rattle.acn_repeated.specs.Blamed.{blames_view};
 
 use acn_asn_syntax::{AsnBase, AsnModule, AsnType, AsnValue, Assign, Import, Item, Named};
+use acn_mentions::{Mention, push_type};
 use acn_names::chain::{Link, base_of};
 use acn_names::index::Index;
 use acn_names::lookup::{Sort, found, imports_of, module_named, same};
-use acn_names::mention::Mention;
 use acn_names::references::{type_named, value_named};
-use acn_names::type_mentions::push_type;
 use acn_num::{Name, NoMemory, Row};
 use acn_repeated::{Blame, Kind, push_blames};
 use std::alloc::Global;
@@ -55,7 +54,7 @@ fn is_item(name: &[u8], items: &[Item]) -> bool
 }
 
 // Whether a type gives this name to a number or an item.
-#[tactic(auto, using(acn_names::proofs::TypeViews::type_views))]
+#[tactic(auto, using(acn_mentions::proofs::TypeViews::type_views))]
 fn is_base_name(name: &[u8], base: &AsnBase) -> bool
     ensures { result ≡ repeated.is_among name.now (spec.base_names (base_view base.now)) }
 {
@@ -170,7 +169,7 @@ fn push_value<'t>(value: &'t AsnValue, all: &mut Vec<Mention<'t>>) -> Result<(),
 }
 
 /// Adds what is mentioned in an assignment.
-#[tactic(auto, unfolding(acn_names::specs::Mentions::assign_mentions))]
+#[tactic(auto, unfolding(acn_mentions::specs::Mentions::assign_mentions))]
 pub fn push_assign<'t>(item: &'t Assign, all: &mut Vec<Mention<'t>>) -> Result<(), NoMemory>
     ensures { OnOk result (mentions_view all.new.items ≡ mentions_view all.old.items ++ mentions.assign_mentions (assign_view item.now)) }
 {

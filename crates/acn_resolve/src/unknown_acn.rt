@@ -1,7 +1,7 @@
 ghost use Rattle.std.specs.Prelude.{◌≡◌, [], ◌∷◌, ◌++◌, not, is_some, map, flat_map, OnOk, IfOk};
 ghost use Rattle.acn_acn_syntax.specs.View.{entry_of, module_of};
 ghost use Rattle.acn_names.specs.Views.{index_view};
-ghost use Rattle.acn_names.specs.AcnMentioned.{acn_mention_view, acn_mentions_view};
+ghost use Rattle.acn_mentions.specs.AcnMentioned.{acn_mention_view, acn_mentions_view};
 ghost use Rattle.acn_names.specs.Unknown as spec;
 ghost use Rattle.acn_names.specs.Repeated.{when};
 ghost use Rattle.acn_names.specs.Lookup.{type_in};
@@ -9,8 +9,8 @@ ghost use Rattle.acn_repeated.specs.Named.{names_view};
 ghost use Rattle.acn_repeated.specs.Blamed.{blames_view};
 
 use acn_acn_syntax::{AcnEntry, AcnModule};
+use acn_mentions::{AcnMention, push_entry};
 use acn_names::TypeId;
-use acn_names::acn_mentions::{AcnMention, push_entry};
 use acn_names::index::Index;
 use acn_names::lookup::module_named;
 use acn_names::references::{table_named, type_in, type_named};

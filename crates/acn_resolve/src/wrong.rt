@@ -3,8 +3,8 @@ ghost use Rattle.std.specs.List.{enumerate_from};
 ghost use Rattle.acn_asn_syntax.specs.View.{assign_view, module_view, base_view, type_view};
 ghost use Rattle.acn_acn_syntax.specs.View.{entry_of, module_of};
 ghost use Rattle.acn_names.specs.Views.{index_view};
-ghost use Rattle.acn_names.specs.Mentioned.{mention_view, mentions_view, governor_view};
-ghost use Rattle.acn_names.specs.AcnMentioned.{acn_mention_view, acn_mentions_view};
+ghost use Rattle.acn_mentions.specs.Mentioned.{mention_view, mentions_view, governor_view};
+ghost use Rattle.acn_mentions.specs.AcnMentioned.{acn_mention_view, acn_mentions_view};
 ghost use Rattle.acn_names.specs.Repeated.{when};
 ghost use Rattle.acn_names.specs.Unknown.{mention_name, acn_mention_name};
 ghost use Rattle.acn_names.specs.Cycles as spec;
@@ -17,18 +17,17 @@ use crate::unknown::{is_governed, mention_name, push_assign};
 use crate::unknown_acn::{acn_mention_name, acn_type_named};
 use acn_acn_syntax::{AcnEntry, AcnModule};
 use acn_asn_syntax::{AsnBase, AsnModule, AsnType, Assign};
+use acn_mentions::{AcnMention, Mention, Role, push_entry};
 use acn_names::NameFault;
-use acn_names::acn_mentions::{AcnMention, push_entry};
 use acn_names::chain::{Link, assigned_link, base_of};
 use acn_names::index::Index;
-use acn_names::mention::{Mention, Role};
 use acn_names::values::leads_to_number;
 use acn_num::{Name, NoMemory};
 use acn_repeated::{Blame, Kind, push_blames};
 use std::alloc::Global;
 
 // Whether the type is INTEGER.
-#[tactic(auto, using(acn_names::proofs::TypeViews::type_views))]
+#[tactic(auto, using(acn_mentions::proofs::TypeViews::type_views))]
 fn is_integer(base: &AsnBase) -> bool
     ensures { result ≡ spec.is_integer (base_view base.now) }
 {
@@ -48,7 +47,7 @@ fn is_integer(base: &AsnBase) -> bool
 }
 
 // Whether the type may be that of a parameter.
-#[tactic(auto, using(acn_names::proofs::TypeViews::type_views))]
+#[tactic(auto, using(acn_mentions::proofs::TypeViews::type_views))]
 fn fits_parameter(base: &AsnBase) -> bool
     ensures { result ≡ spec.fits_parameter (base_view base.now) }
 {
@@ -68,7 +67,7 @@ fn fits_parameter(base: &AsnBase) -> bool
 }
 
 // Whether the type may be that of an inserted field.
-#[tactic(auto, using(acn_names::proofs::TypeViews::type_views))]
+#[tactic(auto, using(acn_mentions::proofs::TypeViews::type_views))]
 fn fits_field(base: &AsnBase) -> bool
     ensures { result ≡ spec.fits_field (base_view base.now) }
 {

@@ -1,7 +1,7 @@
 use Rattle.std.proofs.Common.{◌≡◌, drop, ◌++◌}
 use Rattle.std.specs.Prelude.{filter_map}
 use Rattle.acn_names.specs.Views.{index_view}
-use Rattle.acn_names.specs.AcnMentioned.{acn_mentions_view}
+use Rattle.acn_mentions.specs.AcnMentioned.{acn_mentions_view}
 use Rattle.acn_names.specs.Faults.{entry_target}
 use Rattle.acn_names.proofs.referring.push_entry_targets.Given as goal
 

@@ -3,7 +3,7 @@ use Rattle.acn_names.specs.Views.{index_view}
 use Rattle.acn_repeated.specs.Named.{names_view}
 use Rattle.std.specs.Prelude.{map, flat_map}
 use Rattle.acn_asn_syntax.specs.View.{assign_view}
-use Rattle.acn_names.specs.Mentions.{assign_mentions}
+use Rattle.acn_mentions.specs.Mentions.{assign_mentions}
 use Rattle.acn_names.specs.Unknown.{unknown_mentions}
 use Rattle.acn_resolve.proofs.unknown.push_items.Given as goal
 

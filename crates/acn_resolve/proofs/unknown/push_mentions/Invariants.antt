@@ -1,7 +1,7 @@
 use Rattle.std.proofs.Common.{◌≡◌, drop, ◌++◌}
 use Rattle.acn_names.specs.Views.{index_view}
 use Rattle.acn_repeated.specs.Named.{names_view}
-use Rattle.acn_names.specs.Mentioned.{mentions_view}
+use Rattle.acn_mentions.specs.Mentioned.{mentions_view}
 use Rattle.acn_names.specs.Unknown.{unknown_mentions}
 use Rattle.acn_resolve.proofs.unknown.push_mentions.Given as goal
 

@@ -2,7 +2,7 @@ use Rattle.std.proofs.Common.{◌≡◌, drop, ◌++◌}
 use Rattle.acn_names.specs.Views.{index_view}
 use Rattle.std.specs.Prelude.{flat_map}
 use Rattle.acn_names.specs.Repeated.{when}
-use Rattle.acn_names.specs.AcnMentioned.{acn_mentions_view}
+use Rattle.acn_mentions.specs.AcnMentioned.{acn_mentions_view}
 use Rattle.acn_repeated.specs.Named.{names_view}
 use Rattle.acn_names.specs.Unknown.{acn_mention_name}
 use Rattle.acn_names.specs.Cycles.{is_acn_wrong}
