@@ -1,7 +1,7 @@
 //! The characters that constraints leave of an IA5String.
 
 use crate::measuring::characters;
-use crate::reading::Trouble;
+use acn_source_texts::Trouble;
 
 #[test]
 fn characters_are_evaluated_inside_from(rt: HostRuntime) -> Result<(), Trouble> {

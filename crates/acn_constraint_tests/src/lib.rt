@@ -8,6 +8,4 @@ mod measuring;
 #[cfg(test)]
 mod numbers;
 #[cfg(test)]
-mod reading;
-#[cfg(test)]
 mod sizes;

@@ -1,10 +1,10 @@
 //! What the constraints of a type leave, in words.
 
-use crate::reading::{Trouble, world_of_module};
 use acn_asn_syntax::AsnValue;
 use acn_constraint::{ConstraintFault, OpenSet, alphabet_of, range_of, size_of};
 use acn_names::{Chain, World};
 use acn_num::RangeSet;
+use acn_source_texts::{Trouble, world_of_module};
 use std::alloc::Global;
 
 /// The chain of the type of the value t in the first module.

@@ -1,10 +1,10 @@
 //! The numbers that the constraints of an INTEGER leave.
 
 use crate::measuring::{chain_of_t, numbers, numbers_of_t, world_with_t};
-use crate::reading::{Trouble, world_of, world_of_module};
 use acn_constraint::range_of;
 use acn_names::World;
 use acn_num::RangeSet;
+use acn_source_texts::{Trouble, world_of, world_of_module};
 use std::alloc::Global;
 
 #[test]
@@ -188,11 +188,11 @@ fn an_identifier_is_read_in_the_module_where_it_stands(rt: HostRuntime) -> Resul
         "M DEFINITIONS ::= BEGIN IMPORTS B, most FROM N; v INTEGER ::= 50 t B (v..most) ::= NULL END
         N DEFINITIONS ::= BEGIN IMPORTS w FROM O; v INTEGER ::= 10 most INTEGER ::= w B ::= INTEGER (v..200) END
         O DEFINITIONS ::= BEGIN w INTEGER ::= v v INTEGER ::= 60 END";
-    let world = world_of(rt.alloc(), asn)?;
+    let world = world_of(rt.alloc(), asn, "", "")?;
     assert_eq!(rt; numbers_of_t(rt.alloc(), &world)?.as_str(), "50..60");
     let base = "M DEFINITIONS ::= BEGIN v INTEGER ::= 50 t N.B ::= NULL END
         N DEFINITIONS ::= BEGIN v INTEGER ::= 10 B ::= INTEGER (v..20) END";
-    let other = world_of(rt.alloc(), base)?;
+    let other = world_of(rt.alloc(), base, "", "")?;
     assert_eq!(rt; numbers_of_t(rt.alloc(), &other)?.as_str(), "10..20");
     Ok(())
 }

@@ -1,7 +1,7 @@
 //! The sizes that constraints leave of strings and lists.
 
 use crate::measuring::sizes;
-use crate::reading::Trouble;
+use acn_source_texts::Trouble;
 
 #[test]
 fn sizes_are_evaluated_as_numbers_from_zero(rt: HostRuntime) -> Result<(), Trouble> {

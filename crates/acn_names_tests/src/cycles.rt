@@ -1,7 +1,8 @@
 //! Types and values that reach themselves.
 
-use crate::asking::{told, told_of, told_of_entries, told_of_module};
-use crate::reading::{Trouble, add_asn, no_files};
+use acn_source_texts::{
+    Trouble, add_asn, no_files, told, told_of, told_of_entries, told_of_module,
+};
 
 #[test]
 fn a_type_that_reaches_itself_is_told_with_its_way(rt: HostRuntime) -> Result<(), Trouble> {

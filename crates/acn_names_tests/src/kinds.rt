@@ -1,7 +1,6 @@
 //! References to what is of another kind.
 
-use crate::asking::{told_of, told_of_entries, told_of_module};
-use crate::reading::Trouble;
+use acn_source_texts::{Trouble, told_of, told_of_entries, told_of_module};
 
 #[test]
 fn an_identifier_that_is_used_as_a_number_leads_to_one(rt: HostRuntime) -> Result<(), Trouble> {

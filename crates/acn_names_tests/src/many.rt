@@ -1,7 +1,6 @@
 //! Many names.
 
-use crate::asking::told;
-use crate::reading::{Trouble, add_acn, add_asn, no_files};
+use acn_source_texts::{Trouble, add_acn, add_asn, no_files, told};
 use std::alloc::Global;
 
 // A module with so many types, of which each but the first refers to the one before it and to one of the next

@@ -1,7 +1,6 @@
 //! Modules that aren't there.
 
-use crate::asking::{told, told_of, told_of_module};
-use crate::reading::{Trouble, add_acn, add_asn, no_files};
+use acn_source_texts::{Trouble, add_acn, add_asn, no_files, told, told_of, told_of_module};
 
 #[test]
 fn the_module_of_an_import_is_an_asn_module(rt: HostRuntime) -> Result<(), Trouble> {

@@ -1,7 +1,8 @@
 //! Of several faults the kinds go in their order, wherever they stand.
 
-use crate::asking::{told, told_of, told_of_module};
-use crate::reading::{Trouble, add_acn, add_asn, add_map, no_files};
+use acn_source_texts::{
+    Trouble, add_acn, add_asn, add_map, no_files, told, told_of, told_of_module,
+};
 
 #[test]
 fn the_names_of_the_worked_row_are_refused(rt: HostRuntime) -> Result<(), Trouble> {

@@ -1,7 +1,8 @@
 //! Names that are given twice in one place.
 
-use crate::asking::{told, told_of, told_of_entries, told_of_module};
-use crate::reading::{Trouble, add_acn, add_asn, add_map, no_files};
+use acn_source_texts::{
+    Trouble, add_acn, add_asn, add_map, no_files, told, told_of, told_of_entries, told_of_module,
+};
 
 #[test]
 fn a_name_stands_once_in_each_place_of_an_asn_module(rt: HostRuntime) -> Result<(), Trouble> {

@@ -1,7 +1,8 @@
 //! References that name nothing, and what imports bring in.
 
-use crate::asking::{told, told_of, told_of_entries, told_of_module};
-use crate::reading::{Trouble, add_acn, add_asn, no_files};
+use acn_source_texts::{
+    Trouble, add_acn, add_asn, no_files, told, told_of, told_of_entries, told_of_module,
+};
 
 #[test]
 fn a_reference_to_a_type_leads_to_one_wherever_it_stands(rt: HostRuntime) -> Result<(), Trouble> {

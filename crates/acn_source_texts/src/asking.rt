@@ -58,8 +58,8 @@ fn push_words(fault: &NameFault, words: &mut Vec<u8>) -> Result<(), Trouble> {
     }
 }
 
-/// A fault in words: its kind, the module, the name, and those of a cycle.
-pub fn in_words(alloc: Global, fault: &NameFault) -> Result<String, Trouble> {
+// A fault in words: its kind, the module, the name, and those of a cycle.
+fn in_words(alloc: Global, fault: &NameFault) -> Result<String, Trouble> {
     let mut words = Vec::new(alloc);
     push_words(fault, &mut words)?;
     Ok(String::from_utf8_lossy(alloc, words.as_slice())?)
@@ -93,10 +93,13 @@ pub fn told_of_entries(alloc: Global, asn: &str, acn: &str) -> Result<String, Tr
 
 /// The world of one file of each sort; an empty one is left out.
 pub fn world_of(alloc: Global, asn: &str, acn: &str, map: &str) -> Result<World, Trouble> {
-    match resolve(alloc, files(alloc, asn, acn, map)?) {
-        Ok(world) => Ok(world),
-        Err(_) => Err(Trouble::Absent),
-    }
+    Ok(resolve(alloc, files(alloc, asn, acn, map)?)?)
+}
+
+/// The world of a module M alone with this text.
+pub fn world_of_module(alloc: Global, text: &str) -> Result<World, Trouble> {
+    let asn = module(alloc, "M", text)?;
+    world_of(alloc, asn.as_str(), "", "")
 }
 
 /// The place of the type with this name in the module with that name.

@@ -4,7 +4,7 @@ use acn_acn_parse::{parse_acn, parse_map};
 use acn_asn_parse::parse_asn;
 use acn_cursor::ParseFault;
 use acn_lex::{LexFault, Tokens, lex};
-use acn_names::Sources;
+use acn_names::{NameFault, Sources};
 use acn_num::{NoMemory, Row};
 use std::alloc::{AllocError, AllocFailed, Global};
 
@@ -13,6 +13,8 @@ use std::alloc::{AllocError, AllocFailed, Global};
 pub enum Trouble {
     /// The parser of its kind of file refuses a text.
     Unread,
+    /// A name of a text is at fault.
+    Misnamed,
     /// What is asked about isn't there.
     Absent,
     /// There was no memory.
@@ -28,6 +30,15 @@ impl From<LexFault> for Trouble {
 impl From<ParseFault> for Trouble {
     fn from(_: ParseFault) -> Trouble {
         Trouble::Unread
+    }
+}
+
+impl From<NameFault> for Trouble {
+    fn from(fault: NameFault) -> Trouble {
+        match fault {
+            NameFault::NoMemory => Trouble::NoMemory,
+            _ => Trouble::Misnamed,
+        }
     }
 }
 

@@ -1,9 +1,8 @@
 //! What a world answers about names.
 
-use crate::asking::{place_of, world_of};
-use crate::reading::Trouble;
 use acn_asn_syntax::{AsnBase, AsnType, AsnValue, Constraint, Element, Set};
 use acn_names::{TypeId, World};
+use acn_source_texts::{Trouble, place_of, world_of};
 use std::alloc::Global;
 
 const ASN: &str =

@@ -4,9 +4,8 @@ ghost use Rattle.std.specs.List.{All};
 ghost use Rattle.acn_names.specs.Viewed.{world_view};
 ghost use Rattle.acn_names.specs.World.{IsType};
 
-use crate::asking::{push_full_name, world_of};
-use crate::reading::{Trouble, module};
 use acn_names::{TypeId, World};
+use acn_source_texts::{Trouble, module, push_full_name, world_of};
 use std::alloc::Global;
 
 // The roots in words, each by the number of its module and its own among the assignments.
