@@ -1,4 +1,4 @@
-ghost use Rattle.std.specs.Prelude.{◌<◌, ◌^◌};
+ghost use Rattle.std.specs.Prelude.{◌≡◌, ◌+◌, ◌*◌, ◌/◌, ◌%◌, ◌^◌};
 
 /// A generator of numbers, which gives the same ones at each run: a linear congruence whose upper halves are drawn.
 #[derive(Clone, Debug, Drop)]
@@ -16,7 +16,8 @@ impl Draw {
 
     /// The next number, of 32 bits.
     pub fn next(&mut self) -> u64
-        ensures { result < 2 ^ 32 }
+        ensures step { self.new.state ≡ (self.old.state * 6364136223846793005 + 1442695040888963407) % 2 ^ 64 }
+        ensures upper_half { result ≡ self.new.state / 2 ^ 32 }
     {
         self.state = self
             .state
