@@ -1,7 +1,7 @@
 use acn_num::{Name, Row};
 
 /// A written number, and whether a minus stands before it.
-#[derive(Clone, Copy, Debug)]
+#[derive(Clone, Copy)]
 pub struct Signed {
     /// Whether a minus stands before the number.
     pub negative: bool,
@@ -10,7 +10,7 @@ pub struct Signed {
 }
 
 /// A line of a mapping table: `first .. last = image`, or `first = image`.
-#[derive(Clone, Copy, Debug)]
+#[derive(Clone, Copy)]
 pub struct MapLine {
     /// The first key.
     pub first: Signed,
@@ -21,7 +21,7 @@ pub struct MapLine {
 }
 
 /// A mapping table: `name { lines }`. It may have no lines.
-#[derive(Debug, Drop)]
+#[derive(Drop)]
 pub struct MapTable {
     /// The name by which `mapping-function` refers to it.
     pub name: Name,
@@ -30,7 +30,7 @@ pub struct MapTable {
 }
 
 /// The tables of a mapping file, at least one.
-#[derive(Debug, Drop)]
+#[derive(Drop)]
 pub struct MapTables {
     /// The tables, in order.
     pub tables: Row<MapTable>,

@@ -2,14 +2,14 @@ use crate::Signed;
 use acn_num::{Name, Row};
 
 /// A path to a determinant: names joined by full stops, at least one.
-#[derive(Debug, Drop)]
+#[derive(Drop)]
 pub struct AcnPath {
     /// The names, in order.
     pub names: Row<Name>,
 }
 
 /// A condition: a flag, or a determinant that equals a number.
-#[derive(Debug, Drop)]
+#[derive(Drop)]
 pub struct Condition {
     /// The path of the determinant.
     pub path: AcnPath,
@@ -18,7 +18,7 @@ pub struct Condition {
 }
 
 /// What is written behind `size`.
-#[derive(Debug, Drop)]
+#[derive(Drop)]
 pub enum SizeAttr {
     /// A count of bits, characters, octets or elements.
     Number(u64),
@@ -29,7 +29,7 @@ pub enum SizeAttr {
 }
 
 /// What is written behind `encoding`.
-#[derive(Clone, Copy, Debug)]
+#[derive(Clone, Copy)]
 pub enum Encoding {
     /// `pos-int`.
     PosInt,
@@ -42,7 +42,7 @@ pub enum Encoding {
 }
 
 /// What is written behind `endianness`.
-#[derive(Clone, Copy, Debug)]
+#[derive(Clone, Copy)]
 pub enum Endianness {
     /// `big`: the most significant octet first.
     Big,
@@ -51,7 +51,7 @@ pub enum Endianness {
 }
 
 /// What is written behind `align-to-next`.
-#[derive(Clone, Copy, Debug)]
+#[derive(Clone, Copy)]
 pub enum Alignment {
     /// `byte`: 8 bits.
     Byte,
@@ -62,7 +62,7 @@ pub enum Alignment {
 }
 
 /// A literal in quotes, which keeps the text of its token.
-#[derive(Debug, Drop)]
+#[derive(Drop)]
 pub enum Literal {
     /// Bits, as `'0101'B`.
     Bits(Name),
@@ -71,7 +71,7 @@ pub enum Literal {
 }
 
 /// An attribute.
-#[derive(Debug, Drop)]
+#[derive(Drop)]
 pub enum Attr {
     /// `size`.
     Size(SizeAttr),
@@ -100,7 +100,7 @@ pub enum Attr {
 }
 
 /// The type of a parameter.
-#[derive(Debug, Drop)]
+#[derive(Drop)]
 pub enum ParamKind {
     /// `INTEGER`.
     Integer,
@@ -111,7 +111,7 @@ pub enum ParamKind {
 }
 
 /// A parameter: `kind : name`.
-#[derive(Debug, Drop)]
+#[derive(Drop)]
 pub struct Param {
     /// Its type.
     pub kind: ParamKind,
@@ -120,7 +120,7 @@ pub struct Param {
 }
 
 /// The type of an inserted field.
-#[derive(Debug, Drop)]
+#[derive(Drop)]
 pub enum FieldKind {
     /// `INTEGER`.
     Integer,
@@ -134,7 +134,7 @@ pub enum FieldKind {
 
 /// A field between braces.
 #[cycle(field)]
-#[derive(Debug, Drop)]
+#[derive(Drop)]
 pub enum AcnField {
     /// A field of the type: its name, arguments, attributes and braces.
     Plain {
@@ -161,7 +161,7 @@ pub enum AcnField {
 }
 
 /// What an ACN module says of a type.
-#[derive(Debug, Drop)]
+#[derive(Drop)]
 pub struct AcnEntry {
     /// The name of the type.
     pub name: Name,
@@ -174,7 +174,7 @@ pub struct AcnEntry {
 }
 
 /// An ACN module, which has the name of an ASN.1 module.
-#[derive(Debug, Drop)]
+#[derive(Drop)]
 pub struct AcnModule {
     /// Its name.
     pub name: Name,
@@ -183,7 +183,7 @@ pub struct AcnModule {
 }
 
 /// The modules of an ACN file, at least one.
-#[derive(Debug, Drop)]
+#[derive(Drop)]
 pub struct AcnModules {
     /// The modules, in order.
     pub modules: Row<AcnModule>,

@@ -4,7 +4,7 @@ use crate::{AsnType, AsnValue};
 use acn_num::{Name, Row};
 
 /// A part of an object identifier.
-#[derive(Debug, Drop)]
+#[derive(Drop)]
 pub enum OidPart {
     /// A word.
     Word(Name),
@@ -15,14 +15,14 @@ pub enum OidPart {
 }
 
 /// An object identifier (X.680 clause 32).
-#[derive(Debug, Drop)]
+#[derive(Drop)]
 pub struct Oid {
     /// Its parts.
     pub parts: Row<OidPart>,
 }
 
 /// How the types of a module are tagged.
-#[derive(Clone, Copy, Debug)]
+#[derive(Clone, Copy)]
 pub enum Tagging {
     /// `EXPLICIT`.
     Explicit,
@@ -33,7 +33,7 @@ pub enum Tagging {
 }
 
 /// What a module exports.
-#[derive(Debug, Drop)]
+#[derive(Drop)]
 pub enum Exports {
     /// `ALL`.
     All,
@@ -42,7 +42,7 @@ pub enum Exports {
 }
 
 /// Names that are imported from a module.
-#[derive(Debug, Drop)]
+#[derive(Drop)]
 pub struct Import {
     /// The names.
     pub names: Row<Name>,
@@ -53,7 +53,7 @@ pub struct Import {
 }
 
 /// An assignment.
-#[derive(Debug, Drop)]
+#[derive(Drop)]
 pub enum Assign {
     /// A name for a type.
     TypeIs(Name, AsnType),
@@ -62,7 +62,7 @@ pub enum Assign {
 }
 
 /// A module.
-#[derive(Debug, Drop)]
+#[derive(Drop)]
 pub struct AsnModule {
     /// Its name.
     pub name: Name,
@@ -79,7 +79,7 @@ pub struct AsnModule {
 }
 
 /// The modules of a file.
-#[derive(Debug, Drop)]
+#[derive(Drop)]
 pub struct AsnModules {
     /// The modules, at least one.
     pub modules: Row<AsnModule>,

@@ -5,7 +5,7 @@ use acn_num::{Boxed, Row};
 
 /// A set of values.
 #[cycle(set)]
-#[derive(Debug, Drop)]
+#[derive(Drop)]
 pub enum Set {
     /// `ALL EXCEPT` an element.
     AllExcept(Element),
@@ -15,7 +15,7 @@ pub enum Set {
 
 /// Parts joined by `^` or `INTERSECTION`.
 #[cycle(set)]
-#[derive(Debug, Drop)]
+#[derive(Drop)]
 pub struct Meet {
     /// The first part.
     pub first: Part,
@@ -25,7 +25,7 @@ pub struct Meet {
 
 /// An element, and what `EXCEPT` takes from it.
 #[cycle(set)]
-#[derive(Debug, Drop)]
+#[derive(Drop)]
 pub struct Part {
     /// The element.
     pub element: Element,
@@ -35,7 +35,7 @@ pub struct Part {
 
 /// One element of a set.
 #[cycle(set)]
-#[derive(Debug, Drop)]
+#[derive(Drop)]
 pub enum Element {
     /// A value.
     Value(AsnValue),
@@ -50,7 +50,7 @@ pub enum Element {
 }
 
 /// A range of values (X.680 clause 51.4).
-#[derive(Debug, Drop)]
+#[derive(Drop)]
 pub struct AsnRange {
     /// The lower end, or none for `MIN`.
     pub low: Option<AsnValue>,

@@ -4,7 +4,7 @@ use crate::{AsnValue, Set};
 use acn_num::{Boxed, Name, Row};
 
 /// The class of a tag.
-#[derive(Clone, Copy, Debug)]
+#[derive(Clone, Copy)]
 pub enum TagClass {
     /// `UNIVERSAL`.
     Universal,
@@ -15,7 +15,7 @@ pub enum TagClass {
 }
 
 /// The mode of a tag.
-#[derive(Clone, Copy, Debug)]
+#[derive(Clone, Copy)]
 pub enum TagMode {
     /// `IMPLICIT`.
     Implicit,
@@ -24,7 +24,7 @@ pub enum TagMode {
 }
 
 /// A tag (X.680 clause 31).
-#[derive(Clone, Copy, Debug)]
+#[derive(Clone, Copy)]
 pub struct Tag {
     /// Its class, if it is written.
     pub class: Option<TagClass>,
@@ -35,7 +35,7 @@ pub struct Tag {
 }
 
 /// A named number of INTEGER (X.680 clause 19).
-#[derive(Debug, Drop)]
+#[derive(Drop)]
 pub struct Named {
     /// The name.
     pub name: Name,
@@ -46,7 +46,7 @@ pub struct Named {
 }
 
 /// An item of ENUMERATED (X.680 clause 20).
-#[derive(Debug, Drop)]
+#[derive(Drop)]
 pub struct Item {
     /// The name.
     pub name: Name,
@@ -56,7 +56,7 @@ pub struct Item {
 
 /// A type with its tag and its constraints.
 #[cycle(of)]
-#[derive(Debug, Drop)]
+#[derive(Drop)]
 pub struct AsnType {
     /// The tag, if there is one.
     pub tag: Option<Tag>,
@@ -68,7 +68,7 @@ pub struct AsnType {
 
 /// A type without tag and constraints.
 #[cycle(of)]
-#[derive(Debug, Drop)]
+#[derive(Drop)]
 pub enum AsnBase {
     /// `BOOLEAN`.
     Boolean,
@@ -96,7 +96,7 @@ pub enum AsnBase {
 
 /// A constraint (X.680 clause 49).
 #[cycle(of)]
-#[derive(Debug, Drop)]
+#[derive(Drop)]
 pub enum Constraint {
     /// A set in parentheses.
     Set(Set),
@@ -107,7 +107,7 @@ pub enum Constraint {
 }
 
 /// What stands behind the type of a component.
-#[derive(Debug, Drop)]
+#[derive(Drop)]
 pub enum Rest {
     /// Nothing.
     Required,
@@ -119,7 +119,7 @@ pub enum Rest {
 
 /// A component of SEQUENCE (X.680 clause 25).
 #[cycle(of)]
-#[derive(Debug, Drop)]
+#[derive(Drop)]
 pub struct Component {
     /// The name.
     pub name: Name,
@@ -131,7 +131,7 @@ pub struct Component {
 
 /// An alternative of CHOICE (X.680 clause 29).
 #[cycle(of)]
-#[derive(Debug, Drop)]
+#[derive(Drop)]
 pub struct Alternative {
     /// The name.
     pub name: Name,

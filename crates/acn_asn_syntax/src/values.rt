@@ -1,7 +1,7 @@
 use acn_num::Name;
 
 /// A value, as it is written (X.680 clause 17).
-#[derive(Debug, Drop)]
+#[derive(Drop)]
 pub enum AsnValue {
     /// A number: whether a minus stands before it, and the digits' number.
     Number(bool, u64),

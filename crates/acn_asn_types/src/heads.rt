@@ -13,7 +13,7 @@ pub struct ListHead {
     /// The tag of the list.
     pub tag: Option<Tag>,
     /// The constraint between `SEQUENCE` and `OF`.
-    pub constraint: Option<Constraint>,
+    pub constraint: Boxed<Option<Constraint>>,
 }
 
 /// What one step of reading a type gives.
@@ -52,7 +52,7 @@ fn list_type(alloc: Global, head: ListHead, of: AsnType) -> Result<AsnType, NoMe
     let of = Boxed::new(alloc, of)?;
     Ok(typed(
         head.tag,
-        AsnBase::SequenceOf(head.constraint, of),
+        AsnBase::SequenceOf(head.constraint.into_inner(), of),
         Row::new(alloc),
     ))
 }

@@ -281,7 +281,7 @@ fn group(alloc: Global, depth: usize, cursor: &mut Cursor<'_>) -> Result<Boxed<S
     ensures { Reads (spec.group (spec.set_at depth) cursor.old) result cursor.new }
 {
     cursor.expect(Kind::Mark, b"(")?;
-    let set = set(alloc, depth, cursor)?;
+    let set = Boxed::new(alloc, set(alloc, depth, cursor)?)?;
     cursor.expect(Kind::Mark, b")")?;
-    Ok(Boxed::new(alloc, set)?)
+    Ok(set)
 }

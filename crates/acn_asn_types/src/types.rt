@@ -45,9 +45,9 @@ fn set_constraint(
 ) -> Result<Constraint, ParseFault>
     ensures { Reads (spec.set_constraint (set_at depth) (spec.type_at depth) cursor.old) result cursor.new }
 {
-    let set = set(alloc, depth, cursor)?;
+    let set = Boxed::new(alloc, set(alloc, depth, cursor)?)?;
     cursor.expect(Kind::Mark, b")")?;
-    Ok(Constraint::Set(set))
+    Ok(Constraint::Set(set.into_inner()))
 }
 
 /// The sizes of a list.
@@ -60,9 +60,9 @@ fn size_at(
     ensures { Reads (spec.size_at (set_at depth) (spec.type_at depth) cursor.old) result cursor.new }
 {
     cursor.expect(Kind::Mark, b"(")?;
-    let set = set(alloc, depth, cursor)?;
+    let set = Boxed::new(alloc, set(alloc, depth, cursor)?)?;
     cursor.expect(Kind::Mark, b")")?;
-    Ok(Some(Constraint::Size(set)))
+    Ok(Some(Constraint::Size(set.into_inner())))
 }
 
 /// A type that has at most so many braces and parentheses in one another.
@@ -115,8 +115,8 @@ fn sequence_at(
     ensures { Reads (spec.sequence_at (set_at depth) (spec.type_at depth) tag cursor.old) result cursor.new }
 {
     if cursor.eat(Kind::Mark, b"{") {
-        let components = components_at(alloc, depth, cursor)?;
-        finish(alloc, depth, cursor, tag, AsnBase::Sequence(components))
+        let base = AsnBase::Sequence(components_at(alloc, depth, cursor)?);
+        finish(alloc, depth, cursor, tag, Boxed::new(alloc, base)?)
     } else {
         list_at(alloc, depth, cursor, tag)
     }
@@ -132,7 +132,7 @@ fn other_at(
 ) -> Result<Step, ParseFault>
     ensures { Reads (spec.other_at (set_at depth) (spec.type_at depth) tag cursor.old) result cursor.new }
 {
-    let base = base_at(alloc, depth, cursor)?;
+    let base = Boxed::new(alloc, base_at(alloc, depth, cursor)?)?;
     finish(alloc, depth, cursor, tag, base)
 }
 
@@ -144,12 +144,12 @@ fn finish(
     depth: usize,
     cursor: &mut Cursor<'_>,
     tag: Option<Tag>,
-    base: AsnBase,
+    base: Boxed<AsnBase>,
 ) -> Result<Step, ParseFault>
     ensures { Reads (spec.finish (set_at depth) (spec.type_at depth) tag base cursor.old) result cursor.new }
 {
     let constraints = constraints(alloc, depth, cursor)?;
-    Ok(Step::Inner(typed(tag, base, constraints)))
+    Ok(Step::Inner(typed(tag, base.into_inner(), constraints)))
 }
 
 #[cycle(types)]
@@ -307,9 +307,9 @@ fn component(alloc: Global, depth: usize, cursor: &mut Cursor<'_>) -> Result<Com
     ensures { Reads (spec.component (set_at depth) (spec.type_at depth) cursor.old) result cursor.new }
 {
     let name = identifier(alloc, cursor)?;
-    let of = type_at(alloc, depth, cursor)?;
+    let of = Boxed::new(alloc, type_at(alloc, depth, cursor)?)?;
     let rest = rest_at(alloc, cursor)?;
-    Ok(component_of(name, of, rest))
+    Ok(component_of(name, of.into_inner(), rest))
 }
 
 /// The head of a list type, behind SEQUENCE.
@@ -323,7 +323,7 @@ fn list_at(
 ) -> Result<Step, ParseFault>
     ensures { Reads (spec.list_at (set_at depth) (spec.type_at depth) tag cursor.old) result cursor.new }
 {
-    let constraint = of_constraint(alloc, depth, cursor)?;
+    let constraint = Boxed::new(alloc, of_constraint(alloc, depth, cursor)?)?;
     cursor.expect(Kind::Word, b"OF")?;
     Ok(Step::Head(ListHead { tag, constraint }))
 }
@@ -405,7 +405,7 @@ fn containing_at(
 ) -> Result<Constraint, ParseFault>
     ensures { Reads (spec.containing_at (set_at depth) (spec.type_at depth) cursor.old) result cursor.new }
 {
-    let of = type_at(alloc, depth, cursor)?;
+    let of = Boxed::new(alloc, type_at(alloc, depth, cursor)?)?;
     cursor.expect(Kind::Mark, b")")?;
-    Ok(Constraint::Containing(Boxed::new(alloc, of)?))
+    Ok(Constraint::Containing(of))
 }

@@ -3,7 +3,7 @@ use Rattle.std.proofs.Common.{◌≡◌, ℕ, suc, ◌-◌, ◌^◌, ◌<◌, mi
 use Rattle.std.specs.Prelude.{option_map, slice_get, MatchOption, IfErr}
 use Rattle.std.specs.List.{flat_map}
 use Rattle.std.proofs.lemmas.Bool.Decides.{nat_tests}
-use Rattle.acn_grammar.specs.Check.{CheckFault, forward, det_kind, det_width, overlap, absent_unclear, unused, no_item, mixed_choice, too_long, too_many_open, too_many_conditions, too_many_values, NodeAt, equals_on}
+use Rattle.acn_grammar.specs.Check.{CheckFault, forward, det_kind, det_width, overlap, absent_unclear, unused, no_item, mixed_choice, too_long, too_many_open, too_many_conditions, too_many_values, terminator_ambiguous, NodeAt, equals_on}
 use Rattle.acn_grammar.specs.Faults.{check_fault_of}
 use Rattle.acn_grammar.specs.Grammar.{Grammar}
 use Rattle.acn_grammar.specs.Slots.{first_of_two}
@@ -12,7 +12,7 @@ use Rattle.acn_grammar.specs.Walk.{Stand, nodes_of, slot_here}
 use Rattle.acn_grammar.specs.declared.check_fault.CheckFault as program
 use Rattle.acn_grammar.specs.declared.check_fault.CheckFault.TheVariants as fault
 use Rattle.acn_check.specs.Facts.{Facts, seen}
-use Rattle.acn_check.specs.First.{Det, Tally, Told, dets, tallied, no_tallies, uses_of, first_of, given, only_if, long, much_open, many_conditions, many_values}
+use Rattle.acn_check.specs.First.{Det, Tally, Told, dets, tallied, no_tallies, uses_of, first_of, given, only_if, long, much_open, many_conditions, many_values, ambiguous_at}
 use Rattle.acn_check.specs.Order.{unreadable, dubious, beyond, many_equals, capped, lines_of, tallies_of, first_fault}
 use Rattle.acn_check.specs.Program.{IsTold}
 use Rattle.acn_check.proofs.Assembly.{get_mapped}
@@ -75,6 +75,7 @@ told_below (fault.TooLong n) g t e = (let same : too_long n ≡ g = cc in subst 
 told_below (fault.TooManyOpen at n) g t e = (let same : too_many_open at n ≡ g = cc in subst Below same tt)
 told_below (fault.TooManyConditions det n) g t e = (let same : too_many_conditions det n ≡ g = cc in subst Below same t)
 told_below (fault.TooManyValues n) g t e = (let same : too_many_values n ≡ g = cc in subst Below same tt)
+told_below (fault.TerminatorAmbiguous at) g t e = (let same : terminator_ambiguous at ≡ g = cc in subst Below same tt)
 told_below fault.NoMemory g t e = cc
 
 -- a fault whose count is below the end is the one that was counted
@@ -94,6 +95,7 @@ uncapped (mixed_choice path) g e b = e
 uncapped (too_long n) g e b = e
 uncapped (too_many_open path n) g e b = e
 uncapped (too_many_values n) g e b = e
+uncapped (terminator_ambiguous path) g e b = e
 
 exact_fault : (f : CheckFault) (c : Option CheckFault) → ((g : CheckFault) → c ≡ Some g → Below g) → MatchOption c (Unit {0}) (λ g. Some (capped f) ≡ Some g) → MatchOption c (Unit {0}) (λ g. Some f ≡ Some g)
 exact_fault f None b h = tt
@@ -141,6 +143,6 @@ module _ (root : Grammar) (l : List Facts) (l_is : l ≡ lines_of root) (ds : Li
     told_beyond tree r none clear t i =
         let same : beyond root l (first_of (many_conditions ts) 0 l) ≡ beyond root (lines_of root) (option_map capped (first_of (many_equals root) 0 (lines_of root))) =
         ap (λ x. beyond root x (first_of (many_conditions ts) 0 x)) l_is ∙ (ap (λ x. beyond root (lines_of root) (first_of (many_conditions x) 0 (lines_of root))) ts_are ∙ ap (beyond root (lines_of root)) (conditions_capped root tree)) in
-        let e = exact (long root) (first_of much_open 0 (lines_of root)) (first_of (many_equals root) 0 (lines_of root)) (many_values root) r (subst (λ o. Told o r) same t) i in
+        let e = exact (long root) (first_of much_open 0 (lines_of root)) (first_of (many_equals root) 0 (lines_of root)) (first_of_two (many_values root) (first_of ambiguous_at 0 (lines_of root))) r (subst (λ o. Told o r) same t) i in
         subst (λ o. Told o r) (sym (ap (λ o. first_of_two o (first_of_two (dubious ds' (tallies_of (lines_of root)) (lines_of root)) (beyond root (lines_of root) (first_of (many_equals root) 0 (lines_of root))))) (sym first_four ∙ none)
         ∙ ap (λ o. first_of_two o (beyond root (lines_of root) (first_of (many_equals root) 0 (lines_of root)))) (sym second_four ∙ clear))) e

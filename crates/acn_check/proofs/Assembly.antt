@@ -1,7 +1,7 @@
 -- The first fault, from the first of each kind.
 use Rattle.std.proofs.Common.{◌≡◌, ℕ, zero, suc, ◌+◌, ◌<◌, ◌≤◌, List, [], ◌∷◌, map, Option, Some, None, refl, sym, ap, ◌∙◌, arith, ◌⊎◌, inl, inr, subst}
 use Rattle.std.specs.Prelude.{slice_get, MatchOption}
-use Rattle.acn_grammar.specs.Check.{CheckFault, forward, det_kind, det_width, overlap, absent_unclear, unused, no_item, mixed_choice, too_long, too_many_open, too_many_conditions, too_many_values, Evidence, rank, Before, FirstFault, NodeAt, number_of_fault}
+use Rattle.acn_grammar.specs.Check.{CheckFault, forward, det_kind, det_width, overlap, absent_unclear, unused, no_item, mixed_choice, too_long, too_many_open, too_many_conditions, too_many_values, terminator_ambiguous, Evidence, rank, Before, FirstFault, NodeAt, number_of_fault}
 use Rattle.acn_grammar.specs.Grammar.{Grammar}
 use Rattle.acn_grammar.specs.Slots.{first_of_two}
 use Rattle.acn_grammar.specs.Walk.{Stand, nodes_of}
@@ -42,6 +42,7 @@ module _ (root : Grammar) where
   rank_is (too_many_open path n) k u = refl
   rank_is (too_many_conditions det n) k u = refl
   rank_is (too_many_values n) k u = refl
+  rank_is (terminator_ambiguous path) k u = refl
 
   -- where two ranks are in order, by number and then by node
   pub ranked : (f g : CheckFault) (k u k' u' : ℕ) → Before root (rank root g k' u') (rank root f k u)
@@ -162,7 +163,7 @@ module _ (root : Grammar) where
       by e f k u evidence (inl is) = a.none refl f k u is evidence
       by e f k u evidence (inr le) = b.none e f k u le evidence
 
-  at_most : (f : CheckFault) → number_of_fault f ≤ 12
+  at_most : (f : CheckFault) → number_of_fault f ≤ 13
   at_most (forward user det) = omega arith
   at_most (det_kind user det) = omega arith
   at_most (det_width det) = omega arith
@@ -175,6 +176,7 @@ module _ (root : Grammar) where
   at_most (too_many_open path n) = omega arith
   at_most (too_many_conditions det n) = omega arith
   at_most (too_many_values n) = omega arith
+  at_most (terminator_ambiguous path) = omega arith
 
   at_least : (f : CheckFault) → 1 ≤ number_of_fault f
   at_least (forward user det) = omega arith
@@ -189,8 +191,9 @@ module _ (root : Grammar) where
   at_least (too_many_open path n) = omega arith
   at_least (too_many_conditions det n) = omega arith
   at_least (too_many_values n) = omega arith
+  at_least (terminator_ambiguous path) = omega arith
 
-  pub no_more : FromLaw 13 None
+  pub no_more : FromLaw 14 None
   no_more = record { some = λ f e. cc; none = λ e f k u le evidence. (let m = at_most f in absurd (omega arith)) }
 
   pub first_fault : (o : Option CheckFault) → FromLaw 1 o → MatchOption o ((f : CheckFault) → FirstFault root f → ⊥) (FirstFault root)

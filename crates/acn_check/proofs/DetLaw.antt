@@ -10,6 +10,7 @@ use Rattle.acn_grammar.specs.Slots.{slot_leaf, form_leaf, fields_leaf, alternati
 use Rattle.acn_grammar.specs.Tree.{IsTree, is_slot, role_fine, slots_of, stand_rules, all_true}
 use Rattle.acn_grammar.specs.Walk.{Stand, Role, a_component, an_inserted, an_alternative, an_element, a_content, root_node, nodes, form_nodes, field_nodes, alternative_nodes, nodes_of, slot_here}
 use Rattle.acn_grammar.specs.declared.node.NumLeaf.{NumLeaf}
+use Rattle.acn_grammar.specs.declared.node.Presence.{Presence}
 use Rattle.acn_grammar.proofs.Codings.{both_are, equal_numbers}
 use Rattle.acn_laws.proofs.Placed.{field_number, is_number, tree_numbered, tree_rules}
 use Rattle.acn_grammar.proofs.TreeRules.{stand_fine}
@@ -192,6 +193,15 @@ inserted_leaf name path around align form (Some t) s l inner rest fine e f = by 
     by false form n e' = joined s (form_nodes path around form) l inner rest e' f
     by true form n e' = (let m = n refl in rw (m.1) refl)
 
+component_leaf : (name path around : List ℕ) (presence : Presence) (align : ℕ) (form : Form) (slot : Option ℕ) (s : ℕ) (l : List Stand) (inner rest : Option NumLeaf) → Fine (record { path = path; around = around; role = a_component name presence slot; align = align; form = form }) → inner ≡ found s (form_nodes path around form) → rest ≡ found s l
+    → if_slot slot s (number_leaf (node align form)) (first_of_two inner rest) ≡ found s (nodes (a_component name presence slot) path around (node align form) ++ l)
+component_leaf name path around presence align form None s l inner rest fine e f = joined s (form_nodes path around form) l inner rest e f
+component_leaf name path around presence align form (Some t) s l inner rest fine e f = by (nat_eq t s) form (λ h. number_form form (field_number (a_component name presence (Some t)) form s fine h)) e
+  where
+    by : (b : Bool) (form : Form) → (b ≡ true → (leaf : NumLeaf) × (form ≡ num leaf)) → inner ≡ found s (form_nodes path around form) → (if b then number_leaf (node align form) else first_of_two inner rest) ≡ first_of_two (if b then leaf_in form else None) (found s (form_nodes path around form ++ l))
+    by false form n e' = joined s (form_nodes path around form) l inner rest e' f
+    by true form n e' = (let m = n refl in rw (m.1) refl)
+
 module _ (s : ℕ) where
   mutual
     form_found : (form : Form) (path around : List ℕ) → Each Fine (form_nodes path around form) → form_leaf form s ≡ found s (form_nodes path around form)
@@ -209,10 +219,10 @@ module _ (s : ℕ) where
 
     fields_found : (fs : Fields) (path around : List ℕ) (k : ℕ) → Each Fine (field_nodes path around k fs) → fields_leaf fs s ≡ found s (field_nodes path around k fs)
     fields_found no_fields path around k fine = refl
-    fields_found (component name g presence default fs) path around k fine =
-        let a = nodes (a_component name presence) (path ++ k ∷ []) around g in
+    fields_found (component name (node align form) presence default slot fs) path around k fine =
+        let a = nodes (a_component name presence slot) (path ++ k ∷ []) around (node align form) in
         let b = field_nodes path around (suc k) fs in
-        joined s a b (slot_leaf g s) (fields_leaf fs s) (node_found g (a_component name presence) (path ++ k ∷ []) around refl (each_left Fine a b fine)) (fields_found fs path around (suc k) (each_right Fine a b fine))
+        component_leaf name (path ++ k ∷ []) around presence align form slot s b (form_leaf form s) (fields_leaf fs s) fine.0 (form_found form (path ++ k ∷ []) around (each_left Fine (form_nodes (path ++ k ∷ []) around form) b fine.1)) (fields_found fs path around (suc k) (each_right Fine a b fine))
     fields_found (inserted name (node align form) slot fs) path around k fine =
         let a = nodes (an_inserted name slot) (path ++ k ∷ []) around (node align form) in
         let b = field_nodes path around (suc k) fs in

@@ -33,9 +33,9 @@ mutual
 
   fields_seen : (fs : Fields) (path around : List ℕ) (k : ℕ) → map seen (field_nodes path around k fs) ≡ field_facts path (length around) k fs
   fields_seen no_fields path around k = refl
-  fields_seen (component name g presence default fs) path around k =
-      both_seen (nodes (a_component name presence) (path ++ k ∷ []) around g) (field_nodes path around (suc k) fs) (facts (tag_of (a_component name presence)) (path ++ k ∷ []) (length around) g) (field_facts path (length around) (suc k) fs)
-      (node_seen g (a_component name presence) (path ++ k ∷ []) around) (fields_seen fs path around (suc k))
+  fields_seen (component name g presence default own fs) path around k =
+      both_seen (nodes (a_component name presence own) (path ++ k ∷ []) around g) (field_nodes path around (suc k) fs) (facts (tag_of (a_component name presence own)) (path ++ k ∷ []) (length around) g) (field_facts path (length around) (suc k) fs)
+      (node_seen g (a_component name presence own) (path ++ k ∷ []) around) (fields_seen fs path around (suc k))
   fields_seen (inserted name g slot fs) path around k =
       both_seen (nodes (an_inserted name slot) (path ++ k ∷ []) around g) (field_nodes path around (suc k) fs) (facts (tag_of (an_inserted name slot)) (path ++ k ∷ []) (length around) g) (field_facts path (length around) (suc k) fs)
       (node_seen g (an_inserted name slot) (path ++ k ∷ []) around) (fields_seen fs path around (suc k))

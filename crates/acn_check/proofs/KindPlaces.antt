@@ -102,11 +102,11 @@ mixed_choice_of path (contained sizing g) f e = cc
 
 -- a component with more than one condition
 abbrev More : Role → Type 0
-More (a_component name presence) = 1 < length (presence_tests presence)
+More (a_component name presence own) = 1 < length (presence_tests presence)
 More _ = ⊥
 
 true_more : (role : Role) → (is_component role && nat_lt 1 (length (tag_of role).tests)) ≡ true → More role
-true_more (a_component n p) h = lt_is 1 (length (presence_tests p)) h
+true_more (a_component n p own) h = lt_is 1 (length (presence_tests p)) h
 true_more root_node h = cc
 true_more (an_inserted name slot) h = cc
 true_more (an_alternative name ts) h = cc
@@ -114,7 +114,7 @@ true_more an_element h = cc
 true_more a_content h = cc
 
 more_true : (role : Role) → More role → (is_component role && nat_lt 1 (length (tag_of role).tests)) ≡ true
-more_true (a_component n p) h = is_lt 1 (length (presence_tests p)) h
+more_true (a_component n p own) h = is_lt 1 (length (presence_tests p)) h
 more_true root_node h = absurd h
 more_true (an_inserted name slot) h = absurd h
 more_true (an_alternative name ts) h = absurd h

@@ -10,10 +10,10 @@ use Rattle.acn_laws.specs.Laws.{WidthsAreLengths}
 use Rattle.acn_grammar.specs.Leaves.{num_fine}
 use Rattle.acn_grammar.specs.Slots.{slot_leaf}
 use Rattle.acn_grammar.specs.Tree.{IsTree}
-use Rattle.acn_grammar.specs.Walk.{Stand, slot_of, uses, nodes_of, slot_here}
+use Rattle.acn_grammar.specs.Walk.{Stand, Role, root_node, a_component, an_inserted, an_alternative, an_element, a_content, slot_of, uses, nodes_of, slot_here, inserted_slot}
 use Rattle.acn_grammar.specs.declared.node.NumLeaf.{NumLeaf}
-use Rattle.acn_check.specs.Facts.{seen}
-use Rattle.acn_check.specs.First.{Det, Tally, dets, given, only_if, width_fits, no_width, no_use}
+use Rattle.acn_check.specs.Facts.{seen, is_component}
+use Rattle.acn_check.specs.First.{Det, Tally, dets, given, only_if, width_fits, slot_inserted, no_width, no_use}
 use Rattle.acn_check.specs.Order.{lines_of, tallies_of, many_equals}
 use Rattle.acn_check.proofs.Assembly.{some_inj}
 use Rattle.acn_check.proofs.DetLaw.{field_entry, leaf_entry}
@@ -47,6 +47,23 @@ clash false h g = cc
 is_not : (b : Bool) → (b ≡ true → ⊥) → not b ≡ true
 is_not true h = absurd (h refl)
 is_not false h = refl
+
+-- the slot of an inserted field
+inserted_is : (role : Role) → slot_inserted (is_component role) (slot_here role) ≡ inserted_slot role
+inserted_is root_node = refl
+inserted_is (a_component name presence own) = refl
+inserted_is (an_inserted name slot) = refl
+inserted_is (an_alternative name tests) = refl
+inserted_is an_element = refl
+inserted_is a_content = refl
+
+pub inserted_here : (role : Role) (s : ℕ) → inserted_slot role ≡ Some s → slot_here role ≡ Some s
+inserted_here (an_inserted name slot) s e = e
+inserted_here root_node s e = cc
+inserted_here (a_component name presence own) s e = cc
+inserted_here (an_alternative name tests) s e = cc
+inserted_here an_element s e = cc
+inserted_here a_content s e = cc
 
 module _ (root : Grammar) (tree : IsTree root) where
   abbrev table : List Det
@@ -85,24 +102,25 @@ module _ (root : Grammar) (tree : IsTree root) where
 
     take_width : (k : ℕ) (at : Stand) (f : CheckFault) → NodeAt root k at → no_width table k (seen at) ≡ Some f → (number_of_fault f ≡ 3) × Evidence root f k 0
     take_width k at f is e =
-        let s = some_slot (slot_here at.role) (λ s. given (slice_get table s) (wide_here at.path)) f e in
-        let t = field_entry root tree k s.0 at is s.1 in
+        let s = some_slot (slot_inserted (is_component at.role) (slot_here at.role)) (λ s. given (slice_get table s) (wide_here at.path)) f e in
+        let slot = sym (inserted_is at.role) ∙ s.1 in
+        let t = field_entry root tree k s.0 at is (inserted_here at.role s.0 slot) in
         let g : wide_here at.path t.det ≡ Some f = ap (λ o. given o (wide_here at.path)) (sym t.is_here) ∙ s.2 in
         let o = only_true (not (width_fits (width_of t.det.leaf))) (det_width at.path) f g in
         let leaf : slot_leaf root s.0 ≡ Some t.det.leaf = leaf_entry root tree s.0 ∙ ap (option_map (λ (x : Det). x.leaf)) t.is_here in
         let fine = leaf_fine s.0 t.det t.is_here in
-        (ap number_of_fault (sym o.1), subst (λ x. Evidence root x k 0) o.1 (at, s.0, t.det.leaf, is, refl, s.1, leaf, λ w. clash (width_fits (width_of t.det.leaf)) (fits_width t.det.leaf fine w.0 w.1 w.2) (not_is (width_fits (width_of t.det.leaf)) o.0)))
+        (ap number_of_fault (sym o.1), subst (λ x. Evidence root x k 0) o.1 (at, s.0, t.det.leaf, is, refl, slot, leaf, λ w. clash (width_fits (width_of t.det.leaf)) (fits_width t.det.leaf fine w.0 w.1 w.2) (not_is (width_fits (width_of t.det.leaf)) o.0)))
 
     give_width : (f : CheckFault) (k u : ℕ) → number_of_fault f ≡ 3 → Evidence root f k u → (at : Stand) × NodeAt root k at × (no_width table k (seen at) ≡ None → ⊥)
     give_width f k u is e =
         let o = only_det_width f is in
         let e' : Evidence root (det_width o.0) k u = subst (λ x. Evidence root x k u) o.1 e in
-        let t = field_entry root tree k e'.1 e'.0 e'.3 e'.5 in
+        let t = field_entry root tree k e'.1 e'.0 e'.3 (inserted_here e'.0.role e'.1 e'.5) in
         let leaf : Some t.det.leaf ≡ Some e'.2 = sym (leaf_entry root tree e'.1 ∙ ap (option_map (λ (x : Det). x.leaf)) t.is_here) ∙ e'.6 in
         let same : t.det.leaf ≡ e'.2 = some_inj t.det.leaf e'.2 leaf in
         let fine = leaf_fine e'.1 t.det t.is_here in
         let wide = is_not (width_fits (width_of t.det.leaf)) (λ fits. let w = width_fit t.det.leaf fine fits in e'.7 (w.0, subst (λ (l : NumLeaf). HasWidth l w.0) same w.1, w.2)) in
-        (e'.0, e'.3, λ none. only_none (not (width_fits (width_of t.det.leaf))) (det_width e'.0.path) wide (sym (given_slot k e'.1 e'.0 (λ s. given (slice_get table s) (wide_here e'.0.path)) e'.5 ∙ ap (λ d. given d (wide_here e'.0.path)) t.is_here) ∙ none))
+        (e'.0, e'.3, λ none. only_none (not (width_fits (width_of t.det.leaf))) (det_width e'.0.path) wide (sym (ap (λ o. given o (λ s. given (slice_get table s) (wide_here e'.0.path))) (inserted_is e'.0.role ∙ e'.5) ∙ ap (λ d. given d (wide_here e'.0.path)) t.is_here) ∙ none))
 
     pub width_law : PlainLaw root 3 (no_width table)
     width_law = record {

@@ -1,10 +1,12 @@
 pub mod Answering
 pub mod Assembly
+pub mod BeginsLaw
 pub mod Cases
 pub mod DetLaw
 pub mod FirstOf
 pub mod Flat
 pub mod Gathered
+pub mod KindEnds
 pub mod KindItems
 pub mod KindLaws
 pub mod KindPairs

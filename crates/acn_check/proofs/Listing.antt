@@ -55,11 +55,11 @@ some_facts : (tag : Tag) (path : List ℕ) (around : ℕ) (g : Grammar) → 1 �
 some_facts tag path around (node align form) = omega arith
 
 some_field : (path : List ℕ) (around k : ℕ) (f : OneField) → 1 ≤ length (one_field path around k f)
-some_field path around k (a_component name g presence default) = some_facts (record { tests = presence_tests presence; component = true; slot = None }) (path ++ k ∷ []) around g
+some_field path around k (a_component name g presence default own) = some_facts (record { tests = presence_tests presence; component = true; slot = own }) (path ++ k ∷ []) around g
 some_field path around k (an_inserted name g slot) = some_facts (record { tests = []; component = false; slot = slot }) (path ++ k ∷ []) around g
 
 first_field : (path : List ℕ) (around k : ℕ) (f : OneField) (fs : Fields) → field_facts path around k (with_field f fs) ≡ one_field path around k f ++ field_facts path around (k + 1) fs
-first_field path around k (a_component name g presence default) fs = ap (λ m. one_field path around k (a_component name g presence default) ++ field_facts path around m fs) (sym (add-one k))
+first_field path around k (a_component name g presence default own) fs = ap (λ m. one_field path around k (a_component name g presence default own) ++ field_facts path around m fs) (sym (add-one k))
 first_field path around k (an_inserted name g slot) fs = ap (λ m. one_field path around k (an_inserted name g slot) ++ field_facts path around m fs) (sym (add-one k))
 
 pub next_field : (path : List ℕ) (around k : ℕ) (fs : List Field) (i : ℕ) (x : Field) → i < length fs → x ≡ get_or fs i x → (old new start whole : List Facts)

@@ -1,6 +1,6 @@
 -- A fault of a number is one of its kind.
 use Rattle.std.proofs.Common.{◌≡◌, ℕ, ℤ, List, [], ◌∷◌, refl, arith}
-use Rattle.acn_grammar.specs.Check.{CheckFault, forward, det_kind, det_width, overlap, absent_unclear, unused, no_item, mixed_choice, too_long, too_many_open, too_many_conditions, too_many_values, number_of_fault}
+use Rattle.acn_grammar.specs.Check.{CheckFault, forward, det_kind, det_width, overlap, absent_unclear, unused, no_item, mixed_choice, too_long, too_many_open, too_many_conditions, too_many_values, terminator_ambiguous, number_of_fault}
 use Rattle.acn_check.proofs.Assembly.{tail}
 
 pub only_forward : (f : CheckFault) → number_of_fault f ≡ 1 → (user : List ℕ) × (det : List ℕ) × (f ≡ forward user det)
@@ -16,6 +16,7 @@ only_forward (too_long n) e = absurd (omega arith)
 only_forward (too_many_open path n) e = absurd (omega arith)
 only_forward (too_many_conditions det n) e = absurd (omega arith)
 only_forward (too_many_values n) e = absurd (omega arith)
+only_forward (terminator_ambiguous path) e = absurd (omega arith)
 
 pub only_det_kind : (f : CheckFault) → number_of_fault f ≡ 2 → (user : List ℕ) × (det : List ℕ) × (f ≡ det_kind user det)
 only_det_kind (forward user det) e = absurd (omega arith)
@@ -30,6 +31,7 @@ only_det_kind (too_long n) e = absurd (omega arith)
 only_det_kind (too_many_open path n) e = absurd (omega arith)
 only_det_kind (too_many_conditions det n) e = absurd (omega arith)
 only_det_kind (too_many_values n) e = absurd (omega arith)
+only_det_kind (terminator_ambiguous path) e = absurd (omega arith)
 
 pub only_det_width : (f : CheckFault) → number_of_fault f ≡ 3 → (det : List ℕ) × (f ≡ det_width det)
 only_det_width (forward user det) e = absurd (omega arith)
@@ -44,6 +46,7 @@ only_det_width (too_long n) e = absurd (omega arith)
 only_det_width (too_many_open path n) e = absurd (omega arith)
 only_det_width (too_many_conditions det n) e = absurd (omega arith)
 only_det_width (too_many_values n) e = absurd (omega arith)
+only_det_width (terminator_ambiguous path) e = absurd (omega arith)
 
 pub only_overlap : (f : CheckFault) → number_of_fault f ≡ 4 → (path : List ℕ) × (i : ℕ) × (j : ℕ) × (values : List (ℕ × ℤ)) × (f ≡ overlap path i j values)
 only_overlap (forward user det) e = absurd (omega arith)
@@ -58,6 +61,7 @@ only_overlap (too_long n) e = absurd (omega arith)
 only_overlap (too_many_open path n) e = absurd (omega arith)
 only_overlap (too_many_conditions det n) e = absurd (omega arith)
 only_overlap (too_many_values n) e = absurd (omega arith)
+only_overlap (terminator_ambiguous path) e = absurd (omega arith)
 
 pub only_absent_unclear : (f : CheckFault) → number_of_fault f ≡ 5 → (path : List ℕ) × (f ≡ absent_unclear path)
 only_absent_unclear (forward user det) e = absurd (omega arith)
@@ -72,6 +76,7 @@ only_absent_unclear (too_long n) e = absurd (omega arith)
 only_absent_unclear (too_many_open path n) e = absurd (omega arith)
 only_absent_unclear (too_many_conditions det n) e = absurd (omega arith)
 only_absent_unclear (too_many_values n) e = absurd (omega arith)
+only_absent_unclear (terminator_ambiguous path) e = absurd (omega arith)
 
 pub only_unused : (f : CheckFault) → number_of_fault f ≡ 6 → (det : List ℕ) × (f ≡ unused det)
 only_unused (forward user det) e = absurd (omega arith)
@@ -86,6 +91,7 @@ only_unused (too_long n) e = absurd (omega arith)
 only_unused (too_many_open path n) e = absurd (omega arith)
 only_unused (too_many_conditions det n) e = absurd (omega arith)
 only_unused (too_many_values n) e = absurd (omega arith)
+only_unused (terminator_ambiguous path) e = absurd (omega arith)
 
 pub only_no_item : (f : CheckFault) → number_of_fault f ≡ 7 → (path : List ℕ) × (i : ℕ) × (f ≡ no_item path i)
 only_no_item (forward user det) e = absurd (omega arith)
@@ -100,6 +106,7 @@ only_no_item (too_long n) e = absurd (omega arith)
 only_no_item (too_many_open path n) e = absurd (omega arith)
 only_no_item (too_many_conditions det n) e = absurd (omega arith)
 only_no_item (too_many_values n) e = absurd (omega arith)
+only_no_item (terminator_ambiguous path) e = absurd (omega arith)
 
 pub only_mixed_choice : (f : CheckFault) → number_of_fault f ≡ 8 → (path : List ℕ) × (f ≡ mixed_choice path)
 only_mixed_choice (forward user det) e = absurd (omega arith)
@@ -114,6 +121,7 @@ only_mixed_choice (too_long n) e = absurd (omega arith)
 only_mixed_choice (too_many_open path n) e = absurd (omega arith)
 only_mixed_choice (too_many_conditions det n) e = absurd (omega arith)
 only_mixed_choice (too_many_values n) e = absurd (omega arith)
+only_mixed_choice (terminator_ambiguous path) e = absurd (omega arith)
 
 pub only_too_long : (f : CheckFault) → number_of_fault f ≡ 9 → (n : ℕ) × (f ≡ too_long n)
 only_too_long (forward user det) e = absurd (omega arith)
@@ -128,6 +136,7 @@ only_too_long (too_long n) e = (n, refl)
 only_too_long (too_many_open path n) e = absurd (omega arith)
 only_too_long (too_many_conditions det n) e = absurd (omega arith)
 only_too_long (too_many_values n) e = absurd (omega arith)
+only_too_long (terminator_ambiguous path) e = absurd (omega arith)
 
 pub only_too_many_open : (f : CheckFault) → number_of_fault f ≡ 10 → (path : List ℕ) × (n : ℕ) × (f ≡ too_many_open path n)
 only_too_many_open (forward user det) e = absurd (omega arith)
@@ -142,6 +151,7 @@ only_too_many_open (too_long n) e = absurd (omega arith)
 only_too_many_open (too_many_open path n) e = (path, n, refl)
 only_too_many_open (too_many_conditions det n) e = absurd (omega arith)
 only_too_many_open (too_many_values n) e = absurd (omega arith)
+only_too_many_open (terminator_ambiguous path) e = absurd (omega arith)
 
 pub only_too_many_conditions : (f : CheckFault) → number_of_fault f ≡ 11 → (det : List ℕ) × (n : ℕ) × (f ≡ too_many_conditions det n)
 only_too_many_conditions (forward user det) e = absurd (omega arith)
@@ -156,6 +166,7 @@ only_too_many_conditions (too_long n) e = absurd (omega arith)
 only_too_many_conditions (too_many_open path n) e = absurd (omega arith)
 only_too_many_conditions (too_many_conditions det n) e = (det, n, refl)
 only_too_many_conditions (too_many_values n) e = absurd (omega arith)
+only_too_many_conditions (terminator_ambiguous path) e = absurd (omega arith)
 
 pub only_too_many_values : (f : CheckFault) → number_of_fault f ≡ 12 → (n : ℕ) × (f ≡ too_many_values n)
 only_too_many_values (forward user det) e = absurd (omega arith)
@@ -170,6 +181,7 @@ only_too_many_values (too_long n) e = absurd (omega arith)
 only_too_many_values (too_many_open path n) e = absurd (omega arith)
 only_too_many_values (too_many_conditions det n) e = absurd (omega arith)
 only_too_many_values (too_many_values n) e = (n, refl)
+only_too_many_values (terminator_ambiguous path) e = absurd (omega arith)
 
 -- behind its node the rank of most faults has the use
 pub plain_tail : (f : CheckFault) (u : ℕ) → (number_of_fault f ≡ 4 → ⊥) → (number_of_fault f ≡ 7 → ⊥) → tail f u ≡ u ∷ 0 ∷ 0 ∷ []
@@ -185,3 +197,19 @@ plain_tail (too_long n) u a s = refl
 plain_tail (too_many_open path n) u a s = refl
 plain_tail (too_many_conditions det n) u a s = refl
 plain_tail (too_many_values n) u a s = refl
+plain_tail (terminator_ambiguous path) u a s = refl
+
+pub only_terminator_ambiguous : (f : CheckFault) → number_of_fault f ≡ 13 → (path : List ℕ) × (f ≡ terminator_ambiguous path)
+only_terminator_ambiguous (forward user det) e = absurd (omega arith)
+only_terminator_ambiguous (det_kind user det) e = absurd (omega arith)
+only_terminator_ambiguous (det_width det) e = absurd (omega arith)
+only_terminator_ambiguous (overlap path i j values) e = absurd (omega arith)
+only_terminator_ambiguous (absent_unclear path) e = absurd (omega arith)
+only_terminator_ambiguous (unused det) e = absurd (omega arith)
+only_terminator_ambiguous (no_item path i) e = absurd (omega arith)
+only_terminator_ambiguous (mixed_choice path) e = absurd (omega arith)
+only_terminator_ambiguous (too_long n) e = absurd (omega arith)
+only_terminator_ambiguous (too_many_open path n) e = absurd (omega arith)
+only_terminator_ambiguous (too_many_conditions det n) e = absurd (omega arith)
+only_terminator_ambiguous (too_many_values n) e = absurd (omega arith)
+only_terminator_ambiguous (terminator_ambiguous path) e = (path, refl)

@@ -16,7 +16,7 @@ use Rattle.acn_check.specs.First.{Det, Told, dets, width_fits}
 use Rattle.acn_check.specs.Order.{lines_of, first_fault}
 use Rattle.acn_check.proofs.Assembly.{some_inj}
 use Rattle.acn_check.proofs.DetLaw.{field_entry, leaf_entry}
-use Rattle.acn_check.proofs.KindSlots.{width_fit}
+use Rattle.acn_check.proofs.KindSlots.{width_fit, inserted_here}
 use Rattle.acn_check.proofs.Telling.{all_at}
 use Rattle.acn_check.proofs.TreeFits.{leaves_fine}
 use Rattle.acn_check.proofs.Whole.{first_is}
@@ -60,7 +60,7 @@ module _ (root : Grammar) (tree : IsTree root) (widths : WidthsAreLengths) where
       where
         fine : num_fine leaf ≡ true
         fine =
-            let t = field_entry root tree k s at is slot in
+            let t = field_entry root tree k s at is (inserted_here at.role s slot) in
             let same : t.det.leaf ≡ leaf = some_inj t.det.leaf leaf (sym (leaf_entry root tree s ∙ ap (Rattle.std.specs.Prelude.option_map (λ (x : Det). x.leaf)) t.is_here) ∙ leaf_is) in
             subst (λ (l : NumLeaf). num_fine l ≡ true) same (all_at (λ (x : Det). num_fine x.leaf) (dets 0 (lines_of root)) s t.det (leaves_fine root tree) t.is_here)
 

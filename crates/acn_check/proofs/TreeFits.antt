@@ -125,8 +125,8 @@ mutual
 
   fields_roomy : (fs : Fields) (path : List ℕ) (around k : ℕ) → around ≤ 65536 * (length path + 1) → length (field_facts path around k fs) ≤ 65536 → Each Small (field_facts path around k fs) → Each Roomy (field_facts path around k fs)
   fields_roomy no_fields path around k a l s = tt
-  fields_roomy (component name g presence default fs) path around k a l s =
-      let tag : Tag = record { tests = presence_tests presence; component = true; slot = None } in
+  fields_roomy (component name g presence default own fs) path around k a l s =
+      let tag : Tag = record { tests = presence_tests presence; component = true; slot = own } in
       let x = facts tag (path ++ k ∷ []) around g in
       let y = field_facts path around (suc k) fs in
       let n = length-append x y in

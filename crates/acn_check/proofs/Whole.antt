@@ -10,9 +10,10 @@ use Rattle.acn_grammar.specs.Slots.{first_of_two}
 use Rattle.acn_grammar.specs.Tree.{IsTree}
 use Rattle.acn_check.specs.Checked.{HasNoFault}
 use Rattle.acn_check.specs.Facts.{Facts}
-use Rattle.acn_check.specs.First.{Det, Tally, dets, first_of, first_behind, first_wrong_kind, behind, wrong_kind, no_width, overlap_at, unclear, no_use, no_item_at, mixed_at, long, much_open, many_values}
+use Rattle.acn_check.specs.First.{Det, Tally, dets, first_of, first_behind, first_wrong_kind, behind, wrong_kind, no_width, overlap_at, unclear, no_use, no_item_at, mixed_at, long, much_open, many_values, ambiguous_at}
 use Rattle.acn_check.specs.Order.{dubious, beyond, many_equals, lines_of, tallies_of, first_fault}
 use Rattle.acn_check.proofs.Assembly.{tail, KindLaw, FirstOfKind, FromLaw, by_nodes, step, no_more, ranked, first_fault as first_of_all}
+use Rattle.acn_check.proofs.KindEnds.{ambiguous_law}
 use Rattle.acn_check.proofs.KindItems.{item_law}
 use Rattle.acn_check.proofs.KindLaws.{by_tails, plain_law, use_law}
 use Rattle.acn_check.proofs.KindPairs.{pair_law}
@@ -98,7 +99,7 @@ module _ (root : Grammar) (tree : IsTree root) where
 
   all_kinds : WidthsAreLengths → FromLaw root 1 (first_of_two (first_of (first_behind ds) 0 l) (first_of_two (first_of (first_wrong_kind ds) 0 l) (first_of_two (first_of (no_width ds) 0 l) (first_of_two (first_of (overlap_at ds) 0 l)
       (first_of_two (first_of unclear 0 l) (first_of_two (first_of (no_use ts) 0 l) (first_of_two (first_of (no_item_at ds) 0 l) (first_of_two (first_of mixed_at 0 l)
-      (first_of_two (long root) (first_of_two (first_of much_open 0 l) (first_of_two (first_of (many_equals root) 0 l) (first_of_two (many_values root) None))))))))))))
+      (first_of_two (long root) (first_of_two (first_of much_open 0 l) (first_of_two (first_of (many_equals root) 0 l) (first_of_two (many_values root) (first_of_two (first_of ambiguous_at 0 l) None)))))))))))))
   all_kinds widths =
       step root 1 _ _ (by_nodes root 1 (first_behind ds) (use_law root 1 (behind ds) (behind_law root tree)))
       (step root 2 _ _ (by_nodes root 2 (first_wrong_kind ds) (use_law root 2 (λ k f named. wrong_kind ds f named) (kind_law root tree)))
@@ -111,11 +112,12 @@ module _ (root : Grammar) (tree : IsTree root) where
       (step root 9 _ _ (long_law root)
       (step root 10 _ _ (by_nodes root 10 much_open (plain_law root 10 much_open (open_law root)))
       (step root 11 _ _ (by_nodes root 11 (many_equals root) (plain_law root 11 (many_equals root) (equals_law root tree)))
-      (step root 12 _ _ (values_law root) (no_more root))))))))))))
+      (step root 12 _ _ (values_law root)
+      (step root 13 _ _ (by_nodes root 13 ambiguous_at (plain_law root 13 ambiguous_at (ambiguous_law root tree))) (no_more root)))))))))))))
 
   regrouped : first_fault root ≡ first_of_two (first_of (first_behind ds) 0 l) (first_of_two (first_of (first_wrong_kind ds) 0 l) (first_of_two (first_of (no_width ds) 0 l) (first_of_two (first_of (overlap_at ds) 0 l)
       (first_of_two (first_of unclear 0 l) (first_of_two (first_of (no_use ts) 0 l) (first_of_two (first_of (no_item_at ds) 0 l) (first_of_two (first_of mixed_at 0 l)
-      (first_of_two (long root) (first_of_two (first_of much_open 0 l) (first_of_two (first_of (many_equals root) 0 l) (first_of_two (many_values root) None)))))))))))
+      (first_of_two (long root) (first_of_two (first_of much_open 0 l) (first_of_two (first_of (many_equals root) 0 l) (first_of_two (many_values root) (first_of_two (first_of ambiguous_at 0 l) None))))))))))))
   unfolding first_fault
   regrouped =
       let b = beyond root l (first_of (many_equals root) 0 l) in
@@ -124,8 +126,8 @@ module _ (root : Grammar) (tree : IsTree root) where
       (grouped (first_of unclear 0 l) (first_of (no_use ts) 0 l) (first_of (no_item_at ds) 0 l) (first_of mixed_at 0 l) b)
       ∙ ap (λ o. first_of_two (first_of (first_behind ds) 0 l) (first_of_two (first_of (first_wrong_kind ds) 0 l) (first_of_two (first_of (no_width ds) 0 l) (first_of_two (first_of (overlap_at ds) 0 l)
       (first_of_two (first_of unclear 0 l) (first_of_two (first_of (no_use ts) 0 l) (first_of_two (first_of (no_item_at ds) 0 l) (first_of_two (first_of mixed_at 0 l)
-      (first_of_two (long root) (first_of_two (first_of much_open 0 l) (first_of_two (first_of (many_equals root) 0 l) o)))))))))))
-      (sym (alone (many_values root))))
+      (first_of_two (long root) (first_of_two (first_of much_open 0 l) (first_of_two (first_of (many_equals root) 0 l) (first_of_two (many_values root) o))))))))))))
+      (sym (alone (first_of ambiguous_at 0 l))))
 
   -- the fault that is computed is the first, and where none is there is none
   pub first_is : WidthsAreLengths → MatchOption (first_fault root) (HasNoFault root) (FirstFault root)

@@ -8,8 +8,9 @@ use Rattle.acn_grammar.specs.Grammar.{Grammar, Data}
 use Rattle.acn_grammar.specs.Interval.{span}
 use Rattle.acn_grammar.specs.Scoped.{Scoped}
 use Rattle.acn_grammar.specs.Slots.{slot_leaf}
+use Rattle.acn_grammar.specs.Sound.{Sound}
 use Rattle.acn_grammar.specs.Spell.{Spell}
-use Rattle.acn_grammar.specs.Walk.{Stand, slot_here}
+use Rattle.acn_grammar.specs.Walk.{Stand, inserted_slot}
 use Rattle.acn_grammar.specs.declared.check_fault.CheckFault.{CheckFault}
 use Rattle.acn_grammar.specs.declared.node.NumLeaf.{NumLeaf}
 
@@ -29,10 +30,14 @@ PacketsTellTheirValue root = (d d' : Data) (a b r s : List Bool) → Spell root 
 abbrev pub PacketsLieWithinBounds : Grammar → Type 0
 PacketsLieWithinBounds root = (mode : Mode) (d : Data) (bs : List Bool) → Spell root mode root [] d 0 bs → ((span root).least ≤ length bs) × (length bs ≤ (span root).greatest)
 
+-- each node keeps all that a reader, a writer or a compiled plan needs of it; before the root nothing is known, and no slot is at home round it
+abbrev pub NodesAreSound : Grammar → Type 0
+NodesAreSound root = Sound root 0 [] (λ s. false) root
+
 -- each use names a slot whose field stands before it, and no permitted numbers choose two alternatives
 abbrev pub UsesAreKnown : Grammar → Type 0
 UsesAreKnown root = Scoped root (λ s. false) root
 
--- all codes of a slot's leaf have one length of at most 64 bits
+-- all codes of an inserted slot's leaf have one length of at most 64 bits
 abbrev pub SlotsHaveOneWidth : Grammar → Type 0
-SlotsHaveOneWidth root = (k : ℕ) (at : Stand) (s : ℕ) (leaf : NumLeaf) → NodeAt root k at → slot_here at.role ≡ Some s → slot_leaf root s ≡ Some leaf → (w : ℕ) × HasWidth leaf w × (w ≤ 64)
+SlotsHaveOneWidth root = (k : ℕ) (at : Stand) (s : ℕ) (leaf : NumLeaf) → NodeAt root k at → inserted_slot at.role ≡ Some s → slot_leaf root s ≡ Some leaf → (w : ℕ) × HasWidth leaf w × (w ≤ 64)

@@ -24,7 +24,7 @@ pub record Facts : Type 0 where
   pub at_home : ℕ
 
 abbrev pub is_component : Role → Bool
-is_component (a_component name presence) = true
+is_component (a_component name presence own) = true
 is_component _ = false
 
 abbrev pub tag_of : Role → Tag
@@ -50,8 +50,8 @@ abbrev mutual
 
   pub field_facts : List ℕ → (around k : ℕ) → Fields → List Facts
   field_facts path around k no_fields = []
-  field_facts path around k (component name g presence default fs) =
-      facts (record { tests = presence_tests presence; component = true; slot = None }) (path ++ k ∷ []) around g ++ field_facts path around (suc k) fs
+  field_facts path around k (component name g presence default own fs) =
+      facts (record { tests = presence_tests presence; component = true; slot = own }) (path ++ k ∷ []) around g ++ field_facts path around (suc k) fs
   field_facts path around k (inserted name g slot fs) =
       facts (record { tests = []; component = false; slot = slot }) (path ++ k ∷ []) around g ++ field_facts path around (suc k) fs
 
@@ -61,7 +61,7 @@ abbrev mutual
       facts (record { tests = tests; component = false; slot = None }) (path ++ k ∷ []) around g ++ alternative_facts path around (suc k) more
 
 abbrev pub one_field : List ℕ → (around k : ℕ) → view.OneField → List Facts
-one_field path around k (view.a_component name g presence default) = facts (record { tests = presence_tests presence; component = true; slot = None }) (path ++ k ∷ []) around g
+one_field path around k (view.a_component name g presence default own) = facts (record { tests = presence_tests presence; component = true; slot = own }) (path ++ k ∷ []) around g
 one_field path around k (view.an_inserted name g slot) = facts (record { tests = []; component = false; slot = slot }) (path ++ k ∷ []) around g
 
 abbrev pub one_alternative : List ℕ → (around k : ℕ) → view.OneAlternative → List Facts

@@ -6,7 +6,7 @@ use Rattle.acn_grammar.specs.Grammar.{Grammar}
 use Rattle.acn_grammar.specs.Slots.{first_of_two}
 use Rattle.acn_grammar.specs.Walk.{nodes_of}
 use Rattle.acn_check.specs.Facts.{Facts, seen}
-use Rattle.acn_check.specs.First.{Det, Tally, dets, tallied, no_tallies, uses_of, first_of, given, only_if, first_behind, first_wrong_kind, no_width, overlap_at, unclear, no_use, no_item_at, mixed_at, long, much_open, many_values}
+use Rattle.acn_check.specs.First.{Det, Tally, dets, tallied, no_tallies, uses_of, first_of, given, only_if, first_behind, first_wrong_kind, no_width, overlap_at, unclear, no_use, no_item_at, mixed_at, long, much_open, many_values, ambiguous_at}
 
 -- 1 to 4
 abbrev pub unreadable : List Det → List Facts → Option CheckFault
@@ -16,9 +16,9 @@ unreadable ds l = first_of_two (first_of (first_behind ds) 0 l) (first_of_two (f
 abbrev pub dubious : List Det → List Tally → List Facts → Option CheckFault
 dubious ds ts l = first_of_two (first_of unclear 0 l) (first_of_two (first_of (no_use ts) 0 l) (first_of_two (first_of (no_item_at ds) 0 l) (first_of mixed_at 0 l)))
 
--- 9 to 12, of which the third is given
+-- 9 to 13, of which the third is given
 abbrev pub beyond : Grammar → List Facts → Option CheckFault → Option CheckFault
-beyond root l conditions = first_of_two (long root) (first_of_two (first_of much_open 0 l) (first_of_two conditions (many_values root)))
+beyond root l conditions = first_of_two (long root) (first_of_two (first_of much_open 0 l) (first_of_two conditions (first_of_two (many_values root) (first_of ambiguous_at 0 l))))
 
 -- more than 64 conditions compare the slot with a number
 abbrev pub many_equals : Grammar → ℕ → Facts → Option CheckFault

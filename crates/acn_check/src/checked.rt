@@ -5,7 +5,7 @@ ghost use Rattle.acn_check.specs.Checked.{HasNoFault};
 
 use acn_tree::Tree;
 
-/// A tree whose packets can be decoded: none of the twelve faults of decodability holds of it.
+/// A tree whose packets can be decoded: none of the thirteen faults of decodability holds of it.
 #[derive(Drop)]
 pub struct Checked {
     tree: Tree,

@@ -4,7 +4,7 @@ ghost use Rattle.acn_laws.specs.Laws.{IsAccepted};
 ghost use Rattle.acn_grammar.specs.Leaves.{num_fine};
 ghost use Rattle.acn_grammar.specs.Tree.{IsTree};
 ghost use Rattle.acn_grammar.specs.View.{grammar_of};
-ghost use Rattle.acn_check.specs.Checked.{HasNoFault, IsFirstFault, PacketsTellTheirValue, PacketsLieWithinBounds, UsesAreKnown, SlotsHaveOneWidth};
+ghost use Rattle.acn_check.specs.Checked.{HasNoFault, IsFirstFault, PacketsTellTheirValue, PacketsLieWithinBounds, NodesAreSound, UsesAreKnown, SlotsHaveOneWidth};
 ghost use Rattle.acn_check.specs.Facts.{facts_of, Fit};
 ghost use Rattle.acn_check.specs.First as spec;
 ghost use Rattle.acn_check.specs.First.{Told, first_of};
@@ -15,6 +15,7 @@ ghost use Rattle.acn_check.specs.Program.{det_of, tally_of, FewCases, IsTold};
 use crate::checked::Checked;
 use crate::choices::{all_have_items, none_mixed};
 use crate::dets::{Det, list_dets};
+use crate::ends::all_ends_told;
 use crate::lines::{Line, list_node, plain};
 use crate::named::{all_right_kind, none_behind};
 use crate::overlaps::none_overlap;
@@ -22,8 +23,8 @@ use crate::places::{all_clear, few_open};
 use crate::slots::{all_have_few, all_have_width, all_used};
 use crate::tallies::{Tally, count_uses};
 use acn_laws::{
-    accepted_is_scoped, bounds_hold, no_fault_without_a_first, packets_are_prefix_free,
-    widths_are_lengths,
+    accepted_is_scoped, accepted_is_sound, bounds_hold, no_fault_without_a_first,
+    packets_are_prefix_free, widths_are_lengths,
 };
 use acn_num::{NoMemory, Path};
 use acn_tree::{CheckFault, Tree, interval, value_count};
@@ -80,16 +81,18 @@ fn is_clear(lines: &[Line], dets: &[Det], tallies: &[Tally]) -> Result<(), Check
     none_mixed(lines)
 }
 
-// The faults 9 to 12, which concern limits.
+// The faults 9 to 13, which concern limits and the patterns that end lists.
 fn is_within_limits(tree: &Tree, lines: &[Line], tallies: &[Tally]) -> Result<(), CheckFault>
-    requires { Fit (map facts_of lines.now) }
+    requires fit { Fit (map facts_of lines.now) }
+    requires leads { list_all spec.leads_fine (map facts_of lines.now) ≡ true }
     ensures told { Told (order.beyond (grammar_of tree.now.root) (map facts_of lines.now) (first_of (spec.many_conditions (map tally_of tallies.now)) 0 (map facts_of lines.now))) result }
     ensures exact { IfErr result IsTold }
 {
     is_short(tree)?;
     few_open(lines)?;
     all_have_few(lines, tallies)?;
-    has_few_values(tree)
+    has_few_values(tree)?;
+    all_ends_told(lines)
 }
 
 // The nodes of the tree in preorder.
@@ -133,10 +136,10 @@ fn find_fault(alloc: Global, tree: &Tree) -> Result<(), CheckFault>
 /// tree comes back with its first fault, by the number of the fault, then by its first node in preorder, then by
 /// the use at that node, and by alternatives. The rules are this profile's own.
 ///
-/// 1. `Forward`: a use of a slot whose inserted field stands behind the user.
+/// 1. `Forward`: a use of a slot whose field stands behind the user.
 /// 2. `DetKind`: a size or a condition with `==` on other than INTEGER, a flag on other than BOOLEAN, a
 ///    `determinant` on other than ENUMERATED.
-/// 3. `DetWidth`: a slot whose codes don't all have one width of at most 64 bits.
+/// 3. `DetWidth`: an inserted slot whose codes don't all have one width of at most 64 bits.
 /// 4. `Overlap`: two alternatives of a CHOICE without `determinant` that both have conditions, all of which hold
 ///    under the permitted numbers that are given.
 /// 5. `AbsentUnclear`: a component with more than one condition.
@@ -146,6 +149,8 @@ fn find_fault(alloc: Global, tree: &Tree) -> Result<(), CheckFault>
 /// 9. `TooLong`: more than 524,336 bits. 10. `TooManyOpen`: more than 256 slots at home on the path to a node,
 ///    itself included. 11. `TooManyConditions`: more than 64 conditions with `==` on a slot.
 ///    12. `TooManyValues`: more than 1,048,576 values in a packet.
+/// 13. `TerminatorAmbiguous`: a list that is ended by a pattern, whose elements don't begin with a number in plain
+///    bits, at least as many as the pattern has, of which no code begins with the pattern.
 ///
 /// `NoMemory` comes where memory runs out, and where a count of conditions has more than 32 bits.
 pub fn check(alloc: Global, tree: Tree) -> Result<Checked, (Tree, CheckFault)>
@@ -153,6 +158,7 @@ pub fn check(alloc: Global, tree: Tree) -> Result<Checked, (Tree, CheckFault)>
     ensures sound { IfOk result (λ checked. IsAccepted (grammar_of tree.root)) }
     ensures prefix { IfOk result (λ checked. PacketsTellTheirValue (grammar_of tree.root)) }
     ensures lengths { IfOk result (λ checked. PacketsLieWithinBounds (grammar_of tree.root)) }
+    ensures nodes { IfOk result (λ checked. NodesAreSound (grammar_of tree.root)) }
     ensures known { IfOk result (λ checked. UsesAreKnown (grammar_of tree.root)) }
     ensures widths { IfOk result (λ checked. SlotsHaveOneWidth (grammar_of tree.root)) }
     ensures back { IfErr result (λ pair. pair.0 ≡ tree) }
@@ -162,6 +168,7 @@ pub fn check(alloc: Global, tree: Tree) -> Result<Checked, (Tree, CheckFault)>
     packets_are_prefix_free();
     bounds_hold();
     accepted_is_scoped();
+    accepted_is_sound();
     widths_are_lengths();
     match find_fault(alloc, &tree) {
         Ok(()) => Ok(Checked::of(tree)),

@@ -5,6 +5,7 @@ mod checked;
 mod checking;
 mod choices;
 mod dets;
+mod ends;
 mod lines;
 mod named;
 mod overlaps;

@@ -144,11 +144,16 @@ fn list_field<'t>(
 {
     let place = inner(path, step);
     match field {
-        Field::Component { node, presence, .. } => {
+        Field::Component {
+            node,
+            presence,
+            slot,
+            ..
+        } => {
             let tag = Tag {
                 tests: conditions(presence),
                 component: true,
-                slot: None,
+                slot: *slot,
             };
             list_node(node, lines, tag, &place, around)
         }

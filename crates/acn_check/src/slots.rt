@@ -29,11 +29,22 @@ fn has_width(leaf: &NumLeaf) -> bool
     }
 }
 
+// The slot of an inserted field: the width of a component is free.
+fn slot_inserted(line: &Line) -> Option<u32>
+    ensures { result ≡ spec.slot_inserted (facts_of line.now).tag.component (facts_of line.now).tag.slot }
+{
+    if line.tag.component {
+        None
+    } else {
+        line.tag.slot
+    }
+}
+
 fn line_has_width(line: &Line, dets: &[Det]) -> Result<(), CheckFault>
     requires { list_all (λ d. num_fine d.leaf) (map det_of dets.now) ≡ true }
     ensures { Told (spec.no_width (map det_of dets.now) 0 (facts_of line.now)) result }
 {
-    if let Some(slot) = line.tag.slot
+    if let Some(slot) = slot_inserted(line)
         && let Some(det) = det_of_slot(dets, slot)
         && !has_width(det.leaf)
     {
@@ -44,7 +55,7 @@ fn line_has_width(line: &Line, dets: &[Det]) -> Result<(), CheckFault>
     Ok(())
 }
 
-/// Refuses the first slot whose codes don't all have one width of at most 64 bits.
+/// Refuses the first inserted slot whose codes don't all have one width of at most 64 bits.
 pub fn all_have_width(lines: &[Line], dets: &[Det]) -> Result<(), CheckFault>
     requires { list_all (λ d. num_fine d.leaf) (map det_of dets.now) ≡ true }
     ensures { Told (first_of (spec.no_width (map det_of dets.now)) 0 (map facts_of lines.now)) result }

@@ -25,12 +25,13 @@ pub fn slot_named(named: Use) -> u32
     }
 }
 
-fn rule_use(rule: SizeRule) -> Option<Use>
-    ensures { option_to_list (option_map use_of result) ≡ rule_uses rule }
+fn rule_use(rule: &SizeRule) -> Option<Use>
+    ensures { option_to_list (option_map use_of result) ≡ rule_uses rule.now }
 {
     match rule {
-        SizeRule::Slot(slot) => Some(Use::Size(slot)),
+        SizeRule::Slot(slot) => Some(Use::Size(*slot)),
         SizeRule::Prefix { .. } => None,
+        SizeRule::Ended(_) => None,
     }
 }
 
@@ -48,11 +49,11 @@ pub fn body_use(body: &Body) -> Option<Use>
     ensures { option_to_list (option_map use_of result) ≡ form_uses (form_of body.now) }
 {
     match body {
-        Body::Octets(sizing) => rule_use(sizing.rule),
-        Body::Bits(sizing) => rule_use(sizing.rule),
-        Body::Text(leaf) => rule_use(leaf.sized.rule),
-        Body::List(sizing, _) => rule_use(sizing.rule),
-        Body::Contained(sizing, _) => rule_use(sizing.rule),
+        Body::Octets(sizing) => rule_use(&sizing.rule),
+        Body::Bits(sizing) => rule_use(&sizing.rule),
+        Body::Text(leaf) => rule_use(&leaf.sized.rule),
+        Body::List(sizing, _) => rule_use(&sizing.rule),
+        Body::Contained(sizing, _) => rule_use(&sizing.rule),
         Body::Choice(choice) => choice_use(choice.rule),
         Body::Num(_) | Body::Seq(_) => None,
     }

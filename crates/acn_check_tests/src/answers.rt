@@ -51,6 +51,8 @@ pub enum Evidence<'a> {
     TooManyConditions(&'a [u32], u32),
     /// The values.
     TooManyValues(u64),
+    /// The list.
+    TerminatorAmbiguous(&'a [u32]),
     /// There was no memory.
     NoMemory,
 }
@@ -80,6 +82,7 @@ fn told(fault: &CheckFault) -> Evidence<'_> {
             Evidence::TooManyConditions(det.steps(), *count)
         }
         CheckFault::TooManyValues { count } => Evidence::TooManyValues(*count),
+        CheckFault::TerminatorAmbiguous { list } => Evidence::TerminatorAmbiguous(list.steps()),
         CheckFault::NoMemory => Evidence::NoMemory,
     }
 }
@@ -108,6 +111,7 @@ fn number_of(fault: &CheckFault) -> u32 {
         CheckFault::TooManyOpen { .. } => 10,
         CheckFault::TooManyConditions { .. } => 11,
         CheckFault::TooManyValues { .. } => 12,
+        CheckFault::TerminatorAmbiguous { .. } => 13,
         CheckFault::NoMemory => 0,
     }
 }

@@ -149,6 +149,7 @@ fn field(alloc: Global, name: &[u8], presence: Presence, node: Node) -> Result<F
         node,
         presence,
         default: None,
+        slot: None,
     })
 }
 

@@ -48,9 +48,9 @@ module _ (n : ℕ) where
 
     kept_fields : (fs : Fields) (path around : List ℕ) (k : ℕ) → list_all kept_of (field_nodes path around k fs) ≡ fields_kept n fs
     kept_fields no_fields path around k = refl
-    kept_fields (component name g presence default fs) path around k =
-        list_all-append kept_of (nodes (a_component name presence) (path ++ k ∷ []) around g) (field_nodes path around (suc k) fs)
-        ∙ and_two _ _ _ _ (kept_node g (a_component name presence) (path ++ k ∷ []) around) (kept_fields fs path around (suc k))
+    kept_fields (component name g presence default own fs) path around k =
+        list_all-append kept_of (nodes (a_component name presence own) (path ++ k ∷ []) around g) (field_nodes path around (suc k) fs)
+        ∙ and_two _ _ _ _ (kept_node g (a_component name presence own) (path ++ k ∷ []) around) (kept_fields fs path around (suc k))
     kept_fields (inserted name g slot fs) path around k =
         list_all-append kept_of (nodes (an_inserted name slot) (path ++ k ∷ []) around g) (field_nodes path around (suc k) fs)
         ∙ and_two _ _ _ _ (kept_node g (an_inserted name slot) (path ++ k ∷ []) around) (kept_fields fs path around (suc k))

@@ -1,5 +1,5 @@
 -- What is seen of a slot by recursion, over the nodes in preorder.
-use Rattle.std.proofs.Common.{◌≡◌, ℕ, suc, ◌+◌, ◌-◌, ◌^◌, min, Bool, true, false, not, List, [], ◌∷◌, ◌++◌, Some, None, nat_eq, ◌&&◌, ◌||◌, cond, refl, sym, ap, ◌∙◌, arith, append_assoc, append-nil}
+use Rattle.std.proofs.Common.{◌≡◌, ℕ, suc, ◌+◌, ◌-◌, ◌^◌, min, Bool, true, false, not, List, [], ◌∷◌, ◌++◌, Some, None, nat_eq, ◌&&◌, ◌||◌, cond, refl, sym, ap, ◌∙◌, arith, append_assoc, append-nil, Option}
 use Rattle.std.specs.Prelude.{count_by, map}
 use Rattle.std.specs.List.{list_all, list_any}
 use Rattle.std.proofs.lemmas.List.Folds.{list_all-append, list_any-append}
@@ -7,8 +7,8 @@ use Rattle.std.proofs.lemmas.List.Sums.{sum_by-append}
 use Rattle.acn_grammar.specs.Check.{test_slot}
 use Rattle.acn_grammar.specs.Grammar.{Grammar, Form, Fields, Alternatives, node, num, octets, bits, text, seq, list, choice, contained, no_fields, component, inserted, no_alternatives, alternative}
 use Rattle.acn_grammar.specs.Leaves.{implies, same_truth}
-use Rattle.acn_form.specs.Seen.{tests_name, form_names, nothing, joined, weight, far, with_node, with_home, through, inserted_near, seen, form_seen, fields_seen, alternatives_seen}
-use Rattle.acn_grammar.specs.Tree.{holds, is_seq, is_slot, is_about, near, near_node, near_form, near_if}
+use Rattle.acn_form.specs.Seen.{tests_name, form_names, nothing, joined, weight, far, own_right, own_near, with_node, with_home, through, inserted_near, seen, form_seen, fields_seen, alternatives_seen}
+use Rattle.acn_grammar.specs.Tree.{holds, is_seq, is_slot, is_about, near, near_node, near_form, near_if, slot_list}
 use Rattle.acn_grammar.specs.Walk.{Stand, Role, a_component, an_inserted, an_alternative, an_element, a_content, nodes, form_nodes, field_nodes, alternative_nodes, inside, own_tests, presence_tests, slot_here, slot_of, form_uses, Use, condition}
 use Rattle.acn_form.specs.declared.homes.Seen.{Seen}
 use Rattle.acn_grammar.specs.declared.node.Presence.{Presence}
@@ -87,9 +87,16 @@ module _ (s total : ℕ) where
   home_right (seq fs home) xs = same_truth (holds home s) (enough xs && not (list_any has_all xs)) && implies (holds home s) (holds (near fs) s)
   home_right _ xs = true
 
-  -- a use stands inside the slot's home, and a home is right
+  abbrev pub own_slot : Role → Option ℕ
+  own_slot (a_component name presence own) = own
+  own_slot _ = None
+
+  abbrev pub role_right : Role → Bool
+  role_right role = own_right s total (own_slot role)
+
+  -- a use stands inside the slot's home, a component that says the slot has a use, and a home is right
   abbrev pub slot_right : Stand → Bool
-  slot_right at = implies (tests_name s (own_tests at.role) || form_names s at.form) (holds at.around s) && home_right at.form (inside at)
+  slot_right at = (implies (tests_name s (own_tests at.role) || form_names s at.form) (holds at.around s) && role_right at.role) && home_right at.form (inside at)
 
   pub record Sees (xs : List Stand) (ns : List ℕ) (r : Seen) : Type 0 where
     pub about : r.about ≡ min (count_by (is_about s) xs) (2 ^ 32 - 1)
@@ -129,6 +136,10 @@ module _ (s total : ℕ) where
   sees_through xs ns a Bit p = sees_far xs ns a p
   sees_through xs ns a (When ts) p = sees_far xs ns a p
 
+  sees_own : (xs : List Stand) (ns : List ℕ) (a : Seen) (own : Option ℕ) → Sees xs ns a → Sees xs (slot_list own ++ ns) (own_near s total own a)
+  sees_own xs ns a None p = record { about = p.about; encloses = p.encloses; near = p.near; fine = p.fine }
+  sees_own xs ns a (Some t) p = record { about = p.about; encloses = p.encloses; near = ap (λ (b : Bool). nat_eq t s || b) p.near; fine = p.fine }
+
   no_more : (n : ℕ) → 0 + n ≡ n
   no_more n = omega arith
 
@@ -144,7 +155,7 @@ module _ (s total : ℕ) where
 
   pub sees_node : (form : Form) (ns : List ℕ) (role : Role) (path around : List ℕ) (align : ℕ) (in_home : Bool) (inner : Seen)
       → Inside form (form_nodes path around form) ns inner → in_home ≡ holds around s
-      → Sees (nodes role path around (node align form)) ns (with_node s total in_home (is_slot s (slot_here role)) (tests_name s (own_tests role)) form inner)
+      → Sees (nodes role path around (node align form)) ns (with_node s total in_home (is_slot s (slot_here role)) (tests_name s (own_tests role)) (role_right role) form inner)
   sees_node form ns role path around align in_home inner p g =
       let xs = form_nodes path around form in
       let at : Stand = record { path = path; around = around; role = role; align = align; form = form } in
@@ -155,7 +166,7 @@ module _ (s total : ℕ) where
         about = about_node inner.about (count_by (is_about s) xs) (2 ^ 32 - 1) here p.about ∙ ap (λ (n : ℕ). min n (2 ^ 32 - 1)) (sym counted);
         encloses = rw (p.encloses, p.about) (or_comm (list_any has_all xs) (is_seq form && enough xs));
         near = p.near;
-        fine = rw (p.fine, g) (and_turn (list_all slot_right xs) (home_right form xs) (implies (named_at role form) (holds around s)));
+        fine = rw (p.fine, g) (and_turn (list_all slot_right xs) (home_right form xs) (implies (named_at role form) (holds around s) && role_right role));
       }
 
   inside_none : (form : Form) → home_right form [] ≡ true → Inside form [] [] nothing
@@ -189,7 +200,7 @@ module _ (s total : ℕ) where
 
   mutual
     pub sees_grammar : (g : Grammar) (role : Role) (path around : List ℕ) (in_home : Bool) → in_home ≡ holds around s
-        → Sees (nodes role path around g) (near_node g) (seen s total in_home (is_slot s (slot_here role)) (tests_name s (own_tests role)) g)
+        → Sees (nodes role path around g) (near_node g) (seen s total in_home (is_slot s (slot_here role)) (tests_name s (own_tests role)) (role_right role) g)
     sees_grammar (node align form) role path around in_home h =
         sees_node form (near_form form) role path around align in_home (form_seen s total in_home form) (sees_form form path around in_home h) h
 
@@ -202,32 +213,35 @@ module _ (s total : ℕ) where
         inside_home fs home (field_nodes path (home ++ around) 0 fs) (fields_seen s total (in_home || holds home s) nothing fs)
         (sees_fields fs path (home ++ around) 0 (in_home || holds home s) (home_around home around in_home h) [] [] nothing sees_none)
     sees_form (list sizing g) path around in_home h =
-        inside_far (list sizing g) (nodes an_element (path ++ 0 ∷ []) around g) (near_node g) (seen s total in_home false false g) refl (sees_grammar g an_element (path ++ 0 ∷ []) around in_home h)
+        inside_far (list sizing g) (nodes an_element (path ++ 0 ∷ []) around g) (near_node g) (seen s total in_home false false true g) refl (sees_grammar g an_element (path ++ 0 ∷ []) around in_home h)
     sees_form (choice cases rule) path around in_home h =
         inside_far (choice cases rule) (alternative_nodes path around 0 cases) (near_cases cases) (alternatives_seen s total in_home nothing cases) refl (sees_alternatives cases path around 0 in_home h [] [] nothing sees_none)
     sees_form (contained sizing g) path around in_home h =
-        inside_far (contained sizing g) (nodes a_content (path ++ 0 ∷ []) around g) (near_node g) (seen s total in_home false false g) refl (sees_grammar g a_content (path ++ 0 ∷ []) around in_home h)
+        inside_far (contained sizing g) (nodes a_content (path ++ 0 ∷ []) around g) (near_node g) (seen s total in_home false false true g) refl (sees_grammar g a_content (path ++ 0 ∷ []) around in_home h)
 
     sees_fields : (fs : Fields) (path around : List ℕ) (k : ℕ) (in_home : Bool) → in_home ≡ holds around s → (xs : List Stand) (ns : List ℕ) (before : Seen) → Sees xs ns before
         → Sees (xs ++ field_nodes path around k fs) (ns ++ near fs) (fields_seen s total in_home before fs)
     sees_fields no_fields path around k in_home h xs ns before p = at_end xs ns before p
-    sees_fields (component name g presence default fs) path around k in_home h xs ns before p =
-        let ys = nodes (a_component name presence) (path ++ k ∷ []) around g in
-        let one = seen s total in_home false (tests_name s (presence_tests presence)) g in
-        regroup xs ys (field_nodes path around (suc k) fs) ns (near_if presence (near_node g)) (near fs) (fields_seen s total in_home (joined before (through s total presence one)) fs)
-        (sees_fields fs path around (suc k) in_home h (xs ++ ys) (ns ++ near_if presence (near_node g)) (joined before (through s total presence one))
-        (sees_joined xs ys ns (near_if presence (near_node g)) before (through s total presence one) p
-        (sees_through ys (near_node g) one presence (sees_grammar g (a_component name presence) (path ++ k ∷ []) around in_home h))))
+    sees_fields (component name g presence default own fs) path around k in_home h xs ns before p =
+        let ys = nodes (a_component name presence own) (path ++ k ∷ []) around g in
+        let one = seen s total in_home (is_slot s own) (tests_name s (presence_tests presence)) (own_right s total own) g in
+        let here = own_near s total own (through s total presence one) in
+        let ms = slot_list own ++ near_if presence (near_node g) in
+        rw (← append_assoc (slot_list own) (near_if presence (near_node g)) (near fs)) (regroup xs ys (field_nodes path around (suc k) fs) ns ms (near fs) (fields_seen s total in_home (joined before here) fs)
+        (sees_fields fs path around (suc k) in_home h (xs ++ ys) (ns ++ ms) (joined before here)
+        (sees_joined xs ys ns ms before here p
+        (sees_own ys (near_if presence (near_node g)) (through s total presence one) own
+        (sees_through ys (near_node g) one presence (sees_grammar g (a_component name presence own) (path ++ k ∷ []) around in_home h))))))
     sees_fields (inserted name g None fs) path around k in_home h xs ns before p =
         let ys = nodes (an_inserted name None) (path ++ k ∷ []) around g in
-        let one = seen s total in_home false false g in
+        let one = seen s total in_home false false true g in
         regroup xs ys (field_nodes path around (suc k) fs) ns [] (near fs) (fields_seen s total in_home (joined before (inserted_near s total None one)) fs)
         (sees_fields fs path around (suc k) in_home h (xs ++ ys) (ns ++ []) (joined before (inserted_near s total None one))
         (sees_joined xs ys ns [] before (inserted_near s total None one) p
         (no_slot_near ys (near_node g) one (sees_grammar g (an_inserted name None) (path ++ k ∷ []) around in_home h))))
     sees_fields (inserted name g (Some t) fs) path around k in_home h xs ns before p =
         let ys = nodes (an_inserted name (Some t)) (path ++ k ∷ []) around g in
-        let one = seen s total in_home (nat_eq t s) false g in
+        let one = seen s total in_home (nat_eq t s) false true g in
         regroup xs ys (field_nodes path around (suc k) fs) ns (t ∷ []) (near fs) (fields_seen s total in_home (joined before (inserted_near s total (Some t) one)) fs)
         (sees_fields fs path around (suc k) in_home h (xs ++ ys) (ns ++ t ∷ []) (joined before (inserted_near s total (Some t) one))
         (sees_joined xs ys ns (t ∷ []) before (inserted_near s total (Some t) one) p
@@ -238,7 +252,7 @@ module _ (s total : ℕ) where
     sees_alternatives no_alternatives path around k in_home h xs ns before p = at_end xs ns before p
     sees_alternatives (alternative name g tests more) path around k in_home h xs ns before p =
         let ys = nodes (an_alternative name tests) (path ++ k ∷ []) around g in
-        let one = seen s total in_home false (tests_name s tests) g in
+        let one = seen s total in_home false (tests_name s tests) true g in
         regroup xs ys (alternative_nodes path around (suc k) more) ns (near_node g) (near_cases more) (alternatives_seen s total in_home (joined before one) more)
         (sees_alternatives more path around (suc k) in_home h (xs ++ ys) (ns ++ near_node g) (joined before one)
         (sees_joined xs ys ns (near_node g) before one p (sees_grammar g (an_alternative name tests) (path ++ k ∷ []) around in_home h)))

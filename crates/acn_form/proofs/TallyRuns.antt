@@ -62,10 +62,10 @@ mutual
 
   runs_fields : (fs : Fields) (path around : List ℕ) (k : ℕ) (t : Tally) → run (field_nodes path around k fs) t ≡ fields_tally (length path + 1) fs t
   runs_fields no_fields path around k t = refl
-  runs_fields (component name g presence default fs) path around k t =
-      run-append (nodes (a_component name presence) (path ++ k ∷ []) around g) (field_nodes path around (suc k) fs) t
-      ∙ joined_step (run (nodes (a_component name presence) (path ++ k ∷ []) around g) t) (tally (length path + 1) g t) (run (field_nodes path around (suc k) fs)) (fields_tally (length path + 1) fs)
-      (runs_node g (a_component name presence) (path ++ k ∷ []) around t ∙ ap (λ (n : ℕ). tally n g t) (longer path k)) (λ u. runs_fields fs path around (suc k) u)
+  runs_fields (component name g presence default own fs) path around k t =
+      run-append (nodes (a_component name presence own) (path ++ k ∷ []) around g) (field_nodes path around (suc k) fs) t
+      ∙ joined_step (run (nodes (a_component name presence own) (path ++ k ∷ []) around g) t) (then_tally (numbered own t) (tally (length path + 1) g)) (run (field_nodes path around (suc k) fs)) (fields_tally (length path + 1) fs)
+      (runs_node g (a_component name presence own) (path ++ k ∷ []) around t ∙ ap (λ (n : ℕ). then_tally (numbered own t) (tally n g)) (longer path k)) (λ u. runs_fields fs path around (suc k) u)
   runs_fields (inserted name g slot fs) path around k t =
       run-append (nodes (an_inserted name slot) (path ++ k ∷ []) around g) (field_nodes path around (suc k) fs) t
       ∙ joined_step (run (nodes (an_inserted name slot) (path ++ k ∷ []) around g) t) (then_tally (numbered slot t) (tally (length path + 1) g)) (run (field_nodes path around (suc k) fs)) (fields_tally (length path + 1) fs)

@@ -1,5 +1,5 @@
 -- What the tests of the walks say is what the definition of a tree says.
-use Rattle.std.proofs.Common.{◌≡◌, ℕ, zero, suc, ◌+◌, ◌-◌, ◌^◌, ◌<◌, ◌≤◌, min, Bool, true, false, not, List, [], ◌∷◌, ◌++◌, length, Option, Some, None, nat_eq, nat_lt, nat_le, ◌&&◌, ◌||◌, refl, sym, ap, ◌∙◌, arith}
+use Rattle.std.proofs.Common.{◌≡◌, ℕ, zero, suc, ◌+◌, ◌-◌, ◌^◌, ◌<◌, ◌≤◌, min, Bool, true, false, not, List, [], ◌∷◌, ◌++◌, length, Option, Some, None, nat_eq, nat_lt, nat_le, ◌&&◌, ◌||◌, refl, sym, ap, ◌∙◌, subst, arith}
 use Rattle.std.specs.Prelude.{count_by, map, filter}
 use Rattle.std.specs.List.{list_all, list_any, range_with_len, cons_option}
 use Rattle.std.proofs.lemmas.Bool.Decides.{nat_tests}
@@ -7,8 +7,8 @@ use Rattle.acn_grammar.specs.Check.{test_slot}
 use Rattle.acn_grammar.specs.Grammar.{Grammar, Form, Fields, Alternatives, node, num, octets, bits, text, seq, list, choice, contained, no_fields, component, inserted, no_alternatives, alternative}
 use Rattle.acn_form.specs.Kept.{tests_below, uses_below, all_below, rises_from, kept}
 use Rattle.acn_grammar.specs.Leaves.{implies, same_truth}
-use Rattle.acn_form.specs.Seen.{seen, slot_kept, tests_name, form_names}
-use Rattle.acn_grammar.specs.Tree.{is_tree, is_align, form_fine, role_fine, all_true, stand_rules, holds, is_seq, is_about, near, encloses, is_home, home_fine, names_open, slots_of, same_numbers}
+use Rattle.acn_form.specs.Seen.{seen, slot_kept, own_right, tests_name, form_names}
+use Rattle.acn_grammar.specs.Tree.{is_tree, is_align, form_fine, role_fine, own_used, all_true, stand_rules, holds, is_seq, is_about, near, encloses, is_home, home_fine, names_open, slots_of, same_numbers}
 use Rattle.acn_grammar.specs.Walk.{Stand, Role, root_node, a_component, an_inserted, an_alternative, an_element, a_content, nodes, form_nodes, field_nodes, alternative_nodes, nodes_of, inside, uses, slot_of, slot_here, own_tests, form_uses, Use, condition}
 use Rattle.acn_grammar.specs.declared.node.Test.{Test}
 use Rattle.acn_grammar.specs.declared.node.Test.TheVariants.{Flag, Equals}
@@ -20,7 +20,7 @@ use Rattle.acn_form.specs.declared.tallies.Tally.{Tally}
 use Rattle.acn_form.proofs.KeptRuns.{home_low, kept_of, kept_node}
 use Rattle.acn_grammar.proofs.TreeRules.{StandFine, stand_fine, list_all-append}
 use Rattle.acn_form.proofs.Listed.{same_is, same_refl, chosen_holds, chosen_rise, chosen_below, listed}
-use Rattle.acn_form.proofs.SeenRuns.{sees_grammar, slot_right, home_right, has_all, enough, uses_named}
+use Rattle.acn_form.proofs.SeenRuns.{sees_grammar, slot_right, role_right, own_slot, home_right, has_all, enough, uses_named}
 
 pub not_true : (b : Bool) → (b ≡ true → ⊥) → false ≡ b
 not_true true h = absurd (h refl)
@@ -34,7 +34,7 @@ pub slot_kept_is : (root : Grammar) (s : ℕ) → slot_kept root s ≡ list_all 
 unfolding slot_kept
 slot_kept_is root s =
     let first = sees_grammar s 0 root root_node [] [] false refl in
-    let total = (seen s 0 false false false root).about in
+    let total = (seen s 0 false false false true root).about in
     let second = sees_grammar s total root root_node [] [] false refl in
     second.fine ∙ ap (λ (n : ℕ). list_all (slot_right s n) (nodes_of root)) first.about
 
@@ -128,12 +128,28 @@ module _ (all : List Stand) (n : ℕ) (numbered : slots_of all ≡ range_with_le
   home_part s few l at (choice cases rule) e h = refl
   home_part s few l at (contained sizing g) e h = refl
 
-  pub right_from : (s : ℕ) → count_by (is_about s) all ≤ 65536 → s < n → (at : Stand) → names_open at ≡ true → home_fine all at at.form ≡ true
+  own_part : (s : ℕ) (role : Role) → own_used all role ≡ true → role_right s (min (count_by (is_about s) all) (2 ^ 32 - 1)) role ≡ true
+  own_part s (a_component name presence None) h = refl
+  own_part s (a_component name presence (Some t)) h = own_case (nat_eq t s) refl
+    where
+      two : (c : ℕ) → nat_lt 1 c ≡ true → nat_lt 1 (min c (2 ^ 32 - 1)) ≡ true
+      two c k = grind (arith, nat_tests)
+
+      own_case : (b : Bool) → nat_eq t s ≡ b → implies b (nat_lt 1 (min (count_by (is_about s) all) (2 ^ 32 - 1))) ≡ true
+      own_case true e = two (count_by (is_about s) all) (subst (λ (r : ℕ). nat_lt 1 (count_by (is_about r) all) ≡ true) (equal_is t s e) h)
+      own_case false e = refl
+  own_part s root_node h = refl
+  own_part s (an_inserted name slot) h = refl
+  own_part s (an_alternative name tests) h = refl
+  own_part s an_element h = refl
+  own_part s a_content h = refl
+
+  pub right_from : (s : ℕ) → count_by (is_about s) all ≤ 65536 → s < n → (at : Stand) → names_open at ≡ true → own_used all at.role ≡ true → home_fine all at at.form ≡ true
       → slot_right s (min (count_by (is_about s) all) (2 ^ 32 - 1)) at ≡ true
-  right_from s few l at h g =
+  right_from s few l at h o g =
       let named : (tests_name s (own_tests at.role) || form_names s at.form) ≡ true → holds at.around s ≡ true =
       λ k. open_here at.around (map slot_of (uses at)) s h (uses_named s 0 (own_tests at.role) (form_uses at.form) ∙ k) in
-      rw (implies_true (tests_name s (own_tests at.role) || form_names s at.form) (holds at.around s) named, home_part s few l at at.form refl g) refl
+      rw (implies_true (tests_name s (own_tests at.role) || form_names s at.form) (holds at.around s) named, own_part s at.role o, home_part s few l at at.form refl g) refl
 
 -- Numbers below another.
 
@@ -229,11 +245,36 @@ module _ (all : List Stand) (n : ℕ) (numbered : slots_of all ≡ range_with_le
       let p = both_are (nat_lt t n) (list_all (λ u. nat_lt u n) ss) b in
       rw (f t (less_is t n p.0) (head_any t ss), all_open around ss p.1 (λ s l k. f s l (tail_holds (nat_eq s t) (list_any (nat_eq s) ss) k))) refl
 
+  -- the parts of what is right at a node
+  pub right_parts : (s : ℕ) (at : Stand) → slot_right s (min (count_by (is_about s) all) (2 ^ 32 - 1)) at ≡ true
+      → (implies (tests_name s (own_tests at.role) || form_names s at.form) (holds at.around s) ≡ true) × (role_right s (min (count_by (is_about s) all) (2 ^ 32 - 1)) at.role ≡ true) × (home_right s (min (count_by (is_about s) all) (2 ^ 32 - 1)) at.form (inside at) ≡ true)
+  right_parts s at h =
+      let total = min (count_by (is_about s) all) (2 ^ 32 - 1) in
+      let p = both_are (implies (tests_name s (own_tests at.role) || form_names s at.form) (holds at.around s) && role_right s total at.role) (home_right s total at.form (inside at)) h in
+      let q = both_are (implies (tests_name s (own_tests at.role) || form_names s at.form) (holds at.around s)) (role_right s total at.role) p.0 in
+      (q.0, q.1, p.1)
+
+  -- a component's slot is below n, and so it is tested
+  pub used_from : (role : Role) → ((t : ℕ) → slot_here role ≡ Some t → t < n) → ((s : ℕ) → s < n → role_right s (min (count_by (is_about s) all) (2 ^ 32 - 1)) role ≡ true) → own_used all role ≡ true
+  used_from (a_component name presence None) low f = refl
+  used_from (a_component name presence (Some t)) low f = two (count_by (is_about t) all) (implies_gives (nat_eq t t) (nat_lt 1 (min (count_by (is_about t) all) (2 ^ 32 - 1))) (f t (low t refl)) (equal_self t))
+    where
+      equal_self : (a : ℕ) → nat_eq a a ≡ true
+      equal_self a = grind (arith, nat_tests)
+
+      two : (c : ℕ) → nat_lt 1 (min c (2 ^ 32 - 1)) ≡ true → nat_lt 1 c ≡ true
+      two c k = grind (arith, nat_tests)
+  used_from root_node low f = refl
+  used_from (an_inserted name slot) low f = refl
+  used_from (an_alternative name tests) low f = refl
+  used_from an_element low f = refl
+  used_from a_content low f = refl
+
   pub open_from : (at : Stand) → tests_below n (own_tests at.role) ≡ true → uses_below n at.form ≡ true → Right at → names_open at ≡ true
   open_from at a b f =
       all_open at.around (map slot_of (uses at)) (below_mapped n (own_tests at.role) (form_uses at.form) a b)
       (λ s l k. implies_gives (tests_name s (own_tests at.role) || form_names s at.form) (holds at.around s)
-      (both_are (implies (tests_name s (own_tests at.role) || form_names s at.form) (holds at.around s)) (home_right s (min (count_by (is_about s) all) (2 ^ 32 - 1)) at.form (inside at)) (f s l)).0
+      (right_parts s at (f s l)).0
       (sym (uses_named s 0 (own_tests at.role) (form_uses at.form)) ∙ k))
 
 -- From the definition to the rules of nodes.
@@ -291,9 +332,9 @@ module _ (all : List Stand) (n : ℕ) (numbered : slots_of all ≡ range_with_le
 
     from_fields : (fs : Fields) (path around : List ℕ) (k : ℕ) → all_below n around ≡ true → list_all passes (field_nodes path around k fs) ≡ true → list_all (kept_of n) (field_nodes path around k fs) ≡ true
     from_fields no_fields path around k b h = refl
-    from_fields (component name g presence default fs) path around k b h =
-        let p = list_all-append passes (nodes (a_component name presence) (path ++ k ∷ []) around g) (field_nodes path around (suc k) fs) h in
-        both_lists (nodes (a_component name presence) (path ++ k ∷ []) around g) (field_nodes path around (suc k) fs) (from_node g (a_component name presence) (path ++ k ∷ []) around b p.0) (from_fields fs path around (suc k) b p.1)
+    from_fields (component name g presence default own fs) path around k b h =
+        let p = list_all-append passes (nodes (a_component name presence own) (path ++ k ∷ []) around g) (field_nodes path around (suc k) fs) h in
+        both_lists (nodes (a_component name presence own) (path ++ k ∷ []) around g) (field_nodes path around (suc k) fs) (from_node g (a_component name presence own) (path ++ k ∷ []) around b p.0) (from_fields fs path around (suc k) b p.1)
     from_fields (inserted name g slot fs) path around k b h =
         let p = list_all-append passes (nodes (an_inserted name slot) (path ++ k ∷ []) around g) (field_nodes path around (suc k) fs) h in
         both_lists (nodes (an_inserted name slot) (path ++ k ∷ []) around g) (field_nodes path around (suc k) fs) (from_node g (an_inserted name slot) (path ++ k ∷ []) around b p.0) (from_fields fs path around (suc k) b p.1)
@@ -394,14 +435,27 @@ module _ (root : Grammar) where
       let numbered = same_is (slots_of (nodes_of root)) (range_with_len 0 n) p.order in
       all_range (slot_kept root) 0 n (λ s l.
       slot_kept_is root s ∙ all_as (λ (at : Stand). all_true (stand_rules (nodes_of root) at)) (slot_right s (min (count_by (is_about s) (nodes_of root)) (2 ^ 32 - 1)))
-      (λ at k. (let f = stand_fine (nodes_of root) at k in right_from (nodes_of root) n numbered s (few_about s p.size) (omega arith) at f.uses f.home)) (nodes_of root) p.each)
+      (λ at k. (let f = stand_fine (nodes_of root) at k in right_from (nodes_of root) n numbered s (few_about s p.size) (omega arith) at f.uses f.own f.home)) (nodes_of root) p.each)
 
-  six_true : (a b c d e f : Bool) → a ≡ true → b ≡ true → c ≡ true → d ≡ true → e ≡ true → f ≡ true → list_all (λ x. x) (a ∷ b ∷ c ∷ d ∷ e ∷ f ∷ []) ≡ true
-  six_true a b c d e f p q r s t u = rw (p, q, r, s, t, u) refl
+  seven_true : (a b c d e f g : Bool) → a ≡ true → b ≡ true → c ≡ true → d ≡ true → e ≡ true → f ≡ true → g ≡ true → list_all (λ x. x) (a ∷ b ∷ c ∷ d ∷ e ∷ f ∷ g ∷ []) ≡ true
+  seven_true a b c d e f g p q r s t u v = rw (p, q, r, s, t, u, v) refl
 
-  fine_here : (n : ℕ) → slots_of (nodes_of root) ≡ range_with_len 0 n → (few : (s : ℕ) → count_by (is_about s) (nodes_of root) ≤ 65536) → (at : Stand) → deep at ≡ true → kept_of n at ≡ true
+  -- the slots of a list of nodes are below n
+  abbrev low_slots : ℕ → List Stand → Bool
+  low_slots n xs = list_all (λ t. nat_lt t n) (slots_of xs)
+
+  low_step : (n : ℕ) (o : Option ℕ) (ss : List ℕ) → list_all (λ t. nat_lt t n) (cons_option o ss) ≡ true → ((t : ℕ) → o ≡ Some t → t < n) × (list_all (λ t. nat_lt t n) ss ≡ true)
+  low_step n None ss h = ((λ t e. cc), h)
+  low_step n (Some u) ss h =
+      let p = both_are (nat_lt u n) (list_all (λ t. nat_lt t n) ss) h in
+      ((λ t e. (let is : u ≡ t = cc in rw (← is) (less_is u n p.0))), p.1)
+
+  all_low : (n : ℕ) → list_all (λ t. nat_lt t n) (range_with_len 0 n) ≡ true
+  all_low n = all_range (λ t. nat_lt t n) 0 n (λ s l. less_test s n (omega arith))
+
+  fine_here : (n : ℕ) → slots_of (nodes_of root) ≡ range_with_len 0 n → (few : (s : ℕ) → count_by (is_about s) (nodes_of root) ≤ 65536) → (at : Stand) → deep at ≡ true → kept_of n at ≡ true → ((t : ℕ) → slot_here at.role ≡ Some t → t < n)
       → ((s : ℕ) → s < n → slot_right s (min (count_by (is_about s) (nodes_of root)) (2 ^ 32 - 1)) at ≡ true) → all_true (stand_rules (nodes_of root) at) ≡ true
-  fine_here n numbered few at d k f =
+  fine_here n numbered few at d k low f =
       let a = both_are (role_fine at.role at.form) (tests_below n (own_tests at.role) && (is_align at.align && (form_fine at.form && (uses_below n at.form && home_low n at.form)))) k in
       let b = both_are (tests_below n (own_tests at.role)) (is_align at.align && (form_fine at.form && (uses_below n at.form && home_low n at.form))) a.1 in
       let c = both_are (is_align at.align) (form_fine at.form && (uses_below n at.form && home_low n at.form)) b.1 in
@@ -409,18 +463,20 @@ module _ (root : Grammar) where
       let g = both_are (uses_below n at.form) (home_low n at.form) e.1 in
       let opened = open_from (nodes_of root) n numbered few at b.0 g.0 f in
       let home = home_from (nodes_of root) n numbered few at at.form refl g.1
-      (λ s l. (both_are (implies (tests_name s (own_tests at.role) || form_names s at.form) (holds at.around s)) (home_right s (min (count_by (is_about s) (nodes_of root)) (2 ^ 32 - 1)) at.form (inside at)) (f s l)).1) in
-      six_true (deep at) (is_align at.align) (form_fine at.form) (role_fine at.role at.form) (names_open at) (home_fine (nodes_of root) at at.form) d c.0 e.0 a.0 opened home
+      (λ s l. (right_parts (nodes_of root) n numbered few s at (f s l)).2) in
+      let used = used_from (nodes_of root) n numbered few at.role low (λ s l. (right_parts (nodes_of root) n numbered few s at (f s l)).1) in
+      seven_true (deep at) (is_align at.align) (form_fine at.form) (role_fine at.role at.form) (own_used (nodes_of root) at.role) (names_open at) (home_fine (nodes_of root) at at.form) d c.0 e.0 a.0 used opened home
 
-  each_fine : (n : ℕ) → slots_of (nodes_of root) ≡ range_with_len 0 n → (few : (s : ℕ) → count_by (is_about s) (nodes_of root) ≤ 65536) → (xs : List Stand) → list_all deep xs ≡ true → list_all (kept_of n) xs ≡ true
+  each_fine : (n : ℕ) → slots_of (nodes_of root) ≡ range_with_len 0 n → (few : (s : ℕ) → count_by (is_about s) (nodes_of root) ≤ 65536) → (xs : List Stand) → list_all deep xs ≡ true → list_all (kept_of n) xs ≡ true → low_slots n xs ≡ true
       → ((s : ℕ) → s < n → list_all (slot_right s (min (count_by (is_about s) (nodes_of root)) (2 ^ 32 - 1))) xs ≡ true) → list_all (λ at. all_true (stand_rules (nodes_of root) at)) xs ≡ true
-  each_fine n numbered few [] d k f = refl
-  each_fine n numbered few (x ∷ xs) d k f =
+  each_fine n numbered few [] d k low f = refl
+  each_fine n numbered few (x ∷ xs) d k low f =
       let p = both_are (deep x) (list_all deep xs) d in
       let q = both_are (kept_of n x) (list_all (kept_of n) xs) k in
       let r : (s : ℕ) → s < n → slot_right s (min (count_by (is_about s) (nodes_of root)) (2 ^ 32 - 1)) x ≡ true = λ s l. (both_are (slot_right s (min (count_by (is_about s) (nodes_of root)) (2 ^ 32 - 1)) x) (list_all (slot_right s (min (count_by (is_about s) (nodes_of root)) (2 ^ 32 - 1))) xs) (f s l)).0 in
-      let head = fine_here n numbered few x p.0 q.0 r in
-      rw head (each_fine n numbered few xs p.1 q.1 (λ s l. (both_are (slot_right s (min (count_by (is_about s) (nodes_of root)) (2 ^ 32 - 1)) x) (list_all (slot_right s (min (count_by (is_about s) (nodes_of root)) (2 ^ 32 - 1))) xs) (f s l)).1))
+      let o = low_step n (slot_here x.role) (slots_of xs) low in
+      let head = fine_here n numbered few x p.0 q.0 o.0 r in
+      rw head (each_fine n numbered few xs p.1 q.1 o.1 (λ s l. (both_are (slot_right s (min (count_by (is_about s) (nodes_of root)) (2 ^ 32 - 1)) x) (list_all (slot_right s (min (count_by (is_about s) (nodes_of root)) (2 ^ 32 - 1))) xs) (f s l)).1))
 
   pub tree_from : (u : Tally) → tally 0 root begin ≡ Some u → kept u.next root ≡ true → list_all (slot_kept root) (range_with_len 0 u.next) ≡ true → is_tree root ≡ true
   tree_from u e k l =
@@ -431,7 +487,7 @@ module _ (root : Grammar) where
       let numbered = same_is (slots_of (nodes_of root)) (range_with_len 0 n) facts.slots in
       let k' : kept n root ≡ true = rw nx at k in
       let l' : list_all (slot_kept root) (range_with_len 0 n) ≡ true = rw nx at l in
-      let each = each_fine n numbered (λ s. few_about s fits) (nodes_of root) facts.all_deep (kept_node n root root_node [] [] ∙ k')
+      let each = each_fine n numbered (λ s. few_about s fits) (nodes_of root) facts.all_deep (kept_node n root root_node [] [] ∙ k') (ap (λ (ss : List ℕ). list_all (λ t. nat_lt t n) ss) numbered ∙ all_low n)
       (λ s b. sym (slot_kept_is root s) ∙ range_gives (slot_kept root) 0 n s l' (omega arith) (omega arith)) in
       let size : nat_le (length (nodes_of root)) 65536 ≡ true = size_test (length (nodes_of root)) fits in
       rw (size, facts.slots, each) refl

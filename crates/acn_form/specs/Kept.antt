@@ -3,7 +3,7 @@ use Rattle.std.specs.Prelude.{ℕ, ◌+◌, nat_lt, nat_le, Bool, true, ◌&&◌
 use Rattle.std.specs.List.{list_all}
 use Rattle.acn_grammar.specs.Grammar.{Grammar, Form, Fields, Alternatives, node, seq, list, choice, contained, no_fields, component, inserted, no_alternatives, alternative}
 use Rattle.acn_grammar.specs.Check.{test_slot}
-use Rattle.acn_grammar.specs.Tree.{is_align, form_fine, presence_fine, inserted_fine}
+use Rattle.acn_grammar.specs.Tree.{is_align, form_fine, presence_fine, inserted_fine, own_fine}
 use Rattle.acn_grammar.specs.View.{OneField, OneAlternative, a_component, an_inserted}
 use Rattle.acn_grammar.specs.Walk.{slot_of, form_uses, presence_tests}
 use Rattle.acn_grammar.specs.declared.node.Test.{Test}
@@ -41,7 +41,7 @@ abbrev mutual
 
   pub fields_kept : (slots : ℕ) → Fields → Bool
   fields_kept n no_fields = true
-  fields_kept n (component name g presence default fs) = (presence_fine presence && (tests_below n (presence_tests presence) && kept n g)) && fields_kept n fs
+  fields_kept n (component name g presence default own fs) = ((presence_fine presence && own_fine own presence (form_in g)) && (tests_below n (presence_tests presence) && kept n g)) && fields_kept n fs
   fields_kept n (inserted name g slot fs) = (inserted_fine slot (form_in g) && kept n g) && fields_kept n fs
 
   pub alternatives_kept : (slots : ℕ) → Alternatives → Bool
@@ -49,12 +49,12 @@ abbrev mutual
   alternatives_kept n (alternative name g tests more) = (tests_below n tests && kept n g) && alternatives_kept n more
 
 abbrev pub field_kept : (slots : ℕ) → OneField → Bool
-field_kept n (a_component name g presence default) = presence_fine presence && (tests_below n (presence_tests presence) && kept n g)
+field_kept n (a_component name g presence default own) = (presence_fine presence && own_fine own presence (form_in g)) && (tests_below n (presence_tests presence) && kept n g)
 field_kept n (an_inserted name g slot) = inserted_fine slot (form_in g) && kept n g
 
 abbrev pub alternative_kept : (slots : ℕ) → OneAlternative → Bool
 alternative_kept n a = tests_below n a.tests && kept n a.grammar
 
 abbrev pub name_in : OneField → List ℕ
-name_in (a_component name g presence default) = name
+name_in (a_component name g presence default own) = name
 name_in (an_inserted name g slot) = name

@@ -31,7 +31,7 @@ abbrev mutual
 
   pub fields_tally : (steps : ℕ) → Fields → Tally → Option Tally
   fields_tally steps no_fields t = Some t
-  fields_tally steps (component name g presence default fs) t = then_tally (tally steps g t) (fields_tally steps fs)
+  fields_tally steps (component name g presence default own fs) t = then_tally (then_tally (numbered own t) (tally steps g)) (fields_tally steps fs)
   fields_tally steps (inserted name g slot fs) t = then_tally (then_tally (numbered slot t) (tally steps g)) (fields_tally steps fs)
 
   pub alternatives_tally : (steps : ℕ) → Alternatives → Tally → Option Tally
@@ -39,5 +39,5 @@ abbrev mutual
   alternatives_tally steps (alternative name g tests more) t = then_tally (tally steps g t) (alternatives_tally steps more)
 
 abbrev pub field_tally : (steps : ℕ) → OneField → Tally → Option Tally
-field_tally steps (a_component name g presence default) t = tally steps g t
+field_tally steps (a_component name g presence default own) t = then_tally (numbered own t) (tally steps g)
 field_tally steps (an_inserted name g slot) t = then_tally (numbered slot t) (tally steps g)

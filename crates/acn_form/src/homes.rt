@@ -95,12 +95,13 @@ fn tests_name(tests: &[Test], slot: u32) -> bool
     false
 }
 
-fn rule_names(rule: SizeRule, slot: u32) -> bool
-    ensures { result ≡ list_any (λ u. nat_eq slot (slot_of u)) (rule_uses rule) }
+fn rule_names(rule: &SizeRule, slot: u32) -> bool
+    ensures { result ≡ list_any (λ u. nat_eq slot (slot_of u)) (rule_uses rule.now) }
 {
     match rule {
-        SizeRule::Slot(other) => slot == other,
+        SizeRule::Slot(other) => slot == *other,
         SizeRule::Prefix { .. } => false,
+        SizeRule::Ended(_) => false,
     }
 }
 
@@ -118,11 +119,11 @@ fn body_names(body: &Body, slot: u32) -> bool
     ensures { result ≡ spec.form_names slot (form_of body.now) }
 {
     match body {
-        Body::Octets(sizing) => rule_names(sizing.rule, slot),
-        Body::Bits(sizing) => rule_names(sizing.rule, slot),
-        Body::Text(leaf) => rule_names(leaf.sized.rule, slot),
-        Body::List(sizing, _) => rule_names(sizing.rule, slot),
-        Body::Contained(sizing, _) => rule_names(sizing.rule, slot),
+        Body::Octets(sizing) => rule_names(&sizing.rule, slot),
+        Body::Bits(sizing) => rule_names(&sizing.rule, slot),
+        Body::Text(leaf) => rule_names(&leaf.sized.rule, slot),
+        Body::List(sizing, _) => rule_names(&sizing.rule, slot),
+        Body::Contained(sizing, _) => rule_names(&sizing.rule, slot),
         Body::Choice(choice) => choice_names(choice.rule, slot),
         Body::Num(_) | Body::Seq(_) => false,
     }
@@ -148,10 +149,11 @@ fn with_node(
     in_home: bool,
     is_field: bool,
     uses_it: bool,
+    is_right: bool,
     body: &Body,
     inner: &Seen,
 ) -> Seen
-    ensures { result ≡ spec.with_node sought.now.slot sought.now.total in_home is_field uses_it (form_of body.now) inner.now }
+    ensures { result ≡ spec.with_node sought.now.slot sought.now.total in_home is_field uses_it is_right (form_of body.now) inner.now }
 {
     let names = uses_it || body_names(body, sought.slot);
     let counts = is_field || names;
@@ -159,7 +161,7 @@ fn with_node(
         about: inner.about.saturating_add(worth(counts)),
         encloses: inner.encloses || (is_seq(body) && inner.about == sought.total),
         near: inner.near,
-        fine: inner.fine && (!names || in_home),
+        fine: inner.fine && ((!names || in_home) && is_right),
     }
 }
 
@@ -211,13 +213,40 @@ fn inserted_near(sought: &Sought, slot: &Option<u32>, inner: &Seen) -> Seen
     }
 }
 
+// A component that says the slot is right where something else is about it.
+fn own_right(sought: &Sought, own: &Option<u32>) -> bool
+    ensures { result ≡ spec.own_right sought.now.slot sought.now.total own.now }
+{
+    !is_slot(own, sought.slot) || sought.total > 1
+}
+
+fn own_near(sought: &Sought, own: &Option<u32>, inner: &Seen) -> Seen
+    ensures { result ≡ spec.own_near sought.now.slot sought.now.total own.now inner.now }
+{
+    Seen {
+        about: inner.about,
+        encloses: inner.encloses,
+        near: is_slot(own, sought.slot) || inner.near,
+        fine: inner.fine,
+    }
+}
+
 /// What is seen of a slot inside a node, itself included.
 #[cycle(seen)]
-pub fn look(node: &Node, sought: &Sought, in_home: bool, is_field: bool, uses_it: bool) -> Seen
-    ensures { result ≡ spec.seen sought.now.slot sought.now.total in_home is_field uses_it (grammar_of node.now) }
+pub fn look(
+    node: &Node,
+    sought: &Sought,
+    in_home: bool,
+    is_field: bool,
+    uses_it: bool,
+    is_right: bool,
+) -> Seen
+    ensures { result ≡ spec.seen sought.now.slot sought.now.total in_home is_field uses_it is_right (grammar_of node.now) }
 {
     let inner = look_inside(&node.body, sought, in_home);
-    with_node(sought, in_home, is_field, uses_it, &node.body, &inner)
+    with_node(
+        sought, in_home, is_field, uses_it, is_right, &node.body, &inner,
+    )
 }
 
 #[cycle(seen)]
@@ -230,13 +259,13 @@ fn look_inside(body: &Body, sought: &Sought, in_home: bool) -> Seen
             let inner = look_at_fields(seq.fields.items(), sought, here);
             with_home(sought, seq.home.items(), &inner)
         }
-        Body::List(_, inside) => far(&look(inside.get(), sought, in_home, false, false)),
+        Body::List(_, inside) => far(&look(inside.get(), sought, in_home, false, false, true)),
         Body::Choice(choice) => far(&look_at_alternatives(
             choice.alternatives.items(),
             sought,
             in_home,
         )),
-        Body::Contained(_, inside) => far(&look(inside.get(), sought, in_home, false, false)),
+        Body::Contained(_, inside) => far(&look(inside.get(), sought, in_home, false, false, true)),
         Body::Num(_) | Body::Octets(_) | Body::Bits(_) | Body::Text(_) => nothing(),
     }
 }
@@ -246,13 +275,21 @@ fn look_at_field(field: &Field, sought: &Sought, in_home: bool) -> Seen
     ensures { result ≡ spec.field_seen sought.now.slot sought.now.total in_home (field_of field.now) }
 {
     match field {
-        Field::Component { node, presence, .. } => {
+        Field::Component {
+            node,
+            presence,
+            slot,
+            ..
+        } => {
+            let found = is_slot(slot, sought.slot);
             let named = tests_name(conditions(presence), sought.slot);
-            through(presence, &look(node, sought, in_home, false, named))
+            let right = own_right(sought, slot);
+            let inner = look(node, sought, in_home, found, named, right);
+            own_near(sought, slot, &through(presence, &inner))
         }
         Field::Inserted { node, slot, .. } => {
             let found = is_slot(slot, sought.slot);
-            inserted_near(sought, slot, &look(node, sought, in_home, found, false))
+            inserted_near(sought, slot, &look(node, sought, in_home, found, false, true))
         }
     }
 }
@@ -273,7 +310,7 @@ fn look_at_alternative(alternative: &Alternative, sought: &Sought, in_home: bool
     ensures { result ≡ spec.alternative_seen sought.now.slot sought.now.total in_home (alternative_of alternative.now) }
 {
     let named = tests_name(alternative.tests.items(), sought.slot);
-    look(&alternative.node, sought, in_home, false, named)
+    look(&alternative.node, sought, in_home, false, named, true)
 }
 
 #[cycle(seen)]

@@ -9,7 +9,7 @@ ghost use Rattle.acn_grammar.specs.View.{grammar_of, form_of, field_of, alternat
 ghost use Rattle.acn_grammar.specs.Walk.{presence_tests, slot_of, rule_uses, choice_uses};
 
 use acn_grammar::{Alternative, Body, ChoiceRule, Field, Node, NumKind, Presence, SizeRule, Test};
-use acn_leaf::{is_least, num_fine, same_text, sizing_fine, text_fine};
+use acn_leaf::{is_least, num_fine, same_text, list_fine, sizing_fine, text_fine};
 
 fn is_align(align: u32) -> bool
     ensures { result ≡ tree.is_align align }
@@ -124,7 +124,7 @@ fn body_fine(body: &Body) -> bool
         Body::Bits(sizing) => sizing_fine(sizing),
         Body::Text(leaf) => text_fine(leaf),
         Body::Seq(seq) => field_names_differ(seq.fields.items()),
-        Body::List(sizing, _) => sizing_fine(sizing),
+        Body::List(sizing, _) => list_fine(sizing),
         Body::Choice(choice) => choice_fine(choice.alternatives.items(), choice.rule),
         Body::Contained(sizing, _) => sizing_fine(sizing),
     }
@@ -160,6 +160,20 @@ fn inserted_fine(slot: &Option<u32>, body: &Body) -> bool
     }
 }
 
+// Whether a component with a slot is always there, and is a number that isn't NULL.
+fn own_fine(slot: &Option<u32>, presence: &Presence, body: &Body) -> bool
+    ensures { result ≡ tree.own_fine slot.now presence.now (form_of body.now) }
+{
+    match slot {
+        None => true,
+        Some(_) => match presence {
+            Presence::Always => inserted_fine(slot, body),
+            Presence::Bit => false,
+            Presence::When(_) => false,
+        },
+    }
+}
+
 fn test_slot(test: &Test) -> u32
     ensures { result ≡ test_slot_of test.now }
 {
@@ -190,12 +204,13 @@ pub fn conditions(presence: &Presence) -> &[Test]
     }
 }
 
-fn rule_below(rule: SizeRule, slots: u64) -> bool
-    ensures { result ≡ list_all (λ u. nat_lt (slot_of u) slots) (rule_uses rule) }
+fn rule_below(rule: &SizeRule, slots: u64) -> bool
+    ensures { result ≡ list_all (λ u. nat_lt (slot_of u) slots) (rule_uses rule.now) }
 {
     match rule {
-        SizeRule::Slot(slot) => (slot as u64) < slots,
+        SizeRule::Slot(slot) => (*slot as u64) < slots,
         SizeRule::Prefix { .. } => true,
+        SizeRule::Ended(_) => true,
     }
 }
 
@@ -213,11 +228,11 @@ fn uses_below(body: &Body, slots: u64) -> bool
     ensures { result ≡ kept.uses_below slots (form_of body.now) }
 {
     match body {
-        Body::Octets(sizing) => rule_below(sizing.rule, slots),
-        Body::Bits(sizing) => rule_below(sizing.rule, slots),
-        Body::Text(leaf) => rule_below(leaf.sized.rule, slots),
-        Body::List(sizing, _) => rule_below(sizing.rule, slots),
-        Body::Contained(sizing, _) => rule_below(sizing.rule, slots),
+        Body::Octets(sizing) => rule_below(&sizing.rule, slots),
+        Body::Bits(sizing) => rule_below(&sizing.rule, slots),
+        Body::Text(leaf) => rule_below(&leaf.sized.rule, slots),
+        Body::List(sizing, _) => rule_below(&sizing.rule, slots),
+        Body::Contained(sizing, _) => rule_below(&sizing.rule, slots),
         Body::Choice(choice) => choice_below(choice.rule, slots),
         Body::Num(_) | Body::Seq(_) => true,
     }
@@ -281,8 +296,14 @@ fn field_kept(field: &Field, slots: u64) -> bool
     ensures { result ≡ kept.field_kept slots (field_of field.now) }
 {
     match field {
-        Field::Component { node, presence, .. } => {
+        Field::Component {
+            node,
+            presence,
+            slot,
+            ..
+        } => {
             presence_fine(presence)
+                && own_fine(slot, presence, &node.body)
                 && tests_below(conditions(presence), slots)
                 && node_kept(node, slots)
         }

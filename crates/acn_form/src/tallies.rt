@@ -77,7 +77,10 @@ fn count_field(field: &Field, steps: u32, before: Tally) -> Option<Tally>
     ensures { result ≡ tallies.field_tally steps (field_of field.now) before }
 {
     match field {
-        Field::Component { node, .. } => count_node(node, steps, before),
+        Field::Component { node, slot, .. } => match numbered(slot, before) {
+            None => None,
+            Some(now) => count_node(node, steps, now),
+        },
         Field::Inserted { node, slot, .. } => match numbered(slot, before) {
             None => None,
             Some(now) => count_node(node, steps, now),

@@ -10,7 +10,7 @@
 //! 3. Two walks a slot. The first counts the nodes that are the slot's field or use it. The second compares with that
 //!    count what each SEQUENCE has inside it: the slot is at home where all of them are inside and no SEQUENCE further
 //!    inside has them all. It tests that each home holds the slot exactly there, that nothing that may be absent stands
-//!    between the home and the field, and that every use stands inside the home.
+//!    between the home and the field, that every use stands inside the home, and that a component that says the slot has a use.
 //!
 //! The definition asks of each node about each slot, step 3 of each slot about each node: both ask all pairs. The counts of
 //! step 3 end at the greatest number of 32 bits, which step 1 keeps out of reach. The time grows as slots times nodes.
@@ -33,12 +33,12 @@ const MOST_NODES: u32 = 65536;
 fn slot_kept(root: &Node, slot: u32) -> bool
     ensures { result ≡ slot_is_kept (grammar_of root.now) slot }
 {
-    let all = look(root, &Sought { slot, total: 0 }, false, false, false);
+    let all = look(root, &Sought { slot, total: 0 }, false, false, false, true);
     let sought = Sought {
         slot,
         total: all.about,
     };
-    let seen = look(root, &sought, false, false, false);
+    let seen = look(root, &sought, false, false, false, true);
     seen.fine
 }
 

@@ -39,7 +39,7 @@ span_held (node align form) = (omega arith, omega arith)
 
 pub fields_held : (fs : Fields) → IsHeld (fields_span fs)
 fields_held no_fields = (omega arith, omega arith)
-fields_held (component name g presence default fs) = (omega arith, omega arith)
+fields_held (component name g presence default own fs) = (omega arith, omega arith)
 fields_held (inserted name g slot fs) = (omega arith, omega arith)
 
 pub alternatives_held : (as' : Alternatives) → IsHeld (alternatives_span as')
@@ -50,7 +50,7 @@ alternatives_held (alternative name g tests more) =
     (omega arith, omega arith)
 
 fields_span-with_field : (f : OneField) (fs : Fields) → fields_span (with_field f fs) ≡ plus (field_span f) (fields_span fs)
-fields_span-with_field (a_component name g presence default) fs = refl
+fields_span-with_field (a_component name g presence default own) fs = refl
 fields_span-with_field (an_inserted name g slot) fs = refl
 
 -- one field further

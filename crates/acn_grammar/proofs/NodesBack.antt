@@ -30,7 +30,7 @@ abbrev mutual
 
   fields_list : Fields → List Field
   fields_list no_fields = []
-  fields_list (component name g presence default fs) = roll-Field (Field-F.Component name (node_of g) presence default) ∷ fields_list fs
+  fields_list (component name g presence default own fs) = roll-Field (Field-F.Component name (node_of g) presence default own) ∷ fields_list fs
   fields_list (inserted name g slot fs) = roll-Field (Field-F.Inserted name (node_of g) slot) ∷ fields_list fs
 
   alternatives_list : Alternatives → List Alternative
@@ -38,7 +38,7 @@ abbrev mutual
   alternatives_list (alternative name g tests more) = roll-Alternative (record { name = name; node = node_of g; tests = tests }) ∷ alternatives_list more
 
 abbrev field_from : OneField → Field
-field_from (a_component name g presence default) = roll-Field (Field-F.Component name (node_of g) presence default)
+field_from (a_component name g presence default own) = roll-Field (Field-F.Component name (node_of g) presence default own)
 field_from (an_inserted name g slot) = roll-Field (Field-F.Inserted name (node_of g) slot)
 
 abbrev alternative_from : OneAlternative → Alternative
@@ -80,7 +80,7 @@ abbrev HeldNode : Type 0
 HeldNode = (n : Node) × NodeBack n
 
 with_field-back : (f : OneField) (fs : Fields) → fields_list (with_field f fs) ≡ field_from f ∷ fields_list fs
-with_field-back (a_component name g presence default) fs = refl
+with_field-back (a_component name g presence default own) fs = refl
 with_field-back (an_inserted name g slot) fs = refl
 
 fields_back : (ys : List HeldField) → fields_list (fields_view (map (λ e. e.0) ys)) ≡ map (λ e. e.0) ys
@@ -105,8 +105,8 @@ node_is align b = search (rules, the_lemmas)
 alternative_is : (name : List ℕ) (n : Node) (tests : List Test) → alternative_of (roll-Alternative (record { name = name; node = n; tests = tests })) ≡ record { name = name; grammar = grammar_of n; tests = tests }
 alternative_is name n tests = search (rules, the_lemmas)
 
-component_is : (name : List ℕ) (n : Node) (presence : Presence) (default : Option (List ℕ)) → field_of (roll-Field (Field-F.Component name n presence default)) ≡ a_component name (grammar_of n) presence default
-component_is name n presence default = search (rules, the_lemmas)
+component_is : (name : List ℕ) (n : Node) (presence : Presence) (default : Option (List ℕ)) (own : Option ℕ) → field_of (roll-Field (Field-F.Component name n presence default own)) ≡ a_component name (grammar_of n) presence default own
+component_is name n presence default own = search (rules, the_lemmas)
 
 inserted_is : (name : List ℕ) (n : Node) (slot : Option ℕ) → field_of (roll-Field (Field-F.Inserted name n slot)) ≡ an_inserted name (grammar_of n) slot
 inserted_is name n slot = search (rules, the_lemmas)
@@ -143,7 +143,7 @@ body_layer (Body-F.Choice e) = ap body_of (body_choice e.0) ∙ e.1
 body_layer (Body-F.Contained s e) = ap body_of (body_contained s e.0) ∙ ap (λ n. roll-Body (Body-F.Contained s n)) e.1
 
 field_layer : (y : Field-F HeldBody HeldField HeldAlternative HeldChoice HeldNode HeldSeq) → FieldBack (roll-Field (map-Field HeldBody HeldField HeldAlternative HeldChoice HeldNode HeldSeq Body Field Alternative Choice Node Seq (λ e. e.0) (λ e. e.0) (λ e. e.0) (λ e. e.0) (λ e. e.0) (λ e. e.0) y))
-field_layer (Field-F.Component name e presence default) = ap field_from (component_is name e.0 presence default) ∙ ap (λ n. roll-Field (Field-F.Component name n presence default)) e.1
+field_layer (Field-F.Component name e presence default own) = ap field_from (component_is name e.0 presence default own) ∙ ap (λ n. roll-Field (Field-F.Component name n presence default own)) e.1
 field_layer (Field-F.Inserted name e slot) = ap field_from (inserted_is name e.0 slot) ∙ ap (λ n. roll-Field (Field-F.Inserted name n slot)) e.1
 
 pub back : (n : Node) → NodeBack n

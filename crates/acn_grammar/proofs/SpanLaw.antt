@@ -9,10 +9,10 @@ use Rattle.acn_grammar.specs.Grammar.{Grammar, Form, Fields, Alternatives, Data,
 use Rattle.acn_grammar.specs.Code.{Mode, Code}
 use Rattle.acn_grammar.specs.Env.{Env, MayBeAway}
 use Rattle.acn_grammar.specs.Images.{images_of}
-use Rattle.acn_grammar.specs.Interval.{held, exactly, hold, plus, times, hull, in_octets, size_of, sizes_of, fixed_width, span_by, num_span, from_one_octet, code_lengths, end_width, component_span, span, form_span, fields_span, alternatives_span}
-use Rattle.acn_grammar.specs.Leaves.{num_fine, text_fine, sizing_fine, sizes_fine, rule_fine, end_fine, no_size, is_terminator}
-use Rattle.acn_grammar.specs.Length.{coding_length, rule_width, index_width, presence_bits, bit_before}
-use Rattle.acn_grammar.specs.Spell.{Part, ◌then◌, Padding, Spell, FormPart, FieldsPart, SlotField, RunPart, RulePart, CharactersPart, EndedPart, Window, Fill, IndexPart, AlternativePart}
+use Rattle.acn_grammar.specs.Interval.{held, exactly, hold, plus, times, hull, in_octets, size_of, sizes_of, fixed_width, span_by, num_span, from_one_octet, code_lengths, end_width, list_around, component_span, span, form_span, fields_span, alternatives_span}
+use Rattle.acn_grammar.specs.Leaves.{num_fine, text_fine, sizing_fine, list_fine, list_rule_fine, sizes_fine, rule_fine, end_fine, no_size, is_terminator}
+use Rattle.acn_grammar.specs.Length.{coding_length, rule_width, ending, index_width, presence_bits, bit_before}
+use Rattle.acn_grammar.specs.Spell.{Part, ◌then◌, Padding, Spell, FormPart, FieldsPart, SlotField, RunPart, RulePart, ListPart, CharactersPart, EndedPart, Window, Fill, IndexPart, AlternativePart}
 use Rattle.acn_grammar.specs.declared.bounds.Bounds.{Bounds}
 use Rattle.acn_grammar.specs.declared.node.NumCoding.{NumCoding}
 use Rattle.acn_grammar.specs.declared.node.NumCoding.TheVariants.{Range, CountedFrom, CountedSigned, PosInt, Twos, Bcd, BcdEnded, Ascii, AsciiEnded, Flag, Fixed}
@@ -22,8 +22,9 @@ use Rattle.acn_grammar.specs.declared.node.Presence.{Presence}
 use Rattle.acn_grammar.specs.declared.node.Presence.TheVariants.{Always, Bit, When}
 use Rattle.acn_grammar.specs.declared.node.ChoiceRule.{ChoiceRule}
 use Rattle.acn_grammar.specs.declared.node.ChoiceRule.TheVariants.{Index, Tests, Item}
+use Rattle.acn_grammar.specs.declared.node.Sizing.{Sizing}
 use Rattle.acn_grammar.specs.declared.node.SizeRule.{SizeRule}
-use Rattle.acn_grammar.specs.declared.node.SizeRule.TheVariants.{Prefix, Slot}
+use Rattle.acn_grammar.specs.declared.node.SizeRule.TheVariants.{Prefix, Slot, Ended}
 use Rattle.acn_grammar.proofs.Codings.{both_are, equal_numbers}
 use Rattle.acn_grammar.proofs.LeafLengths.{limits_of, coding-length}
 use Rattle.acn_grammar.proofs.FineLeaves.{rules_of}
@@ -225,13 +226,13 @@ abbrev mutual
   FormFine (bits sizing) = IsTrue (sizing_fine sizing)
   FormFine (text leaf) = IsTrue (text_fine leaf)
   FormFine (seq fields home) = FieldsFine fields
-  FormFine (list sizing g) = IsTrue (sizing_fine sizing) × Fine g
+  FormFine (list sizing g) = IsTrue (list_fine sizing) × Fine g
   FormFine (choice cases rule) = AlternativesFine cases
   FormFine (contained sizing g) = IsTrue (sizing_fine sizing) × Fine g
 
   pub FieldsFine : Fields → Type 0
   FieldsFine no_fields = Unit {0}
-  FieldsFine (component name g presence default fs) = Fine g × FieldsFine fs
+  FieldsFine (component name g presence default own fs) = Fine g × FieldsFine fs
   FieldsFine (inserted name g slot fs) = Fine g × FieldsFine fs
 
   pub AlternativesFine : Alternatives → Type 0
@@ -247,6 +248,7 @@ padding_between mode align at bs p = let few = p.fewest in record { low = omega 
 rule_between : (rule : SizeRule) (env : Env) (n at : ℕ) (bs : List Bool) → RulePart rule env n at bs → Between (exactly (rule_width rule)) (length bs)
 rule_between (Prefix low width) env n at bs p = rw p.spelled.width (exactly_between width)
 rule_between (Slot s) env n at bs p = rw p.1 (exactly_between 0)
+rule_between (Ended q) env n at bs p = absurd p.0
 
 sized : (sizes : List (ℤ × ℤ)) (rule : SizeRule) → (sizes_fine sizes && rule_fine sizes rule) ≡ true → sizes_fine sizes ≡ true
 sized sizes rule h = (both_are (sizes_fine sizes) (rule_fine sizes rule) h).0
@@ -276,6 +278,7 @@ text_between (Some end) leaf env cs at bs h f t =
         let z = equal_numbers width 0 (both_are (nat_eq low 0) (nat_eq width 0) h).1 in
         omega arith
     no_width (Slot s) h = cc
+    no_width (Ended p) h = cc
 
 run_least : (e : Bounds) (each : Data → Part) → ((d : Data) (at : ℕ) (bs : List Bool) → each d at bs → Between e (length bs)) → (es : Elements) (at : ℕ) (bs : List Bool) → RunPart each es at bs → element_count es * e.least ≤ length bs
 run_least e each h no_elements at bs t = omega arith
@@ -290,6 +293,24 @@ run_greatest e each h (element d es) at bs t s =
 run_none : (each : Data → Part) (es : Elements) (at : ℕ) (bs : List Bool) → RunPart each es at bs → element_count es ≡ 0 → length bs ≡ 0
 run_none each no_elements at bs t z = ap length t
 run_none each (element d es) at bs t z = absurd (omega arith)
+
+list_between : (end : Option (List Bool)) (sizing : Sizing) (env : Env) (e : Bounds) (each : Data → Part) → sizes_fine sizing.sizes ≡ true → ((d : Data) (at : ℕ) (bs : List Bool) → each d at bs → Between e (length bs))
+    → (es : Elements) (at : ℕ) (bs : List Bool) → ListPart end sizing env each es at bs → Between (plus (exactly (list_around end sizing)) (times (sizes_of sizing.sizes) e)) (length bs)
+list_between None sizing env e each f h es at bs t =
+    joined t (exactly (rule_width sizing.rule)) (times (sizes_of sizing.sizes) e) (rule_between sizing.rule env (element_count es) at t.front t.first.spelled)
+    (times_between (sizes_of sizing.sizes) e (element_count es) (length t.back) (size_has sizing.sizes (element_count es) f t.first.given)
+    (run_least e each h es (at + length t.front) t.back t.second)
+    (run_greatest e each h es (at + length t.front) t.back t.second)
+    (run_none each es (at + length t.front) t.back t.second))
+list_between (Some p) sizing env e each f h es at bs t =
+    let first = times_between (sizes_of sizing.sizes) e (element_count es) (length t.spelled.front) (size_has sizing.sizes (element_count es) f t.given)
+          (run_least e each h es at t.spelled.front t.spelled.first)
+          (run_greatest e each h es at t.spelled.front t.spelled.first)
+          (run_none each es at t.spelled.front t.spelled.first) in
+    let last : Between (exactly (length p)) (length t.spelled.back) = rw t.spelled.second (exactly_between (length p)) in
+    let whole = then-length t.spelled in
+    let swap : length bs ≡ length t.spelled.back + length t.spelled.front = omega arith in
+    rw swap (plus_between (exactly (length p)) (times (sizes_of sizing.sizes) e) (length t.spelled.back) (length t.spelled.front) last first)
 
 window_between : (b : Bounds) (content fill : Part) (mode : Mode) (n at : ℕ) (bs : List Bool) → ((cs : List Bool) → content 0 cs → Between b (length cs)) → Window content (Fill mode) n at bs → Between (in_octets b) (length bs)
 window_between b content fill mode n at bs h t =
@@ -352,11 +373,7 @@ module _ (root : Grammar) (mode : Mode) where
         let is : length bs ≡ length (presence_bits fields ps) + length t.spelled.back = omega arith in
         rw is inside
     form_between (list sizing g) f env (list_of es) at bs t =
-        joined t (exactly (rule_width sizing.rule)) (times (sizes_of sizing.sizes) (span g)) (rule_between sizing.rule env (element_count es) at t.front t.first.spelled)
-        (times_between (sizes_of sizing.sizes) (span g) (element_count es) (length t.back) (size_has sizing.sizes (element_count es) (sized sizing.sizes sizing.rule f.0) t.first.given)
-        (run_least (span g) (Spell root mode g env) (span_between g f.1 env) es (at + length t.front) t.back t.second)
-        (run_greatest (span g) (Spell root mode g env) (span_between g f.1 env) es (at + length t.front) t.back t.second)
-        (run_none (Spell root mode g env) es (at + length t.front) t.back t.second))
+        list_between (ending sizing.rule) sizing env (span g) (Spell root mode g env) (both_are (sizes_fine sizing.sizes) (list_rule_fine (ending sizing.rule) sizing) f.0).0 (span_between g f.1 env) es at bs t
     form_between (choice cases rule) f env (alt i d) at bs t =
         joined t (exactly (index_width rule)) (alternatives_span cases) (index_between root rule i at t.front t.first) (alternative_between cases f rule env i d (at + length t.front) t.back t.second)
     form_between (contained sizing g) f env d at bs t =
@@ -367,14 +384,14 @@ module _ (root : Grammar) (mode : Mode) where
     -- the fields with their presence bits
     fields_between : (fs : Fields) → FieldsFine fs → (env : Env) (ps : Places) (at : ℕ) (bs : List Bool) → FieldsPart root mode fs env ps at bs → Between (fields_span fs) (length (presence_bits fs ps) + length bs)
     fields_between no_fields f env no_places at bs t = rw t (exactly_between 0)
-    fields_between (component name g presence default fs) f env (filled d ps) at bs t =
+    fields_between (component name g presence default own fs) f env (filled d ps) at bs t =
         let here = there_between presence (span g) (length t.front) (span_between g f.0 env d at t.front t.first.spelled) in
         let rest = fields_between fs f.1 env ps (at + length t.front) t.back t.second in
         let whole = then-length t in
         let flags = bit_before-length presence true (presence_bits fs ps) in
         let is : length (bit_before presence true (presence_bits fs ps)) + length bs ≡ (length (bit_before presence true []) + length t.front) + (length (presence_bits fs ps) + length t.back) = omega arith in
         rw is (plus_between (component_span presence (span g)) (fields_span fs) (length (bit_before presence true []) + length t.front) (length (presence_bits fs ps) + length t.back) here rest)
-    fields_between (component name g presence default fs) f env (empty ps) at bs t =
+    fields_between (component name g presence default own fs) f env (empty ps) at bs t =
         let here = away_between env presence (span g) t.given in
         let rest = fields_between fs f.1 env ps at bs t.spelled in
         let flags = bit_before-length presence false (presence_bits fs ps) in

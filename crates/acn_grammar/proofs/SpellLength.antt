@@ -7,17 +7,18 @@ use Rattle.acn_num.specs.Ranges.{In}
 use Rattle.acn_grammar.specs.Grammar.{Grammar, Form, Fields, Alternatives, Data, Places, Elements, node, num, octets, bits, text, seq, list, choice, contained, no_fields, component, inserted, no_alternatives, alternative, int, boolean, item, null, octet_string, bit_string, characters, record_of, list_of, alt, no_places, empty, filled, no_elements, element, element_count}
 use Rattle.acn_grammar.specs.Code.{Mode, Code, NumberOf}
 use Rattle.acn_grammar.specs.Env.{Env}
-use Rattle.acn_grammar.specs.Length.{padding, bit_length, form_length, fields_length, num_length, number_of, presence_bits, rule_width, inserted_length, run_length, alternative_length, least, text_length, index_width}
+use Rattle.acn_grammar.specs.Length.{padding, bit_length, form_length, fields_length, num_length, number_of, presence_bits, rule_width, inserted_length, run_length, list_length, ending, alternative_length, least, text_length, index_width}
 use Rattle.acn_grammar.specs.Leaves.{num_fine}
-use Rattle.acn_grammar.specs.Spell.{Part, ◌then◌, Padding, Spell, FormPart, FieldsPart, SlotField, RunPart, RulePart, CharactersPart, EndedPart, Window, Fill, IndexPart, AlternativePart}
+use Rattle.acn_grammar.specs.Spell.{Part, ◌then◌, Padding, Spell, FormPart, FieldsPart, SlotField, RunPart, RulePart, SizePart, ListPart, CharactersPart, EndedPart, Window, Fill, IndexPart, AlternativePart}
 use Rattle.acn_grammar.specs.declared.node.NumKind.{NumKind}
 use Rattle.acn_grammar.specs.declared.node.NumKind.TheVariants.{Integer, Boolean, Enumerated, Null}
 use Rattle.acn_grammar.specs.declared.node.NumLeaf.{NumLeaf}
 use Rattle.acn_grammar.specs.declared.node.TextLeaf.{TextLeaf}
 use Rattle.acn_grammar.specs.declared.node.ChoiceRule.{ChoiceRule}
 use Rattle.acn_grammar.specs.declared.node.ChoiceRule.TheVariants.{Index, Tests, Item}
+use Rattle.acn_grammar.specs.declared.node.Sizing.{Sizing}
 use Rattle.acn_grammar.specs.declared.node.SizeRule.{SizeRule}
-use Rattle.acn_grammar.specs.declared.node.SizeRule.TheVariants.{Prefix, Slot}
+use Rattle.acn_grammar.specs.declared.node.SizeRule.TheVariants.{Prefix, Slot, Ended}
 
 pub then-length : {P Q : Part} {at : ℕ} {bs : List Bool} (t : (P then Q) at bs) → length bs ≡ length t.front + length t.back
 then-length t = rw t.whole (length-append t.front t.back)
@@ -83,7 +84,7 @@ abbrev mutual
 
   pub SteadyFields : Fields → Type 0
   SteadyFields no_fields = Unit {0}
-  SteadyFields (component name g presence default fs) = Steady g × SteadyFields fs
+  SteadyFields (component name g presence default own fs) = Steady g × SteadyFields fs
   SteadyFields (inserted name g (Some s) fs) = SteadyLeaf g × SteadyFields fs
   SteadyFields (inserted name g None fs) = SteadyLeaf g × SteadyFields fs
 
@@ -99,12 +100,20 @@ module _ (root : Grammar) (mode : Mode) (code-length : (leaf : NumLeaf) → IsTr
   pub rule-length : (rule : SizeRule) (env : Env) (n at : ℕ) (bs : List Bool) → RulePart rule env n at bs → length bs ≡ rule_width rule
   rule-length (Prefix low width) env n at bs p = p.spelled.width
   rule-length (Slot s) env n at bs p = ap length p.1
+  rule-length (Ended q) env n at bs p = absurd p.0
 
   run-length : (each : Data → Part) (f : ℕ → Data → ℕ) → ((d : Data) (at : ℕ) (bs : List Bool) → each d at bs → length bs ≡ f at d)
       → (es : Elements) (at : ℕ) (bs : List Bool) → RunPart each es at bs → length bs ≡ run_length f at es
   run-length each f h no_elements at bs e = ap length e
   run-length each f h (element d es) at bs t =
       then_sums t (f at d) (λ n. run_length f n es) (h d at t.front t.first) (run-length each f h es (at + length t.front) t.back t.second)
+
+  list-length : (end : Option (List Bool)) (sizing : Sizing) (env : Env) (each : Data → Part) (f : ℕ → Data → ℕ) → ((d : Data) (at : ℕ) (bs : List Bool) → each d at bs → length bs ≡ f at d)
+      → (es : Elements) (at : ℕ) (bs : List Bool) → ListPart end sizing env each es at bs → length bs ≡ list_length end sizing.rule f at es
+  list-length None sizing env each f h es at bs t =
+      then_sums t (rule_width sizing.rule) (λ n. run_length f n es) (rule-length sizing.rule env (element_count es) at t.front t.first.spelled) (run-length each f h es (at + length t.front) t.back t.second)
+  list-length (Some p) sizing env each f h es at bs t =
+      then_sums t.spelled (run_length f at es) (λ n. length p) (run-length each f h es at t.spelled.front t.spelled.first) (ap length t.spelled.second)
 
   characters-length : (leaf : TextLeaf) (cs : List ℕ) (at : ℕ) (bs : List Bool) → CharactersPart leaf cs at bs → length bs ≡ leaf.width * length cs
   characters-length leaf [] at bs e = ap length e ∙ omega arith
@@ -155,7 +164,7 @@ module _ (root : Grammar) (mode : Mode) (code-length : (leaf : NumLeaf) → IsTr
     form-length (seq fields home) w env (record_of ps) at bs t =
         then_sums t.spelled (length (presence_bits fields ps)) (λ n. fields_length fields n ps) (ap length t.spelled.first) (fields-length fields w _ ps (at + length t.spelled.front) t.spelled.back t.spelled.second)
     form-length (list sizing g) w env (list_of es) at bs t =
-        then_sums t (rule_width sizing.rule) (λ n. run_length (bit_length g) n es) (rule-length sizing.rule env (element_count es) at t.front t.first.spelled) (run-length (Spell root mode g env) (bit_length g) (spell-length g w env) es (at + length t.front) t.back t.second)
+        list-length (ending sizing.rule) sizing env (Spell root mode g env) (bit_length g) (spell-length g w env) es at bs t
     form-length (choice alternatives rule) w env (alt i d) at bs t =
         then_sums t (index_width rule) (λ n. alternative_length alternatives i n d) (index-length rule i at t.front t.first) (alternative-length alternatives w rule env i d (at + length t.front) t.back t.second)
     form-length (contained sizing g) w env d at bs t =
@@ -164,9 +173,9 @@ module _ (root : Grammar) (mode : Mode) (code-length : (leaf : NumLeaf) → IsTr
 
     fields-length : (fs : Fields) → SteadyFields fs → (env : Env) (ps : Places) (at : ℕ) (bs : List Bool) → FieldsPart root mode fs env ps at bs → length bs ≡ fields_length fs at ps
     fields-length no_fields w env no_places at bs e = ap length e
-    fields-length (component name g presence default fs) w env (filled d ps) at bs t =
+    fields-length (component name g presence default own fs) w env (filled d ps) at bs t =
         then_sums t (bit_length g at d) (λ n. fields_length fs n ps) (spell-length g w.0 env d at t.front t.first.spelled) (fields-length fs w.1 env ps (at + length t.front) t.back t.second)
-    fields-length (component name g presence default fs) w env (empty ps) at bs t = fields-length fs w.1 env ps at bs t.spelled
+    fields-length (component name g presence default own fs) w env (empty ps) at bs t = fields-length fs w.1 env ps at bs t.spelled
     fields-length (inserted name g (Some s) fs) w env ps at bs t =
         then_sums t (inserted_length g at) (λ n. fields_length fs n ps) (slot-length g w.0 env s at t.front t.first) (fields-length fs w.1 env ps (at + length t.front) t.back t.second)
     fields-length (inserted name g None fs) w env ps at bs t =

@@ -2,7 +2,7 @@
 use Rattle.std.proofs.Common.{◌≡◌, ℕ, zero, suc, ◌<◌, Bool, true, List, [], ◌∷◌, ◌++◌, length, refl, arith, nat_le, ◌&&◌}
 use Rattle.std.specs.List.{list_all, range_with_len}
 use Rattle.acn_grammar.specs.Grammar.{Grammar, Form, Fields, Alternatives, node, num, octets, bits, text, seq, list, choice, contained, no_fields, component, inserted, no_alternatives, alternative}
-use Rattle.acn_grammar.specs.Tree.{IsTree, is_align, form_fine, role_fine, names_open, home_fine, stand_rules, all_true, same_numbers, slots_of}
+use Rattle.acn_grammar.specs.Tree.{IsTree, is_align, form_fine, role_fine, own_used, names_open, home_fine, stand_rules, all_true, same_numbers, slots_of}
 use Rattle.acn_grammar.specs.Walk.{Stand, Role, a_component, an_inserted, an_alternative, an_element, a_content, root_node, nodes, form_nodes, field_nodes, alternative_nodes, nodes_of}
 use Rattle.acn_grammar.proofs.Codings.{both_are}
 use Rattle.acn_grammar.proofs.SpanLaw.{Fine, FormFine, FieldsFine, AlternativesFine}
@@ -13,23 +13,25 @@ pub record StandFine (all : List Stand) (at : Stand) : Type 0 where
   pub align : is_align at.align ≡ true
   pub form : form_fine at.form ≡ true
   pub role : role_fine at.role at.form ≡ true
+  pub own : own_used all at.role ≡ true
   pub uses : names_open at ≡ true
   pub home : home_fine all at at.form ≡ true
 
-six : (a b c d e f : Bool) → list_all (λ x. x) (a ∷ b ∷ c ∷ d ∷ e ∷ f ∷ []) ≡ true → (a ≡ true) × (b ≡ true) × (c ≡ true) × (d ≡ true) × (e ≡ true) × (f ≡ true)
-six a b c d e f h =
-    let p = both_are a (list_all (λ x. x) (b ∷ c ∷ d ∷ e ∷ f ∷ [])) h in
-    let q = both_are b (list_all (λ x. x) (c ∷ d ∷ e ∷ f ∷ [])) p.1 in
-    let r = both_are c (list_all (λ x. x) (d ∷ e ∷ f ∷ [])) q.1 in
-    let s = both_are d (list_all (λ x. x) (e ∷ f ∷ [])) r.1 in
-    let t = both_are e (list_all (λ x. x) (f ∷ [])) s.1 in
-    let u = both_are f (list_all (λ x. x) []) t.1 in
-    (p.0, q.0, r.0, s.0, t.0, u.0)
+seven : (a b c d e f g : Bool) → list_all (λ x. x) (a ∷ b ∷ c ∷ d ∷ e ∷ f ∷ g ∷ []) ≡ true → (a ≡ true) × (b ≡ true) × (c ≡ true) × (d ≡ true) × (e ≡ true) × (f ≡ true) × (g ≡ true)
+seven a b c d e f g h =
+    let p = both_are a (list_all (λ x. x) (b ∷ c ∷ d ∷ e ∷ f ∷ g ∷ [])) h in
+    let q = both_are b (list_all (λ x. x) (c ∷ d ∷ e ∷ f ∷ g ∷ [])) p.1 in
+    let r = both_are c (list_all (λ x. x) (d ∷ e ∷ f ∷ g ∷ [])) q.1 in
+    let s = both_are d (list_all (λ x. x) (e ∷ f ∷ g ∷ [])) r.1 in
+    let t = both_are e (list_all (λ x. x) (f ∷ g ∷ [])) s.1 in
+    let u = both_are f (list_all (λ x. x) (g ∷ [])) t.1 in
+    let v = both_are g (list_all (λ x. x) []) u.1 in
+    (p.0, q.0, r.0, s.0, t.0, u.0, v.0)
 
 pub stand_fine : (all : List Stand) (at : Stand) → all_true (stand_rules all at) ≡ true → StandFine all at
 stand_fine all at h =
-    let r = six (nat_le (length at.path) 64) (is_align at.align) (form_fine at.form) (role_fine at.role at.form) (names_open at) (home_fine all at at.form) h in
-    record { depth = r.0; align = r.1; form = r.2; role = r.3; uses = r.4; home = r.5 }
+    let r = seven (nat_le (length at.path) 64) (is_align at.align) (form_fine at.form) (role_fine at.role at.form) (own_used all at.role) (names_open at) (home_fine all at at.form) h in
+    record { depth = r.0; align = r.1; form = r.2; role = r.3; own = r.4; uses = r.5; home = r.6 }
 
 pub list_all-append : {A : Type 0} (p : A → Bool) (xs ys : List A) → list_all p (xs ++ ys) ≡ true → (list_all p xs ≡ true) × (list_all p ys ≡ true)
 list_all-append p [] ys h = (refl, h)
@@ -66,9 +68,9 @@ module _ (all : List Stand) where
 
     fine_fields : (fs : Fields) (path around : List ℕ) (k : ℕ) → list_all passes (field_nodes path around k fs) ≡ true → FieldsFine fs
     fine_fields no_fields path around k h = tt
-    fine_fields (component name g presence default fs) path around k h =
-        let p = list_all-append passes (nodes (a_component name presence) (path ++ k ∷ []) around g) (field_nodes path around (suc k) fs) h in
-        (fine_node g (a_component name presence) (path ++ k ∷ []) around p.0, fine_fields fs path around (suc k) p.1)
+    fine_fields (component name g presence default own fs) path around k h =
+        let p = list_all-append passes (nodes (a_component name presence own) (path ++ k ∷ []) around g) (field_nodes path around (suc k) fs) h in
+        (fine_node g (a_component name presence own) (path ++ k ∷ []) around p.0, fine_fields fs path around (suc k) p.1)
     fine_fields (inserted name g slot fs) path around k h =
         let p = list_all-append passes (nodes (an_inserted name slot) (path ++ k ∷ []) around g) (field_nodes path around (suc k) fs) h in
         (fine_node g (an_inserted name slot) (path ++ k ∷ []) around p.0, fine_fields fs path around (suc k) p.1)

@@ -39,8 +39,8 @@ alternative_fits-past [] i d h = refl
 alternative_fits-past (x ∷ xs) zero d h = absurd (omega arith)
 alternative_fits-past (x ∷ xs) (suc i) d h = alternative_fits-past xs i d (omega arith)
 
-pub view_component : (name : List ℕ) (n : Node) (presence : Presence) (default : Option (List ℕ)) → field_of (Component name n presence default) ≡ a_component name (grammar_of n) presence default
-view_component name n presence default = search (rules, node_lemmas)
+pub view_component : (name : List ℕ) (n : Node) (presence : Presence) (default : Option (List ℕ)) (own : Option ℕ) → field_of (Component name n presence default own) ≡ a_component name (grammar_of n) presence default own
+view_component name n presence default own = search (rules, node_lemmas)
 
 pub view_inserted : (name : List ℕ) (n : Node) (slot : Option ℕ) → field_of (Inserted name n slot) ≡ an_inserted name (grammar_of n) slot
 view_inserted name n slot = search (rules, node_lemmas)

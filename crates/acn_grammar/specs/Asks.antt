@@ -1,18 +1,16 @@
 -- What a value asks of the numbers of slots, in the order of the walk.
-use Rattle.std.specs.Prelude.{◌≡◌, ◌≢◌, ℕ, zero, suc, ℤ, pos, ◌≤ℤ◌, Bool, true, false, List, [], ◌∷◌, ◌++◌, length, map, nat_eq, ◌&&◌, if◌then◌else◌, Option, Some, None, option_map, unwrap_or}
-use Rattle.std.specs.List.{AllByRecursion}
+use Rattle.std.specs.Prelude.{ℕ, zero, suc, ℤ, pos, Bool, true, false, List, [], ◌∷◌, ◌++◌, length, map, nat_eq, ◌&&◌, if◌then◌else◌, Option, Some, None, option_map, unwrap_or}
 use Rattle.acn_num.specs.Bits.{octets as octets_for}
-use Rattle.acn_num.specs.Ranges.{In}
 use Rattle.acn_grammar.specs.Grammar.{Grammar, Form, Fields, Alternatives, Data, Places, Elements, node, octets, bits, text, seq, list, choice, contained, no_fields, component, inserted, no_alternatives, alternative, octet_string, bit_string, characters, record_of, list_of, alt, empty, filled, no_elements, element, element_count}
-use Rattle.acn_grammar.specs.Length.{bit_length}
-use Rattle.acn_grammar.specs.Slots.{domain_of, items_of}
+use Rattle.acn_grammar.specs.Length.{bit_length, number_of}
+use Rattle.acn_grammar.specs.Slots.{items_of}
 use Rattle.acn_grammar.specs.declared.node.Presence.{Presence}
 use Rattle.acn_grammar.specs.declared.node.Presence.TheVariants.{When}
 use Rattle.acn_grammar.specs.declared.node.Test.{Test}
 use Rattle.acn_grammar.specs.declared.node.Test.TheVariants.{Flag, Equals}
 use Rattle.acn_grammar.specs.declared.node.Sizing.{Sizing}
 use Rattle.acn_grammar.specs.declared.node.SizeRule.{SizeRule}
-use Rattle.acn_grammar.specs.declared.node.SizeRule.TheVariants.{Prefix, Slot}
+use Rattle.acn_grammar.specs.declared.node.SizeRule.TheVariants.{Prefix, Slot, Ended}
 use Rattle.acn_grammar.specs.declared.node.ChoiceRule.{ChoiceRule}
 use Rattle.acn_grammar.specs.declared.node.ChoiceRule.TheVariants.{Item}
 
@@ -20,13 +18,13 @@ pub data Ask : Type 0 where
   Equal : ℤ → Ask
   Avoid : ℤ → Ask
 
--- A moment of the walk: a node at a path asks of the slot whose inserted field is at another path of this packet,
+-- A moment of the walk: a node at a path asks of the slot whose field is at another path of this packet,
 -- or contained octets show their count. Two asks on a slot are in one occurrence of its home where their fields are one.
 pub data Moment : Type 0 where
   asks : (path field : List ℕ) → (slot : ℕ) → Ask → Moment
   counts : (path : List ℕ) → (octets : ℕ) → Sizing → Moment
 
--- Where the inserted fields of the slots round a place are in this packet.
+-- Where the fields of the slots round a place are in this packet.
 
 abbrev pub FieldPaths : Type 0
 FieldPaths = List (ℕ × List ℕ)
@@ -55,12 +53,16 @@ abbrev mutual
   -- k is the number of the next field
   pub field_steps : Fields → (k s : ℕ) → Option (List ℕ)
   field_steps no_fields k s = None
-  field_steps (component name g presence default fs) k s = or_else (option_map (λ steps. k ∷ steps) (steps_to g s)) (field_steps fs (suc k) s)
+  field_steps (component name g presence default own fs) k s = at_slot own s (k ∷ []) (or_else (option_map (λ steps. k ∷ steps) (steps_to g s)) (field_steps fs (suc k) s))
   field_steps (inserted name g slot fs) k s = at_slot slot s (k ∷ []) (field_steps fs (suc k) s)
+
+-- where the field of a slot at home in the SEQUENCE at a path is
+abbrev pub field_path : List ℕ → Fields → (s : ℕ) → List ℕ
+field_path path fields s = path ++ unwrap_or (field_steps fields 0 s) []
 
 -- with the fields of the slots at home in the SEQUENCE at a path
 abbrev pub with_fields : List ℕ → Fields → (home : List ℕ) → FieldPaths → FieldPaths
-with_fields path fields home paths = map (λ s. (s, path ++ unwrap_or (field_steps fields 0 s) [])) home ++ paths
+with_fields path fields home paths = map (λ s. (s, field_path path fields s)) home ++ paths
 
 -- what a node asks of a slot
 abbrev pub asked : FieldPaths → List ℕ → ℕ → Ask → Moment
@@ -79,6 +81,12 @@ presence_asks paths path there _ = []
 abbrev pub size_asks : FieldPaths → List ℕ → ℕ → SizeRule → List Moment
 size_asks paths path n (Slot s) = asked paths path s (Equal (pos n)) ∷ []
 size_asks paths path n (Prefix low width) = []
+size_asks paths path n (Ended p) = []
+
+-- a component with a slot asks its own number
+abbrev pub own_asks : FieldPaths → List ℕ → Option ℕ → Data → List Moment
+own_asks paths path None d = []
+own_asks paths path (Some s) d = asked paths path s (Equal (number_of d)) ∷ []
 
 -- the place of the first item of the name
 abbrev pub index_of : (List ℕ → Bool) → List (List ℕ × ℤ) → ℕ
@@ -119,9 +127,9 @@ module _ (root : Grammar) where
 
     -- k is the number of the next field
     pub fields_moments : Fields → FieldPaths → List ℕ → ℕ → Places → List Moment
-    fields_moments (component name g presence default fs) paths path k (filled d ps) =
-        presence_asks paths (path ++ k ∷ []) true presence ++ moments g paths (path ++ k ∷ []) d ++ fields_moments fs paths path (suc k) ps
-    fields_moments (component name g presence default fs) paths path k (empty ps) =
+    fields_moments (component name g presence default own fs) paths path k (filled d ps) =
+        own_asks paths (path ++ k ∷ []) own d ++ presence_asks paths (path ++ k ∷ []) true presence ++ moments g paths (path ++ k ∷ []) d ++ fields_moments fs paths path (suc k) ps
+    fields_moments (component name g presence default own fs) paths path k (empty ps) =
         presence_asks paths (path ++ k ∷ []) false presence ++ fields_moments fs paths path (suc k) ps
     fields_moments (inserted name g slot fs) paths path k ps = fields_moments fs paths path (suc k) ps
     fields_moments _ paths path k ps = []
@@ -132,18 +140,3 @@ module _ (root : Grammar) where
         rule_asks paths path i rule name tests ++ moments g paths (path ++ i ∷ []) d
     alternative_moments (alternative name g tests more) rule paths path i (suc j) d = alternative_moments more rule paths path i j d
     alternative_moments no_alternatives rule paths path i j d = []
-
-  -- the number meets what is asked of the slot
-  abbrev pub Meets : ℕ → ℤ → Moment → Type 0
-  Meets s x (asks path field t (Equal n)) = t ≡ s → x ≡ n
-  Meets s x (asks path field t (Avoid k)) = t ≡ s → x ≢ k
-  Meets s x (counts path n sizing) = Unit {0}
-
-  -- a permitted number that meets all
-  pub record IsAnswer (ms : List Moment) (s : ℕ) (x : ℤ) : Type 0 where
-    pub permitted : In (domain_of root s) x
-    pub meets : AllByRecursion (Meets s x) ms
-
-  pub record IsLeast (ms : List Moment) (s : ℕ) (x : ℤ) : Type 0 where
-    pub answers : IsAnswer ms s x
-    pub first : (y : ℤ) → IsAnswer ms s y → x ≤ℤ y

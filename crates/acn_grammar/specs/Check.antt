@@ -1,16 +1,23 @@
 -- What keeps a grammar from being decoded, with its evidence.
-use Rattle.std.specs.Prelude.{◌≡◌, ℕ, ◌+◌, ◌<◌, ◌≤◌, ℤ, Bool, false, List, [], ◌∷◌, ◌++◌, length, map, Some, slice_get, nat_eq, ◌⊎◌, count_by, Contains}
+use Rattle.std.specs.Prelude.{◌≡◌, ℕ, ◌+◌, ◌<◌, ◌≤◌, ℤ, Bool, true, false, not, ◌&&◌, nat_le, if◌then◌else◌, List, [], ◌∷◌, ◌++◌, length, map, take, Option, Some, None, slice_get, nat_eq, ◌⊎◌, count_by, Contains}
 use Rattle.std.specs.List.{AllByRecursion, flat_map}
 use Rattle.acn_num.specs.Ranges.{In}
-use Rattle.acn_grammar.specs.Grammar.{Grammar, Form, Alternatives, seq, choice, no_alternatives, alternative}
+use Rattle.acn_grammar.specs.Grammar.{Grammar, Form, Fields, Alternatives, node, num, seq, list, choice, no_fields, component, inserted, no_alternatives, alternative}
 use Rattle.acn_grammar.specs.Code.{Any, Code}
 use Rattle.acn_grammar.specs.Env.{AllHold}
+use Rattle.acn_grammar.specs.Fails.{presence_count}
 use Rattle.acn_grammar.specs.Interval.{span, value_count}
+use Rattle.acn_grammar.specs.Length.{flag_width, ending}
 use Rattle.acn_grammar.specs.Slots.{slot_leaf, domain_of, items_of}
-use Rattle.acn_grammar.specs.Walk.{Stand, Role, a_component, Use, condition, item_of, size_of, nodes_of, uses, slot_of, slot_here, presence_tests}
+use Rattle.acn_grammar.specs.Walk.{Stand, Role, a_component, Use, condition, item_of, size_of, nodes_of, uses, slot_of, slot_here, inserted_slot, presence_tests}
 use Rattle.acn_grammar.specs.declared.node.NumKind.{NumKind}
 use Rattle.acn_grammar.specs.declared.node.NumKind.TheVariants.{Integer, Boolean, Enumerated}
 use Rattle.acn_grammar.specs.declared.node.NumLeaf.{NumLeaf}
+use Rattle.acn_grammar.specs.declared.node.NumCoding.{NumCoding}
+use Rattle.acn_grammar.specs.declared.node.NumCoding.TheVariants.{Range, PosInt, Twos, Flag as Pattern_or_bit, Fixed}
+use Rattle.acn_grammar.specs.declared.node.Table.{Table}
+use Rattle.acn_grammar.specs.declared.node.Presence.{Presence}
+use Rattle.acn_grammar.specs.declared.node.Presence.TheVariants.{Always}
 use Rattle.acn_grammar.specs.declared.node.Test.{Test}
 use Rattle.acn_grammar.specs.declared.node.Test.TheVariants.{Flag, Equals}
 use Rattle.acn_grammar.specs.declared.node.ChoiceRule.{ChoiceRule}
@@ -29,6 +36,7 @@ pub data CheckFault : Type 0 where
   too_many_open : (at : List ℕ) → (count : ℕ) → CheckFault
   too_many_conditions : (det : List ℕ) → (count : ℕ) → CheckFault
   too_many_values : (count : ℕ) → CheckFault
+  terminator_ambiguous : (list : List ℕ) → CheckFault
 
 abbrev pub number_of_fault : CheckFault → ℕ
 number_of_fault (forward user det) = 1
@@ -43,6 +51,7 @@ number_of_fault (too_long n) = 9
 number_of_fault (too_many_open at n) = 10
 number_of_fault (too_many_conditions det n) = 11
 number_of_fault (too_many_values n) = 12
+number_of_fault (terminator_ambiguous at) = 13
 
 -- the kind of leaf that a use asks for
 abbrev pub AsksFor : Use → NumKind → Type 0
@@ -81,12 +90,58 @@ IsStrictly [] = Unit {0}
 IsStrictly (a ∷ []) = Unit {0}
 IsStrictly (a ∷ b ∷ rest) = (a < b) × IsStrictly (b ∷ rest)
 
+-- A list that is ended by a pattern can be read where the first bits of each element tell it from the pattern.
+
+-- its codes are plain and have at least so many bits
+abbrev pub is_wide : ℕ → NumCoding → Bool
+is_wide n (Range low width) = nat_le n width
+is_wide n (PosInt width) = nat_le n width
+is_wide n (Twos width) = nat_le n width
+is_wide n (Pattern_or_bit ones zeros) = nat_le n (flag_width ones zeros)
+is_wide n (Fixed pattern) = nat_le n (length pattern)
+is_wide n _ = false
+
+abbrev pub has_no_table : Option Table → Bool
+has_no_table None = true
+has_no_table (Some table) = false
+
+abbrev pub is_lead : ℕ → NumLeaf → Bool
+is_lead n leaf = is_wide n leaf.coding && (not leaf.little && has_no_table leaf.table)
+
+-- the number with whose code of at least n bits every spelling of the node begins, if there is one
+abbrev mutual
+  pub lead : ℕ → Grammar → Option NumLeaf
+  lead n (node align form) = if nat_eq align 1 then form_lead n form else None
+
+  pub form_lead : ℕ → Form → Option NumLeaf
+  form_lead n (num leaf) = if is_lead n leaf then Some leaf else None
+  form_lead n (seq fields home) = if nat_eq (presence_count fields) 0 then fields_lead n fields else None
+  form_lead n _ = None
+
+  pub fields_lead : ℕ → Fields → Option NumLeaf
+  fields_lead n (component name g Always default own fs) = lead n g
+  fields_lead n (inserted name g slot fs) = lead n g
+  fields_lead n _ = None
+
+-- there is none, or a permitted number of it has a code that begins with the pattern
+abbrev pub LeadAmbiguous : List Bool → Option NumLeaf → Type 0
+LeadAmbiguous p None = Unit {0}
+LeadAmbiguous p (Some leaf) = (x : ℤ) × (bs : List Bool) × Code Any leaf x bs × (take (length p) bs ≡ p)
+
+abbrev pub EndAmbiguous : Option (List Bool) → Grammar → Type 0
+EndAmbiguous None g = ⊥
+EndAmbiguous (Some p) g = LeadAmbiguous p (lead (length p) g)
+
+abbrev pub ListAmbiguous : Form → Type 0
+ListAmbiguous (list sizing g) = EndAmbiguous (ending sizing.rule) g
+ListAmbiguous _ = ⊥
+
 module _ (root : Grammar) where
   -- the node of a number in preorder
   abbrev pub NodeAt : ℕ → Stand → Type 0
   NodeAt k at = slice_get (nodes_of root) k ≡ Some at
 
-  -- a use of a slot at node k, and the slot's inserted field at node j
+  -- a use of a slot at node k, and the slot's field at node j
   pub record UseOf (k u : ℕ) (user det : List ℕ) (use' : Use) (j : ℕ) : Type 0 where
     pub at : Stand
     pub field : Stand
@@ -129,12 +184,12 @@ module _ (root : Grammar) where
   abbrev pub Evidence : CheckFault → (k u : ℕ) → Type 0
   Evidence (forward user det) k u = (use' : Use) × (j : ℕ) × UseOf k u user det use' j × (k < j)
   Evidence (det_kind user det) k u = (use' : Use) × (j : ℕ) × (leaf : NumLeaf) × UseOf k u user det use' j × (slot_leaf root (slot_of use') ≡ Some leaf) × (AsksFor use' leaf.kind → ⊥)
-  Evidence (det_width det) k u = (at : Stand) × (s : ℕ) × (leaf : NumLeaf) × NodeAt k at × (at.path ≡ det) × (slot_here at.role ≡ Some s) × (slot_leaf root s ≡ Some leaf) × (((w : ℕ) × HasWidth leaf w × (w ≤ 64)) → ⊥)
+  Evidence (det_width det) k u = (at : Stand) × (s : ℕ) × (leaf : NumLeaf) × NodeAt k at × (at.path ≡ det) × (inserted_slot at.role ≡ Some s) × (slot_leaf root s ≡ Some leaf) × (((w : ℕ) × HasWidth leaf w × (w ≤ 64)) → ⊥)
   Evidence (overlap path i j values) k u = (cases : Alternatives) × ChoiceAt k path cases Tests × Overlaps cases i j values
   Evidence (absent_unclear path) k u = (at : Stand) × NodeAt k at × (at.path ≡ path) × MoreThanOne at.role
     where
       MoreThanOne : Role → Type 0
-      MoreThanOne (a_component n presence) = 1 < length (presence_tests presence)
+      MoreThanOne (a_component n presence own) = 1 < length (presence_tests presence)
       MoreThanOne _ = ⊥
   Evidence (unused det) k u = (at : Stand) × (s : ℕ) × NodeAt k at × (at.path ≡ det) × (slot_here at.role ≡ Some s) × (Contains (map slot_of (flat_map uses (nodes_of root))) s → ⊥)
   Evidence (no_item path i) k u = (cases : Alternatives) × (s : ℕ) × (name : List ℕ) × (ts : List Test) × ChoiceAt k path cases (Item s) × (slice_get (conditions_of cases) i ≡ Some (name, ts)) × (Contains (map (λ e. e.0) (items_of root s)) name → ⊥)
@@ -144,6 +199,7 @@ module _ (root : Grammar) where
   Evidence (too_many_open path n) k u = (at : Stand) × NodeAt k at × (at.path ≡ path) × (n ≡ open_at at) × (256 < n)
   Evidence (too_many_conditions det n) k u = (at : Stand) × (s : ℕ) × NodeAt k at × (at.path ≡ det) × (slot_here at.role ≡ Some s) × (n ≡ equals_on s) × (64 < n)
   Evidence (too_many_values n) k u = (k ≡ 0) × (n ≡ value_count root) × (1048576 < n)
+  Evidence (terminator_ambiguous path) k u = (at : Stand) × NodeAt k at × (at.path ≡ path) × ListAmbiguous at.form
 
   abbrev pub Undecodable : CheckFault → Type 0
   Undecodable f = (k u : ℕ) × Evidence f k u

@@ -1,5 +1,5 @@
 -- Where and why a packet can't be read, beside the grammar of what can.
-use Rattle.std.specs.Prelude.{◌≡◌, ℕ, zero, suc, ◌+◌, ◌*◌, ◌<◌, ◌≤◌, ℤ, pos, negsuc, Bool, true, false, List, [], ◌∷◌, ◌++◌, length, take, drop, Option, Some, None, ◌⊎◌}
+use Rattle.std.specs.Prelude.{◌≡◌, ◌≢◌, ℕ, zero, suc, ◌+◌, ◌*◌, max, ◌<◌, ◌≤◌, ℤ, pos, negsuc, Bool, true, false, List, [], ◌∷◌, ◌++◌, length, take, drop, Option, Some, None, ◌⊎◌}
 use Rattle.std.specs.List.{AllByRecursion, zip, find, range_with_len}
 use Rattle.acn_num.specs.Bits.{number}
 use Rattle.acn_num.specs.Ranges.{In, greatest}
@@ -8,14 +8,14 @@ use Rattle.acn_grammar.specs.Code.{Any}
 use Rattle.acn_grammar.specs.Env.{Env, at_slot, AllHold}
 use Rattle.acn_grammar.specs.Asks.{same_name}
 use Rattle.acn_grammar.specs.Interval.{size_of}
-use Rattle.acn_grammar.specs.Length.{padding, index_width}
+use Rattle.acn_grammar.specs.Length.{padding, index_width, ending}
 use Rattle.acn_grammar.specs.LeafFails.{Reason, short, size_out_of_range, too_long, bad_character, no_alternative, content_size, past_content, octet_values, LeafFails}
 use Rattle.acn_grammar.specs.Slots.{domain_of}
-use Rattle.acn_grammar.specs.Spell.{Part, Padding, SizePart, CharactersPart, octet_numbers, Spell, SlotField, with_home, Chosen}
+use Rattle.acn_grammar.specs.Spell.{Part, Where, Padding, SizePart, CharactersPart, octet_numbers, Carries, Spell, SlotField, with_home, Chosen}
 use Rattle.acn_grammar.specs.declared.node.TextLeaf.{TextLeaf}
 use Rattle.acn_grammar.specs.declared.node.Sizing.{Sizing}
 use Rattle.acn_grammar.specs.declared.node.SizeRule.{SizeRule}
-use Rattle.acn_grammar.specs.declared.node.SizeRule.TheVariants.{Prefix, Slot}
+use Rattle.acn_grammar.specs.declared.node.SizeRule.TheVariants.{Prefix, Slot, Ended}
 use Rattle.acn_grammar.specs.declared.node.ChoiceRule.{ChoiceRule}
 use Rattle.acn_grammar.specs.declared.node.ChoiceRule.TheVariants.{Index}
 use Rattle.acn_grammar.specs.declared.node.Presence.{Presence}
@@ -67,6 +67,7 @@ RuleFails here sizing (Prefix low width) env at rest fault reach =
     Short here width at rest fault reach
     ⊎ ((width ≤ length rest) × (In sizing.sizes (pos (low + number (take width rest))) → ⊥) × Says here (size_out_of_range (low + number (take width rest))) fault × (reach ≡ width))
 RuleFails here sizing (Slot s) env at rest fault reach = (x : ℤ) × (at_slot env s ≡ Some x) × (In sizing.sizes x → ⊥) × Says here (size_out_of_range (kept x)) fault × (reach ≡ 0)
+RuleFails here sizing (Ended p) env at rest fault reach = ⊥
 
 abbrev pub SizeFails : Here → Sizing → Env → Failing
 SizeFails here sizing env = RuleFails here sizing sizing.rule env
@@ -110,8 +111,8 @@ TextFails here (Some end) leaf env at rest fault reach =
 
 abbrev pub presence_count : Fields → ℕ
 presence_count no_fields = 0
-presence_count (component name g Bit default fs) = suc (presence_count fs)
-presence_count (component name g _ default fs) = presence_count fs
+presence_count (component name g Bit default own fs) = suc (presence_count fs)
+presence_count (component name g _ default own fs) = presence_count fs
 presence_count (inserted name g slot fs) = presence_count fs
 
 abbrev pub IsThere : Env → Presence → List Bool → Type 0
@@ -132,6 +133,33 @@ count_of (alternative name g tests more) = suc (count_of more)
 abbrev pub RunFails : (Data → Part) → (ℕ → Failing) → (n k : ℕ) → Failing
 RunFails each fails zero k at rest fault reach = ⊥
 RunFails each fails (suc n) k at rest fault reach = fails k at rest fault reach ⊎ ((d : Data) × Behind (each d) (RunFails each fails n (suc k)) at rest fault reach)
+
+-- A list that is ended by a pattern: before each element the next bits are looked at.
+
+-- they are the pattern, and the number of elements isn't permitted
+abbrev pub EndFails : Here → List Bool → Sizing → (k : ℕ) → Failing
+EndFails here p sizing k at rest fault reach = (take (length p) rest ≡ p) × (In sizing.sizes (pos k) → ⊥) × Says here (size_out_of_range k) fault × (reach ≡ length p)
+
+-- no more elements may come, and they aren't the pattern
+abbrev pub NoEnd : Here → List Bool → Failing
+NoEnd here p at rest fault reach =
+    Short here (length p) at rest fault reach ⊎ ((length p ≤ length rest) × (take (length p) rest ≢ p) × Says here too_long fault × (reach ≡ length p))
+
+-- they aren't the pattern, and the next element fails, which rests on them too
+abbrev pub NextFails : List Bool → Failing → Failing
+NextFails p F at rest fault reach = (take (length p) rest ≢ p) × ((inner : ℕ) × F at rest fault inner × (reach ≡ max (length p) inner))
+
+-- k elements are read, and n more may come
+abbrev pub EndedFails : Here → List Bool → Sizing → (Data → Part) → (ℕ → Failing) → (n k : ℕ) → Failing
+EndedFails here p sizing each fails zero k at rest fault reach = EndFails here p sizing k at rest fault reach ⊎ NoEnd here p at rest fault reach
+EndedFails here p sizing each fails (suc n) k at rest fault reach =
+    EndFails here p sizing k at rest fault reach
+    ⊎ NextFails p (fails k) at rest fault reach
+    ⊎ ((d : Data) × Behind (each d) (EndedFails here p sizing each fails n (suc k)) at rest fault reach)
+
+abbrev pub ListFails : Option (List Bool) → Here → Sizing → Env → (Data → Part) → (ℕ → Failing) → Failing
+ListFails None here sizing env each fails at rest fault reach = SizeFails here sizing env at rest fault reach ⊎ Sized sizing env (λ n. RunFails each fails n 0) at rest fault reach
+ListFails (Some p) here sizing env each fails at rest fault reach = EndedFails here p sizing each fails (size_of (greatest sizing.sizes)) 0 at rest fault reach
 
 -- behind as many bits, which say something, it fails
 abbrev pub After : ℕ → Failing → Failing
@@ -179,8 +207,7 @@ module _ (root : Grammar) where
         ⊎ ((xs : List ℤ) × (length xs ≡ length home) × AllByRecursion (λ e. In (domain_of root e.0) e.1) (zip home xs)
         × After n (FieldsFail fields (with_home home xs env) (take n rest) here origin 0) at rest fault reach)
     FormFails (list sizing g) env here origin at rest fault reach =
-        SizeFails here sizing env at rest fault reach
-        ⊎ Sized sizing env (λ n. RunFails (Spell root Any g env) (λ k. Fails g env here.inside origin (here.path ++ k ∷ [])) n 0) at rest fault reach
+        ListFails (ending sizing.rule) here sizing env (Spell root Any g env) (λ k. Fails g env here.inside origin (here.path ++ k ∷ [])) at rest fault reach
     FormFails (choice cases rule) env here origin at rest fault reach =
         IndexFails here rule cases env at rest fault reach
         ⊎ ((i : ℕ) × IndexIs rule rest i × After (index_width rule) (AlternativeFails cases rule env here origin i i) at rest fault reach)
@@ -192,9 +219,9 @@ module _ (root : Grammar) where
         ⊎ ((d : Data) × Overlong here n (Spell root Any g env d) (take (8 * n) back) fault')) × (reach' ≡ 8 * n))) at rest fault reach
 
     pub FieldsFail : Fields → Env → (flags : List Bool) → Here → (origin : ℕ) → (k : ℕ) → Failing
-    FieldsFail (component name g presence default fs) env flags here origin k at rest fault reach =
+    FieldsFail (component name g presence default own fs) env flags here origin k at rest fault reach =
         (IsThere env presence flags × (Fails g env here.inside origin (here.path ++ k ∷ []) at rest fault reach
-        ⊎ ((d : Data) × Behind (Spell root Any g env d) (FieldsFail fs env (flags_behind presence flags) here origin (suc k)) at rest fault reach)))
+        ⊎ ((d : Data) × Behind (Where (Carries env own d) (Spell root Any g env d)) (FieldsFail fs env (flags_behind presence flags) here origin (suc k)) at rest fault reach)))
         ⊎ ((IsThere env presence flags → ⊥) × FieldsFail fs env (flags_behind presence flags) here origin (suc k) at rest fault reach)
     FieldsFail (inserted name g (Some s) fs) env flags here origin k at rest fault reach =
         Fails g env here.inside origin (here.path ++ k ∷ []) at rest fault reach

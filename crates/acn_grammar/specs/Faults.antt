@@ -66,4 +66,5 @@ check_fault_of (fault.TooLong n) = Some (check.too_long n)
 check_fault_of (fault.TooManyOpen at n) = Some (check.too_many_open at n)
 check_fault_of (fault.TooManyConditions det n) = Some (check.too_many_conditions det n)
 check_fault_of (fault.TooManyValues n) = Some (check.too_many_values n)
+check_fault_of (fault.TerminatorAmbiguous at) = Some (check.terminator_ambiguous at)
 check_fault_of fault.NoMemory = None

@@ -23,7 +23,7 @@ mutual
 
   pub data Fields : Type 0 where
     no_fields : Fields
-    component : (name : List ℕ) → Grammar → Presence → (default : Option (List ℕ)) → Fields → Fields
+    component : (name : List ℕ) → Grammar → Presence → (default : Option (List ℕ)) → (slot : Option ℕ) → Fields → Fields
     inserted : (name : List ℕ) → Grammar → (slot : Option ℕ) → Fields → Fields
 
   pub data Alternatives : Type 0 where

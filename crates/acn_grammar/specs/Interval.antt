@@ -4,7 +4,7 @@ use Rattle.acn_num.specs.Ranges.{least, greatest}
 use Rattle.acn_grammar.specs.Grammar.{Grammar, Form, Fields, Alternatives, node, num, octets, bits, text, seq, list, choice, contained, no_fields, component, inserted, no_alternatives, alternative}
 use Rattle.acn_grammar.specs.View.{OneField, a_component, an_inserted}
 use Rattle.acn_grammar.specs.Images.{images_of}
-use Rattle.acn_grammar.specs.Length.{rule_width, index_width, flag_width, coding_length}
+use Rattle.acn_grammar.specs.Length.{rule_width, ending, index_width, flag_width, coding_length}
 use Rattle.acn_grammar.specs.declared.bounds.Bounds.{Bounds}
 use Rattle.acn_grammar.specs.declared.node.NumLeaf.{NumLeaf}
 use Rattle.acn_grammar.specs.declared.node.Sizing.{Sizing}
@@ -121,6 +121,14 @@ end_width (Some end) = length end
 abbrev pub text_span : TextLeaf → Bounds
 text_span leaf = plus (exactly (rule_width leaf.sized.rule + end_width leaf.ended)) (times (sizes_of leaf.sized.sizes) (exactly leaf.width))
 
+-- Lists: with a size in front of the elements, or a pattern behind them.
+abbrev pub list_around : Option (List Bool) → Sizing → ℕ
+list_around None sizing = rule_width sizing.rule
+list_around (Some p) sizing = length p
+
+abbrev pub list_span : Sizing → Bounds → Bounds
+list_span sizing b = plus (exactly (list_around (ending sizing.rule) sizing)) (times (sizes_of sizing.sizes) b)
+
 abbrev pub component_span : Presence → Bounds → Bounds
 component_span Always b = b
 component_span Bit b = plus (exactly 1) (optional b)
@@ -136,13 +144,13 @@ abbrev mutual
   form_span (bits sizing) = plus (exactly (rule_width sizing.rule)) (times (sizes_of sizing.sizes) (exactly 1))
   form_span (text leaf) = text_span leaf
   form_span (seq fields home) = fields_span fields
-  form_span (list sizing g) = plus (exactly (rule_width sizing.rule)) (times (sizes_of sizing.sizes) (span g))
+  form_span (list sizing g) = list_span sizing (span g)
   form_span (choice alternatives rule) = plus (exactly (index_width rule)) (alternatives_span alternatives)
   form_span (contained sizing g) = plus (exactly (rule_width sizing.rule)) (in_octets (span g))
 
   pub fields_span : Fields → Bounds
   fields_span no_fields = exactly 0
-  fields_span (component name g presence default fs) = plus (component_span presence (span g)) (fields_span fs)
+  fields_span (component name g presence default own fs) = plus (component_span presence (span g)) (fields_span fs)
   fields_span (inserted name g slot fs) = plus (span g) (fields_span fs)
 
   pub alternatives_span : Alternatives → Bounds
@@ -151,7 +159,7 @@ abbrev mutual
 
 -- the same of one field
 abbrev pub field_span : OneField → Bounds
-field_span (a_component name g presence default) = component_span presence (span g)
+field_span (a_component name g presence default own) = component_span presence (span g)
 field_span (an_inserted name g slot) = span g
 
 -- The greatest number of values in one packet.
@@ -175,7 +183,7 @@ abbrev mutual
 
   pub field_values : Fields → ℕ
   field_values no_fields = 0
-  field_values (component name g presence default fs) = held (value_count g + field_values fs)
+  field_values (component name g presence default own fs) = held (value_count g + field_values fs)
   field_values (inserted name g slot fs) = field_values fs
 
   pub alternative_values : Alternatives → ℕ
@@ -184,5 +192,5 @@ abbrev mutual
 
 -- so many values, and those of one field besides
 abbrev pub with_field_values : ℕ → OneField → ℕ
-with_field_values all (a_component name g presence default) = held (value_count g + all)
+with_field_values all (a_component name g presence default own) = held (value_count g + all)
 with_field_values all (an_inserted name g slot) = all

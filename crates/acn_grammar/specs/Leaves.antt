@@ -6,6 +6,7 @@ use Rattle.acn_num.specs.Bits.{is_least_width}
 use Rattle.acn_num.specs.Ranges.{least, greatest, are_ranges, distance, count, all_within}
 use Rattle.acn_grammar.specs.Asks.{same_name}
 use Rattle.acn_grammar.specs.Images.{images_by, ends, written_ends}
+use Rattle.acn_grammar.specs.Length.{ending}
 use Rattle.acn_grammar.specs.Spell.{octet_numbers}
 use Rattle.acn_grammar.specs.declared.node.NumKind.{NumKind}
 use Rattle.acn_grammar.specs.declared.node.NumKind.TheVariants.{Integer, Boolean, Enumerated, Null}
@@ -17,7 +18,7 @@ use Rattle.acn_grammar.specs.declared.node.Table.{Table}
 use Rattle.acn_grammar.specs.declared.node.TextLeaf.{TextLeaf}
 use Rattle.acn_grammar.specs.declared.node.Sizing.{Sizing}
 use Rattle.acn_grammar.specs.declared.node.SizeRule.{SizeRule}
-use Rattle.acn_grammar.specs.declared.node.SizeRule.TheVariants.{Prefix, Slot}
+use Rattle.acn_grammar.specs.declared.node.SizeRule.TheVariants.{Prefix, Slot, Ended}
 
 -- Small tests.
 
@@ -216,13 +217,23 @@ prefix_fine low width _ _ = false
 abbrev pub rule_fine : List (ℤ × ℤ) → SizeRule → Bool
 rule_fine sizes (Slot s) = true
 rule_fine sizes (Prefix low width) = prefix_fine low width (least sizes) (greatest sizes)
+rule_fine sizes (Ended p) = false
 
 abbrev pub sizing_fine : Sizing → Bool
 sizing_fine sizing = sizes_fine sizing.sizes && rule_fine sizing.sizes sizing.rule
 
+-- a list alone may be ended by a pattern
+abbrev pub list_rule_fine : Option (List Bool) → Sizing → Bool
+list_rule_fine None sizing = rule_fine sizing.sizes sizing.rule
+list_rule_fine (Some p) sizing = is_pattern p
+
+abbrev pub list_fine : Sizing → Bool
+list_fine sizing = sizes_fine sizing.sizes && list_rule_fine (ending sizing.rule) sizing
+
 abbrev pub no_size : SizeRule → Bool
 no_size (Prefix low width) = nat_eq low 0 && nat_eq width 0
 no_size (Slot s) = false
+no_size (Ended p) = false
 
 -- the least width in which as many characters as there are have numbers of their own
 abbrev pub holds_characters : (characters width : ℕ) → Bool

@@ -7,7 +7,7 @@ use Rattle.acn_grammar.specs.Code.{image_of}
 use Rattle.acn_grammar.specs.declared.node.NumLeaf.{NumLeaf}
 use Rattle.acn_grammar.specs.declared.node.TextLeaf.{TextLeaf}
 use Rattle.acn_grammar.specs.declared.node.SizeRule.{SizeRule}
-use Rattle.acn_grammar.specs.declared.node.SizeRule.TheVariants.{Prefix, Slot}
+use Rattle.acn_grammar.specs.declared.node.SizeRule.TheVariants.{Prefix, Slot, Ended}
 use Rattle.acn_grammar.specs.declared.node.ChoiceRule.{ChoiceRule}
 use Rattle.acn_grammar.specs.declared.node.ChoiceRule.TheVariants.{Index}
 use Rattle.acn_grammar.specs.declared.node.NumCoding.{NumCoding}
@@ -75,9 +75,17 @@ abbrev pub inserted_length : Grammar → ℕ → ℕ
 inserted_length (node align (num leaf)) at = padding align at + num_length leaf (least leaf.set)
 inserted_length _ at = 0
 
+-- the bits of a size in front
 abbrev pub rule_width : SizeRule → ℕ
 rule_width (Prefix low width) = width
 rule_width (Slot s) = 0
+rule_width (Ended p) = 0
+
+-- the pattern that ends a list, where one does
+abbrev pub ending : SizeRule → Option (List Bool)
+ending (Prefix low width) = None
+ending (Slot s) = None
+ending (Ended p) = Some p
 
 abbrev pub index_width : ChoiceRule → ℕ
 index_width (Index width) = width
@@ -94,8 +102,8 @@ bit_before Bit there bs = there ∷ bs
 bit_before (When ts) there bs = bs
 
 abbrev pub presence_bits : Fields → Places → List Bool
-presence_bits (component name g presence default fs) (filled d ps) = bit_before presence true (presence_bits fs ps)
-presence_bits (component name g presence default fs) (empty ps) = bit_before presence false (presence_bits fs ps)
+presence_bits (component name g presence default own fs) (filled d ps) = bit_before presence true (presence_bits fs ps)
+presence_bits (component name g presence default own fs) (empty ps) = bit_before presence false (presence_bits fs ps)
 presence_bits (inserted name g slot fs) ps = presence_bits fs ps
 presence_bits _ _ = []
 
@@ -103,6 +111,11 @@ presence_bits _ _ = []
 abbrev pub run_length : (ℕ → Data → ℕ) → ℕ → Elements → ℕ
 run_length each at no_elements = 0
 run_length each at (element d es) = let n = each at d in n + run_length each (at + n) es
+
+-- a size in front of the elements, or a pattern behind them
+abbrev pub list_length : Option (List Bool) → SizeRule → (ℕ → Data → ℕ) → ℕ → Elements → ℕ
+list_length None rule each at es = rule_width rule + run_length each (at + rule_width rule) es
+list_length (Some p) rule each at es = run_length each at es + length p
 
 abbrev mutual
   pub bit_length : Grammar → ℕ → Data → ℕ
@@ -114,14 +127,14 @@ abbrev mutual
   form_length (bits sizing) at (bit_string bs) = rule_width sizing.rule + length bs
   form_length (text leaf) at (characters cs) = text_length leaf.ended leaf (length cs)
   form_length (seq fields home) at (record_of ps) = let front = length (presence_bits fields ps) in front + fields_length fields (at + front) ps
-  form_length (list sizing g) at (list_of es) = rule_width sizing.rule + run_length (bit_length g) (at + rule_width sizing.rule) es
+  form_length (list sizing g) at (list_of es) = list_length (ending sizing.rule) sizing.rule (bit_length g) at es
   form_length (choice alternatives rule) at (alt i d) = index_width rule + alternative_length alternatives i (at + index_width rule) d
   form_length (contained sizing g) at d = rule_width sizing.rule + 8 * octets_for (bit_length g 0 d)
   form_length _ at d = 0
 
   pub fields_length : Fields → ℕ → Places → ℕ
-  fields_length (component name g presence default fs) at (filled d ps) = let n = bit_length g at d in n + fields_length fs (at + n) ps
-  fields_length (component name g presence default fs) at (empty ps) = fields_length fs at ps
+  fields_length (component name g presence default own fs) at (filled d ps) = let n = bit_length g at d in n + fields_length fs (at + n) ps
+  fields_length (component name g presence default own fs) at (empty ps) = fields_length fs at ps
   fields_length (inserted name g slot fs) at ps = let n = inserted_length g at in n + fields_length fs (at + n) ps
   fields_length _ at ps = 0
 

@@ -1,4 +1,5 @@
 pub mod Asks
+pub mod AsksOn
 pub mod Check
 pub mod Code
 pub mod Env
@@ -12,12 +13,14 @@ pub mod LeafFails
 pub mod Leaves
 pub mod Length
 pub mod Meets
+pub mod PartAt
 pub mod Pattern
 pub mod ReadFaults
 pub mod Refused
 pub mod Scoped
 pub mod Shaped
 pub mod Slots
+pub mod Sound
 pub mod Spell
 pub mod Told
 pub mod Tree

@@ -68,8 +68,8 @@ abbrev mutual
   form_breaches path _ d = []
 
   pub field_breaches : List ℕ → ℕ → Fields → Places → List Unfit
-  field_breaches path k (component name g presence default fs) (filled d ps) = breaches (path ++ k ∷ []) g d ++ field_breaches path (suc k) fs ps
-  field_breaches path k (component name g presence default fs) (empty ps) = field_breaches path (suc k) fs ps
+  field_breaches path k (component name g presence default own fs) (filled d ps) = breaches (path ++ k ∷ []) g d ++ field_breaches path (suc k) fs ps
+  field_breaches path k (component name g presence default own fs) (empty ps) = field_breaches path (suc k) fs ps
   field_breaches path k (inserted name g slot fs) ps = field_breaches path (suc k) fs ps
   field_breaches path k _ ps = []
 

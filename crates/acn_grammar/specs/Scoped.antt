@@ -1,12 +1,14 @@
 -- What the layers above need of an accepted grammar: every leaf keeps its rules, every use names a slot whose field stands before it, and no permitted numbers choose two alternatives.
-use Rattle.std.specs.Prelude.{◌≡◌, ℕ, zero, suc, ◌<◌, Bool, true, false, not, ◌&&◌, ◌||◌, nat_eq, List, [], ◌∷◌, Some, None, IsTrue}
+use Rattle.std.specs.Prelude.{◌≡◌, ℕ, zero, suc, ◌<◌, ℤ, Bool, true, false, not, ◌&&◌, ◌||◌, nat_eq, List, [], ◌∷◌, length, Option, Some, None, IsTrue}
 use Rattle.std.specs.List.{AllByRecursion}
 use Rattle.acn_num.specs.Ranges.{In}
 use Rattle.acn_grammar.specs.Asks.{same_name}
+use Rattle.acn_grammar.specs.Check.{lead, LeadAmbiguous}
 use Rattle.acn_grammar.specs.Env.{Env, at_slot, AllHold}
 use Rattle.acn_grammar.specs.Fails.{count_of}
 use Rattle.acn_grammar.specs.Grammar.{Grammar, Form, Fields, Alternatives, node, num, octets, bits, text, seq, list, choice, contained, no_fields, component, inserted, no_alternatives, alternative}
-use Rattle.acn_grammar.specs.Leaves.{num_fine, text_fine, all_differ}
+use Rattle.acn_grammar.specs.Leaves.{num_fine, text_fine, sizes_fine, all_differ}
+use Rattle.acn_grammar.specs.Length.{ending}
 use Rattle.acn_grammar.specs.Slots.{domain_of}
 use Rattle.acn_grammar.specs.Tree.{holds}
 use Rattle.acn_grammar.specs.declared.node.Presence.{Presence}
@@ -14,7 +16,7 @@ use Rattle.acn_grammar.specs.declared.node.Presence.TheVariants.{Always, When}
 use Rattle.acn_grammar.specs.declared.node.Test.{Test}
 use Rattle.acn_grammar.specs.declared.node.Test.TheVariants.{Flag, Equals}
 use Rattle.acn_grammar.specs.declared.node.SizeRule.{SizeRule}
-use Rattle.acn_grammar.specs.declared.node.SizeRule.TheVariants.{Prefix, Slot}
+use Rattle.acn_grammar.specs.declared.node.SizeRule.TheVariants.{Prefix, Slot, Ended}
 use Rattle.acn_grammar.specs.declared.node.ChoiceRule.TheVariants.{Index, Tests, Item}
 
 -- the slots whose numbers are known at a place, since their fields stand before it
@@ -45,6 +47,16 @@ PresenceIn ks _ = Unit {0}
 abbrev pub RuleIn : Known → SizeRule → Type 0
 RuleIn ks (Prefix low width) = Unit {0}
 RuleIn ks (Slot s) = ks s ≡ true
+RuleIn ks (Ended p) = Unit {0}
+
+-- the pattern that ends a list can be told from the first bits of an element, and there is a greatest size
+pub record IsTold (p : List Bool) (sizes : List (ℤ × ℤ)) (g : Grammar) : Type 0 where
+  pub fine : IsTrue (sizes_fine sizes)
+  pub told : LeadAmbiguous p (lead (length p) g) → ⊥
+
+abbrev pub EndTold : Option (List Bool) → List (ℤ × ℤ) → Grammar → Type 0
+EndTold None sizes g = Unit {0}
+EndTold (Some p) sizes g = IsTold p sizes g
 
 -- the slots at home here have their fields inside, so none is known yet
 abbrev pub Apart : Known → List ℕ → Type 0
@@ -61,6 +73,11 @@ abbrev pub choose_known : Presence → (there always : Known) → Known
 choose_known Always there always = always
 choose_known _ there always = there
 
+-- with the slot of a component
+abbrev pub with_own : Option ℕ → Known → Known
+with_own None ks = ks
+with_own (Some s) ks = with_slot s ks
+
 abbrev mutual
   pub after : Known → Grammar → Known
   after ks (node align form) = form_after ks form
@@ -71,7 +88,7 @@ abbrev mutual
 
   pub fields_after : Known → Fields → Known
   fields_after ks no_fields = ks
-  fields_after ks (component name g presence default fs) = fields_after (choose_known presence ks (after ks g)) fs
+  fields_after ks (component name g presence default own fs) = fields_after (choose_known presence ks (with_own own (after ks g))) fs
   fields_after ks (inserted name g (Some s) fs) = fields_after (with_slot s ks) fs
   fields_after ks (inserted name g None fs) = fields_after ks fs
 
@@ -104,7 +121,7 @@ module _ (root : Grammar) where
     FormScoped ks (bits sizing) = RuleIn ks sizing.rule
     FormScoped ks (text leaf) = RuleIn ks leaf.sized.rule × IsTrue (text_fine leaf)
     FormScoped ks (seq fields home) = Apart ks home × FieldsScoped ks fields
-    FormScoped ks (list sizing g) = RuleIn ks sizing.rule × Scoped ks g
+    FormScoped ks (list sizing g) = RuleIn ks sizing.rule × Scoped ks g × EndTold (ending sizing.rule) sizing.sizes g
     FormScoped ks (contained sizing g) = RuleIn ks sizing.rule × Scoped ks g
     FormScoped ks (choice cases (Index width)) = AlternativesScoped ks cases
     FormScoped ks (choice cases Tests) = AlternativesScoped ks cases × ((i : ℕ) → TestsIn ks (tests_at cases i)) × NoOverlap cases
@@ -112,7 +129,7 @@ module _ (root : Grammar) where
 
     pub FieldsScoped : Known → Fields → Type 0
     FieldsScoped ks no_fields = Unit {0}
-    FieldsScoped ks (component name g presence default fs) = PresenceIn ks presence × Scoped ks g × FieldsScoped (choose_known presence ks (after ks g)) fs
+    FieldsScoped ks (component name g presence default own fs) = PresenceIn ks presence × Scoped ks g × FieldsScoped (choose_known presence ks (with_own own (after ks g))) fs
     FieldsScoped ks (inserted name g (Some s) fs) = FineField g × FieldsScoped (with_slot s ks) fs
     FieldsScoped ks (inserted name g None fs) = Scoped ks g × FieldsScoped ks fs
 

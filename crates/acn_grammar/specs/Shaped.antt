@@ -47,8 +47,8 @@ abbrev mutual
   -- one place for each component
   pub fields_fit : Fields → Places → Bool
   fields_fit no_fields no_places = true
-  fields_fit (component name g presence default fs) (filled d ps) = fits g d && fields_fit fs ps
-  fields_fit (component name g presence default fs) (empty ps) = may_be_absent presence && fields_fit fs ps
+  fields_fit (component name g presence default own fs) (filled d ps) = fits g d && fields_fit fs ps
+  fields_fit (component name g presence default own fs) (empty ps) = may_be_absent presence && fields_fit fs ps
   fields_fit (inserted name g slot fs) ps = fields_fit fs ps
   fields_fit _ _ = false
 

@@ -1,4 +1,4 @@
--- The inserted leaf of a slot.
+-- The leaf of a slot: that of an inserted field, or of a component whose number is the slot's.
 use Rattle.std.specs.Prelude.{ℕ, ℤ, List, [], Option, Some, None, option_map, unwrap_or, nat_eq, if◌then◌else◌}
 use Rattle.acn_grammar.specs.Grammar.{Grammar, Form, Fields, Alternatives, node, num, seq, list, choice, contained, no_fields, component, inserted, no_alternatives, alternative}
 use Rattle.acn_grammar.specs.declared.node.NumLeaf.{NumLeaf}
@@ -28,7 +28,7 @@ abbrev mutual
 
   pub fields_leaf : Fields → ℕ → Option NumLeaf
   fields_leaf no_fields s = None
-  fields_leaf (component name g presence default fs) s = first_of_two (slot_leaf g s) (fields_leaf fs s)
+  fields_leaf (component name g presence default own fs) s = is_slot own s (number_leaf g) (first_of_two (slot_leaf g s) (fields_leaf fs s))
   fields_leaf (inserted name g slot fs) s = is_slot slot s (number_leaf g) (first_of_two (slot_leaf g s) (fields_leaf fs s))
 
   pub alternatives_leaf : Alternatives → ℕ → Option NumLeaf

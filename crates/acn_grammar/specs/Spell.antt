@@ -6,14 +6,14 @@ use Rattle.acn_num.specs.Ranges.{In}
 use Rattle.acn_grammar.specs.Grammar.{Grammar, Form, Fields, Alternatives, Data, Places, Elements, node, num, octets, bits, text, seq, list, choice, contained, no_fields, component, inserted, no_alternatives, alternative, null, octet_string, bit_string, characters, record_of, list_of, alt, no_places, empty, filled, no_elements, element, element_count}
 use Rattle.acn_grammar.specs.Code.{Mode, Written, Code, NumberOf, in_octets}
 use Rattle.acn_grammar.specs.Env.{Env, at_slot, AllHold, MayBeThere, MayBeAway}
-use Rattle.acn_grammar.specs.Length.{presence_bits}
+use Rattle.acn_grammar.specs.Length.{presence_bits, number_of, ending}
 use Rattle.acn_grammar.specs.Shaped.{are_octets}
 use Rattle.acn_grammar.specs.Slots.{items_of, domain_of}
-use Rattle.acn_grammar.specs.Asks.{form_moments, IsLeast}
+use Rattle.acn_grammar.specs.AsksOn.{form_asks_on, LeastAnswer}
 use Rattle.acn_grammar.specs.declared.node.TextLeaf.{TextLeaf}
 use Rattle.acn_grammar.specs.declared.node.Sizing.{Sizing}
 use Rattle.acn_grammar.specs.declared.node.SizeRule.{SizeRule}
-use Rattle.acn_grammar.specs.declared.node.SizeRule.TheVariants.{Prefix, Slot}
+use Rattle.acn_grammar.specs.declared.node.SizeRule.TheVariants.{Prefix, Slot, Ended}
 use Rattle.acn_grammar.specs.declared.node.ChoiceRule.{ChoiceRule}
 use Rattle.acn_grammar.specs.declared.node.ChoiceRule.TheVariants.{Index, Tests, Item}
 use Rattle.acn_grammar.specs.declared.node.Test.{Test}
@@ -71,6 +71,7 @@ Number width n at bs = IsNumber width n bs
 abbrev pub RulePart : SizeRule → Env → ℕ → Part
 RulePart (Prefix low width) env n = Where (low ≤ n) (Number width (n - low))
 RulePart (Slot s) env n = Only (at_slot env s ≡ Some (pos n))
+RulePart (Ended p) env n = Only ⊥
 
 abbrev pub SizePart : Sizing → Env → ℕ → Part
 SizePart sizing env n = Where (In sizing.sizes (pos n)) (RulePart sizing.rule env n)
@@ -109,10 +110,20 @@ abbrev pub RunPart : (Data → Part) → Elements → Part
 RunPart each no_elements = Exactly []
 RunPart each (element d es) = each d then RunPart each es
 
+-- a size in front of them, or a pattern directly behind the last
+abbrev pub ListPart : Option (List Bool) → Sizing → Env → (Data → Part) → Elements → Part
+ListPart None sizing env each es = SizePart sizing env (element_count es) then RunPart each es
+ListPart (Some p) sizing env each es = Where (In sizing.sizes (pos (element_count es))) (RunPart each es then Exactly p)
+
 -- contents in a window of whole octets, from position 0
 pub record Window (content : Part) (fill : Part) (n : ℕ) (at : ℕ) (bs : List Bool) : Type 0 where
   pub size : length bs ≡ 8 * n
   pub inside : (content then fill) 0 bs
+
+-- the value of a component with a slot says the slot's number
+abbrev pub Carries : Env → Option ℕ → Data → Type 0
+Carries env None d = Unit {0}
+Carries env (Some s) d = at_slot env s ≡ Some (number_of d)
 
 -- one of the numbers of slots at home here
 abbrev pub with_home : List ℕ → List ℤ → Env → Env
@@ -133,7 +144,7 @@ module _ (root : Grammar) where
   pub record AtHome (mode : Mode) (form : Form) (d : Data) (home : List ℕ) (xs : List ℤ) : Type 0 where
     pub count : length xs ≡ length home
     pub permitted : AllByRecursion (λ e. In (domain_of root e.0) e.1) (zip home xs)
-    pub least : mode ≡ Written → AllByRecursion (λ e. IsLeast root (form_moments root form [] [] d) e.0 e.1) (zip home xs)
+    pub least : mode ≡ Written → AllByRecursion (λ e. LeastAnswer (domain_of root e.0) (form_asks_on root e.0 form d) e.1) (zip home xs)
 
   pub record SomeNumbers (given : List ℤ → Type 0) (P : List ℤ → Part) (at : ℕ) (bs : List Bool) : Type 0 where
     pub numbers : List ℤ
@@ -157,15 +168,15 @@ module _ (root : Grammar) where
     FormPart mode (seq fields home) env (record_of ps) =
         SomeNumbers (AtHome mode (seq fields home) (record_of ps) home) (λ xs.
         Exactly (presence_bits fields ps) then FieldsPart mode fields (with_home home xs env) ps)
-    FormPart mode (list sizing g) env (list_of es) = SizePart sizing env (element_count es) then RunPart (Spell mode g env) es
+    FormPart mode (list sizing g) env (list_of es) = ListPart (ending sizing.rule) sizing env (Spell mode g env) es
     FormPart mode (choice alternatives rule) env (alt i d) = IndexPart rule i then AlternativePart mode alternatives rule env i d
     FormPart mode (contained sizing g) env d = Some_ℕ (λ n. SizePart sizing env n then Window (Spell mode g env d) (Fill mode) n)
     FormPart mode _ env d = Only ⊥
 
     pub FieldsPart : Mode → Fields → Env → Places → Part
     FieldsPart mode no_fields env no_places = Exactly []
-    FieldsPart mode (component name g presence default fs) env (filled d ps) = Where (MayBeThere env presence) (Spell mode g env d) then FieldsPart mode fs env ps
-    FieldsPart mode (component name g presence default fs) env (empty ps) = Where (MayBeAway env presence) (FieldsPart mode fs env ps)
+    FieldsPart mode (component name g presence default own fs) env (filled d ps) = Where (MayBeThere env presence × Carries env own d) (Spell mode g env d) then FieldsPart mode fs env ps
+    FieldsPart mode (component name g presence default own fs) env (empty ps) = Where (MayBeAway env presence) (FieldsPart mode fs env ps)
     FieldsPart mode (inserted name g (Some s) fs) env ps = SlotField mode g env s then FieldsPart mode fs env ps
     FieldsPart mode (inserted name g None fs) env ps = Spell mode g env null then FieldsPart mode fs env ps
     FieldsPart mode _ env ps = Only ⊥

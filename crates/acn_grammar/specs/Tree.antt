@@ -5,7 +5,7 @@ use Rattle.acn_num.specs.Bits.{is_least_width}
 use Rattle.acn_grammar.specs.Grammar.{Grammar, Form, Fields, node, num, octets, bits, text, seq, list, choice, contained, no_fields, component, inserted}
 use Rattle.acn_grammar.specs.Asks.{same_name}
 use Rattle.acn_grammar.specs.Check.{conditions_of}
-use Rattle.acn_grammar.specs.Leaves.{num_fine, text_fine, sizing_fine, all_differ}
+use Rattle.acn_grammar.specs.Leaves.{num_fine, text_fine, sizing_fine, list_fine, all_differ}
 use Rattle.acn_grammar.specs.Walk.{Stand, Role, a_component, an_inserted, nodes_of, inside, uses, slot_of, slot_here}
 use Rattle.acn_grammar.specs.declared.node.NumKind.{NumKind}
 use Rattle.acn_grammar.specs.declared.node.NumKind.TheVariants.{Null}
@@ -22,7 +22,7 @@ is_align n = nat_eq n 1 || (nat_eq n 8 || (nat_eq n 16 || nat_eq n 32))
 
 abbrev pub field_names : Fields → List (List ℕ)
 field_names no_fields = []
-field_names (component name g presence default fs) = name ∷ field_names fs
+field_names (component name g presence default own fs) = name ∷ field_names fs
 field_names (inserted name g slot fs) = name ∷ field_names fs
 
 abbrev pub has_tests : (List ℕ × List Test) → Bool
@@ -43,7 +43,7 @@ form_fine (octets sizing) = sizing_fine sizing
 form_fine (bits sizing) = sizing_fine sizing
 form_fine (text leaf) = text_fine leaf
 form_fine (seq fields home) = all_differ same_name (field_names fields)
-form_fine (list sizing g) = sizing_fine sizing
+form_fine (list sizing g) = list_fine sizing
 form_fine (choice cases rule) = choice_fine (conditions_of cases) rule
 form_fine (contained sizing g) = sizing_fine sizing
 
@@ -62,8 +62,15 @@ abbrev pub inserted_fine : Option ℕ → Form → Bool
 inserted_fine slot (num leaf) = kind_inserted leaf.kind slot
 inserted_fine slot _ = false
 
+-- a component with a slot is always there, and is an INTEGER, BOOLEAN or ENUMERATED
+abbrev pub own_fine : Option ℕ → Presence → Form → Bool
+own_fine None presence form = true
+own_fine (Some s) Always form = inserted_fine (Some s) form
+own_fine (Some s) Bit form = false
+own_fine (Some s) (When ts) form = false
+
 abbrev pub role_fine : Role → Form → Bool
-role_fine (a_component name presence) form = presence_fine presence
+role_fine (a_component name presence own) form = presence_fine presence && own_fine own presence form
 role_fine (an_inserted name slot) form = inserted_fine slot form
 role_fine _ form = true
 
@@ -80,7 +87,7 @@ same_numbers = same_name
 abbrev pub names_open : Stand → Bool
 names_open at = list_all (holds at.around) (map slot_of (uses at))
 
--- the slots of inserted fields in preorder
+-- the slots in preorder of their fields
 abbrev pub slots_of : List Stand → List ℕ
 slots_of nodes = filter_map (λ at. slot_here at.role) nodes
 
@@ -91,6 +98,11 @@ is_slot s (Some t) = nat_eq t s
 
 abbrev pub is_about : ℕ → Stand → Bool
 is_about s at = is_slot s (slot_here at.role) || list_any (nat_eq s) (map slot_of (uses at))
+
+-- the slot of a component has a use: another node is about it
+abbrev pub own_used : List Stand → Role → Bool
+own_used all (a_component name presence (Some s)) = nat_lt 1 (count_by (is_about s) all)
+own_used all _ = true
 
 abbrev pub is_seq : Form → Bool
 is_seq (seq _ home) = true
@@ -109,11 +121,15 @@ near_if Always ss = ss
 near_if Bit ss = []
 near_if (When ts) ss = []
 
+abbrev pub slot_list : Option ℕ → List ℕ
+slot_list None = []
+slot_list (Some s) = s ∷ []
+
 -- the slots whose fields stand in a SEQUENCE itself, or in SEQUENCEs that are always there
 abbrev mutual
   pub near : Fields → List ℕ
   near no_fields = []
-  near (component name g presence default fs) = near_if presence (near_node g) ++ near fs
+  near (component name g presence default own fs) = slot_list own ++ (near_if presence (near_node g) ++ near fs)
   near (inserted name g None fs) = near fs
   near (inserted name g (Some s) fs) = s ∷ near fs
 
@@ -135,6 +151,7 @@ stand_rules all at =
     ∷ is_align at.align
     ∷ form_fine at.form
     ∷ role_fine at.role at.form
+    ∷ own_used all at.role
     ∷ names_open at
     ∷ home_fine all at at.form
     ∷ []

@@ -42,7 +42,7 @@ data_of = fold-Value Data value_step
 
 -- a field as it is put in front of others
 pub data OneField : Type 0 where
-  a_component : (name : List ℕ) → Grammar → Presence → (default : Option (List ℕ)) → OneField
+  a_component : (name : List ℕ) → Grammar → Presence → (default : Option (List ℕ)) → (slot : Option ℕ) → OneField
   an_inserted : (name : List ℕ) → Grammar → (slot : Option ℕ) → OneField
 
 pub record OneAlternative : Type 0 where
@@ -51,7 +51,7 @@ pub record OneAlternative : Type 0 where
   pub tests : List Test
 
 abbrev pub with_field : OneField → Fields → Fields
-with_field (a_component name g presence default) fs = component name g presence default fs
+with_field (a_component name g presence default own) fs = component name g presence default own fs
 with_field (an_inserted name g slot) fs = inserted name g slot fs
 
 abbrev pub fields_of : List OneField → Fields
@@ -73,7 +73,7 @@ body_step (Body-F.Choice c) = c
 body_step (Body-F.Contained s g) = contained s g
 
 abbrev pub field_step : Field-F Form OneField OneAlternative Form Grammar Form → OneField
-field_step (Field-F.Component name g presence default) = a_component name g presence default
+field_step (Field-F.Component name g presence default own) = a_component name g presence default own
 field_step (Field-F.Inserted name g slot) = an_inserted name g slot
 
 abbrev pub alternative_step : Alternative-F Form OneField OneAlternative Form Grammar Form → OneAlternative

@@ -6,14 +6,14 @@ use Rattle.acn_grammar.specs.declared.node.Presence.TheVariants.{When}
 use Rattle.acn_grammar.specs.declared.node.Test.{Test}
 use Rattle.acn_grammar.specs.declared.node.Test.TheVariants.{Flag, Equals}
 use Rattle.acn_grammar.specs.declared.node.SizeRule.{SizeRule}
-use Rattle.acn_grammar.specs.declared.node.SizeRule.TheVariants.{Prefix, Slot}
+use Rattle.acn_grammar.specs.declared.node.SizeRule.TheVariants.{Prefix, Slot, Ended}
 use Rattle.acn_grammar.specs.declared.node.ChoiceRule.{ChoiceRule}
 use Rattle.acn_grammar.specs.declared.node.ChoiceRule.TheVariants.{Item}
 
 -- where a node stands in the one above it
 pub data Role : Type 0 where
   root_node : Role
-  a_component : (name : List ℕ) → Presence → Role
+  a_component : (name : List ℕ) → Presence → (slot : Option ℕ) → Role
   an_inserted : (name : List ℕ) → (slot : Option ℕ) → Role
   an_alternative : (name : List ℕ) → List Test → Role
   an_element : Role
@@ -40,7 +40,7 @@ abbrev mutual
 
   pub field_nodes : List ℕ → List ℕ → ℕ → Fields → List Stand
   field_nodes path around k no_fields = []
-  field_nodes path around k (component name g presence default fs) = nodes (a_component name presence) (path ++ k ∷ []) around g ++ field_nodes path around (suc k) fs
+  field_nodes path around k (component name g presence default own fs) = nodes (a_component name presence own) (path ++ k ∷ []) around g ++ field_nodes path around (suc k) fs
   field_nodes path around k (inserted name g slot fs) = nodes (an_inserted name slot) (path ++ k ∷ []) around g ++ field_nodes path around (suc k) fs
 
   pub alternative_nodes : List ℕ → List ℕ → ℕ → Alternatives → List Stand
@@ -72,13 +72,14 @@ presence_tests (When ts) = ts
 presence_tests _ = []
 
 abbrev pub own_tests : Role → List Test
-own_tests (a_component name presence) = presence_tests presence
+own_tests (a_component name presence own) = presence_tests presence
 own_tests (an_alternative name ts) = ts
 own_tests _ = []
 
 abbrev pub rule_uses : SizeRule → List Use
 rule_uses (Slot s) = size_of s ∷ []
 rule_uses (Prefix low width) = []
+rule_uses (Ended p) = []
 
 abbrev pub choice_uses : ChoiceRule → List Use
 choice_uses (Item s) = item_of s ∷ []
@@ -96,6 +97,12 @@ form_uses _ = []
 abbrev pub uses : Stand → List Use
 uses at = map condition (own_tests at.role) ++ form_uses at.form
 
+-- the slot whose number this field says
 abbrev pub slot_here : Role → Option ℕ
 slot_here (an_inserted name slot) = slot
+slot_here (a_component name presence own) = own
 slot_here _ = None
+
+abbrev pub inserted_slot : Role → Option ℕ
+inserted_slot (an_inserted name slot) = slot
+inserted_slot _ = None

@@ -2,7 +2,7 @@ use acn_num::{NoMemory, Path, Row};
 use std::alloc::{AllocError, AllocFailed};
 
 /// What keeps a grammar from being decoded: a path has child numbers from the root, in a list 0.
-/// `det` is the inserted field of a slot, `user` the node that uses it. The rules are this profile's own.
+/// `det` is the field of a slot, `user` the node that uses it. The rules are this profile's own.
 #[derive(Debug, Drop)]
 pub enum CheckFault {
     /// The determinant stands behind its use.
@@ -15,7 +15,7 @@ pub enum CheckFault {
         user: Path,
         det: Path,
     },
-    /// The codes of the determinant don't all have one width of at most 64 bits.
+    /// The codes of an inserted determinant don't all have one width of at most 64 bits.
     DetWidth {
         det: Path,
     },
@@ -60,6 +60,10 @@ pub enum CheckFault {
     /// The greatest number of values of a packet is over 1,048,576.
     TooManyValues {
         count: u64,
+    },
+    /// The first bits of an element can be the pattern that ends the list, or can't be told from it.
+    TerminatorAmbiguous {
+        list: Path,
     },
     /// Memory ran out.
     NoMemory,

@@ -28,7 +28,7 @@ pub enum UnfitReason {
     TerminatorInside {
         index: u64,
     },
-    /// No permitted number of the inserted field at the path `slot` meets what is wanted and what was asked before it.
+    /// No permitted number of the field at the path `slot` meets what is wanted and what was asked before it.
     /// `earlier` is the `Equal` before it that contradicts it, else the `Avoid` that does.
     Conflict {
         slot: Path,

@@ -1,12 +1,14 @@
 -- A tree without a fault is scoped: the prefix law holds of each node in it.
-use Rattle.std.proofs.Common.{ℕ, zero, suc, false, List, [], ◌∷◌, ◌++◌, length, map, Some, None, refl, ap, ◌∙◌, nat_eq, ◌&&◌}
+use Rattle.std.proofs.Common.{◌≡◌, ℕ, zero, suc, Bool, false, List, [], ◌∷◌, ◌++◌, length, map, Option, Some, None, refl, sym, subst, ap, ◌∙◌, nat_eq, ◌&&◌}
 use Rattle.std.specs.Prelude.{slice_get, nat_lt}
 use Rattle.std.specs.List.{list_any}
 use Rattle.acn_grammar.specs.Asks.{same_name}
-use Rattle.acn_grammar.specs.Check.{CheckFault, Undecodable, conditions_of}
+use Rattle.acn_grammar.specs.Check.{CheckFault, terminator_ambiguous, EndAmbiguous, Undecodable, conditions_of}
 use Rattle.acn_grammar.specs.Grammar.{Grammar, Fields, Alternatives, node, num, octets, bits, text, seq, list, choice, contained, no_fields, component, inserted, no_alternatives, alternative}
-use Rattle.acn_grammar.specs.Leaves.{all_differ}
-use Rattle.acn_grammar.specs.Scoped.{Known, with_slot, TestsIn, choose_known, after, tests_at, Scoped, FieldsScoped, AlternativesScoped}
+use Rattle.acn_grammar.specs.Leaves.{all_differ, sizes_fine, list_rule_fine}
+use Rattle.acn_grammar.specs.Length.{ending}
+use Rattle.acn_grammar.specs.declared.node.Sizing.{Sizing}
+use Rattle.acn_grammar.specs.Scoped.{Known, with_slot, TestsIn, choose_known, with_own, EndTold, after, tests_at, Scoped, FieldsScoped, AlternativesScoped}
 use Rattle.acn_grammar.specs.Tree.{IsTree, has_tests, choice_rule_fine}
 use Rattle.acn_grammar.specs.Walk.{Stand, Role, a_component, an_inserted, an_alternative, an_element, a_content, root_node, nodes, nodes_of, form_nodes, field_nodes, alternative_nodes}
 use Rattle.acn_grammar.specs.declared.node.ChoiceRule.TheVariants.{Index, Tests, Item}
@@ -17,7 +19,7 @@ use Rattle.acn_laws.proofs.Scoping.{At, FieldsAt, CasesAt, numbers, rules, Knows
 
 module _ (root : Grammar) (tree : IsTree root) (sound : (f : CheckFault) → Undecodable root f → ⊥) where
   -- each alternative's conditions name known slots
-  tests_known : (cases : Alternatives) (pre : List Stand) (path around : List ℕ) (k : ℕ) (post : List Stand) → CasesAt root tree sound pre path around k cases post → (ks : Known) → Knows ks pre around (alternative_nodes path around k cases) → (i : ℕ) → TestsIn ks (tests_at cases i)
+  pub tests_known : (cases : Alternatives) (pre : List Stand) (path around : List ℕ) (k : ℕ) (post : List Stand) → CasesAt root tree sound pre path around k cases post → (ks : Known) → Knows ks pre around (alternative_nodes path around k cases) → (i : ℕ) → TestsIn ks (tests_at cases i)
   tests_known no_alternatives pre path around k post p ks knows i = tt
   tests_known (alternative name g tests more) pre path around k post p ks knows zero =
       tests_in ks tests (own_known root tree sound pre (an_alternative name tests) (path ++ k ∷ []) around g (alternative_nodes path around (suc k) more ++ post) (first_case (nodes_of root) (numbers root tree sound) (rules root tree sound) pre path around k name g tests more post p) ks
@@ -26,6 +28,22 @@ module _ (root : Grammar) (tree : IsTree root) (sound : (f : CheckFault) → Und
       tests_known more (pre ++ nodes (an_alternative name tests) (path ++ k ∷ []) around g) path around (suc k) post (next_case (nodes_of root) (numbers root tree sound) (rules root tree sound) pre path around k name g tests more post p) ks
       (knows_right root tree sound ks pre around (nodes (an_alternative name tests) (path ++ k ∷ []) around g) (alternative_nodes path around (suc k) more)
       (λ s o h. p.none s o (any_left (field_is s) (nodes (an_alternative name tests) (path ++ k ∷ []) around g) (alternative_nodes path around (suc k) more) h)) knows) i
+
+  -- no element begins with the pattern that ends its list
+  pub end_told : (pre : List Stand) (role : Role) (path around : List ℕ) (align : ℕ) (sizing : Sizing) (g : Grammar) (post : List Stand) → At root tree sound pre role path around (node align (list sizing g)) post
+      → (end : Option (List Bool)) → ending sizing.rule ≡ end → EndTold end sizing.sizes g
+  end_told pre role path around align sizing g post p None e = tt
+  end_told pre role path around align sizing g post p (Some end) e =
+      let here = here_at role path around align (list sizing g) in
+      let fine = (place_fine (nodes_of root) (numbers root tree sound) (rules root tree sound) pre role path around align (list sizing g) post p).form in
+      record {
+        fine = (both_are (sizes_fine sizing.sizes) (list_rule_fine (ending sizing.rule) sizing) fine).0;
+        told = λ ambiguous. sound (terminator_ambiguous path) (
+              length pre,
+              0,
+              (here, ap (λ l. slice_get l (length pre)) p.whole ∙ get_here pre here (form_nodes path around (list sizing g) ++ post), refl, subst (λ (o : Option (List Bool)). EndAmbiguous o g) (sym e) ambiguous),
+            );
+      }
 
   mutual
     pub scoped : (g : Grammar) (pre : List Stand) (role : Role) (path around : List ℕ) (post : List Stand) → At root tree sound pre role path around g post → (ks : Known) → Knows ks pre around (nodes role path around g) → Scoped root ks g
@@ -41,6 +59,7 @@ module _ (root : Grammar) (tree : IsTree root) (sound : (f : CheckFault) → Und
     scoped (node align (list sizing g)) pre role path around post p ks knows = (
       rule_in ks sizing.rule (form_known root tree sound pre role path around align (list sizing g) post p ks knows),
       scoped g (pre ++ here_at role path around align (list sizing g) ∷ []) an_element (path ++ 0 ∷ []) around post (to_one (nodes_of root) (numbers root tree sound) (rules root tree sound) pre role path around align (list sizing g) post an_element (path ++ 0 ∷ []) g refl refl p) ks (step_in root tree sound pre role path around align (list sizing g) post p refl ks knows),
+      end_told pre role path around align sizing g post p (ending sizing.rule) refl,
     )
     scoped (node align (contained sizing g)) pre role path around post p ks knows = (
       rule_in ks sizing.rule (form_known root tree sound pre role path around align (contained sizing g) post p ks knows),
@@ -71,14 +90,14 @@ module _ (root : Grammar) (tree : IsTree root) (sound : (f : CheckFault) → Und
 
     scoped_fields : (fs : Fields) (pre : List Stand) (path around : List ℕ) (k : ℕ) (post : List Stand) → FieldsAt root tree sound pre path around k fs post → (ks : Known) → Knows ks pre around (field_nodes path around k fs) → FieldsScoped root ks fs
     scoped_fields no_fields pre path around k post p ks knows = tt
-    scoped_fields (component name g presence default fs) pre path around k post p ks knows =
-        let a = nodes (a_component name presence) (path ++ k ∷ []) around g in
+    scoped_fields (component name g presence default own fs) pre path around k post p ks knows =
+        let a = nodes (a_component name presence own) (path ++ k ∷ []) around g in
         let b = field_nodes path around (suc k) fs in
-        let first = first_component (nodes_of root) (numbers root tree sound) (rules root tree sound) pre path around k name g presence default fs post p in
+        let first = first_component (nodes_of root) (numbers root tree sound) (rules root tree sound) pre path around k name g presence default own fs post p in
         let knows' = knows_left root tree sound ks pre around a b knows in (
-          presence_in ks presence (own_known root tree sound pre (a_component name presence) (path ++ k ∷ []) around g (b ++ post) first ks knows'),
-          scoped g pre (a_component name presence) (path ++ k ∷ []) around (b ++ post) first ks knows',
-          scoped_fields fs (pre ++ a) path around (suc k) post (next_component (nodes_of root) (numbers root tree sound) (rules root tree sound) pre path around k name g presence default fs post p) (choose_known presence ks (after ks g)) (component_behind root tree sound pre path around k name g presence default fs post p ks knows),
+          presence_in ks presence (own_known root tree sound pre (a_component name presence own) (path ++ k ∷ []) around g (b ++ post) first ks knows'),
+          scoped g pre (a_component name presence own) (path ++ k ∷ []) around (b ++ post) first ks knows',
+          scoped_fields fs (pre ++ a) path around (suc k) post (next_component (nodes_of root) (numbers root tree sound) (rules root tree sound) pre path around k name g presence default own fs post p) (choose_known presence ks (with_own own (after ks g))) (component_behind root tree sound pre path around k name g presence default own fs post p ks knows),
         )
     scoped_fields (inserted name g (Some t) fs) pre path around k post p ks knows = (
       inserted_is root tree sound pre path around k name g (Some t) fs post p,

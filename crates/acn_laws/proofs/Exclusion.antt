@@ -9,7 +9,7 @@ use Rattle.acn_grammar.specs.Grammar.{Grammar, Data, Elements, no_elements, elem
 use Rattle.acn_grammar.specs.Scoped.{Known, Agree, RuleIn}
 use Rattle.acn_grammar.specs.Spell.{Part, ◌then◌, Where, RulePart, SizePart, RunPart}
 use Rattle.acn_grammar.specs.declared.node.SizeRule.{SizeRule}
-use Rattle.acn_grammar.specs.declared.node.SizeRule.TheVariants.{Prefix, Slot}
+use Rattle.acn_grammar.specs.declared.node.SizeRule.TheVariants.{Prefix, Slot, Ended}
 use Rattle.acn_grammar.specs.declared.node.Sizing.{Sizing}
 use Rattle.acn_grammar.proofs.Prefix.{Law, same_front}
 use Rattle.acn_laws.proofs.PrefixNodes.{rule_law, given_law}
@@ -103,6 +103,7 @@ module _ (root : Grammar) where
       let over = p.given in
       let is : low + number (take width (a ++ r)) ≡ n = ap (λ x. low + number x) (take_n width a r p.spelled.width) ∙ omega arith in
       f.1 (subst (λ (x : ℕ). In sizing.sizes (pos x)) (sym is) inside)
+  rule_excl here sizing (Ended end) ks known env env' same n inside at a r fault reach p f = f
   rule_excl here sizing (Slot s) ks known env env' same n inside at a r fault reach p f =
       let is : pos n ≡ f.0 = some_one (pos n) f.0 (sym p.0 ∙ (same s known ∙ f.1)) in
       f.2 (subst (λ (x : ℤ). In sizing.sizes x) is inside)
@@ -112,6 +113,7 @@ module _ (root : Grammar) where
   rule_same here sizing (Prefix low width) ks known env env' same at rest f g m n (inl p) (inr q) = let a = p.0 in let b = q.0 in absurd (omega arith)
   rule_same here sizing (Prefix low width) ks known env env' same at rest f g m n (inr p) (inl q) = let a = p.0 in let b = q.0 in absurd (omega arith)
   rule_same here sizing (Prefix low width) ks known env env' same at rest f g m n (inr p) (inr q) = (p.2 ∙ sym q.2, p.3 ∙ sym q.3)
+  rule_same here sizing (Ended end) ks known env env' same at rest f g m n p q = absurd p
   rule_same here sizing (Slot s) ks known env env' same at rest f g m n p q =
       let is : p.0 ≡ q.0 = some_one p.0 q.0 (sym p.1 ∙ (same s known ∙ q.1)) in
       (p.3 ∙ (ap (λ x. record { path = here.path; reason = seen here.inside (size_out_of_range (kept x)); at = here.place }) is ∙ sym q.3), p.4 ∙ sym q.4)

@@ -1,6 +1,6 @@
 -- Where there is a fault one comes first.
 use Rattle.std.proofs.Common.{◌≡◌, ℕ, zero, suc, ◌<◌, List, [], ◌∷◌, length, refl, sym, arith, inl, inr, subst}
-use Rattle.acn_grammar.specs.Check.{CheckFault, forward, det_kind, det_width, overlap, absent_unclear, unused, no_item, mixed_choice, too_long, too_many_open, too_many_conditions, too_many_values, Evidence, rank, Before, FirstFault}
+use Rattle.acn_grammar.specs.Check.{CheckFault, forward, det_kind, det_width, overlap, absent_unclear, unused, no_item, mixed_choice, too_long, too_many_open, too_many_conditions, too_many_values, terminator_ambiguous, Evidence, rank, Before, FirstFault}
 use Rattle.acn_grammar.specs.Grammar.{Grammar}
 use Rattle.acn_laws.specs.Laws.{NoFaultWithoutAFirst}
 
@@ -29,7 +29,7 @@ module _ (root : Grammar) where
       earlier y rest first second (z ∷ q) m (inl h) = first z h q (omega arith)
       earlier y rest first second (z ∷ q) m (inr h) = subst (λ w. P (w ∷ q)) (sym h.0) (second q (omega arith) h.1)
 
-  five : (f : CheckFault) (k u : ℕ) → length (rank root f k u) ≡ 5
+  pub five : (f : CheckFault) (k u : ℕ) → length (rank root f k u) ≡ 5
   five (forward user det) k u = refl
   five (det_kind user det) k u = refl
   five (det_width det) k u = refl
@@ -42,6 +42,7 @@ module _ (root : Grammar) where
   five (too_many_open path n) k u = refl
   five (too_many_conditions det n) k u = refl
   five (too_many_values n) k u = refl
+  five (terminator_ambiguous path) k u = refl
 
   abbrev NoneAt : List ℕ → Type 0
   NoneAt r = (f : CheckFault) (k u : ℕ) → rank root f k u ≡ r → Evidence root f k u → ⊥

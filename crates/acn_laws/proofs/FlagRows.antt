@@ -70,8 +70,8 @@ absent_written = record {
       count = refl;
       permitted = (refl, (refl, tt));
       least = λ _. (
-        record { answers = record { permitted = refl; meets = ((λ _. refl), tt) }; first = λ y a. least_zero y (pos 1) a.permitted },
-        (record { answers = record { permitted = refl; meets = ((λ e. cc), tt) }; first = λ y a. least_zero y (pos 255) a.permitted }, tt),
+        record { answers = record { permitted = refl; meets = (refl, tt) }; first = λ y a. least_zero y (pos 1) a.permitted },
+        (record { answers = record { permitted = refl; meets = tt }; first = λ y a. least_zero y (pos 255) a.permitted }, tt),
       );
     };
     spelled = record {

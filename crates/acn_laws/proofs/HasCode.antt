@@ -65,7 +65,7 @@ least_of p n h = search_from p n 1 (λ m q r. absurd (omega arith)) (omega arith
 
 -- Counted numbers.
 
-counted_code : (k : ℕ) → k < 2 ^ 64 → (bs : List Bool) × Counted (λ c body. IsNumber (8 * c) k body) bs
+pub counted_code : (k : ℕ) → k < 2 ^ 64 → (bs : List Bool) × Counted (λ c body. IsNumber (8 * c) k body) bs
 counted_code k h =
     let l = least_of (λ c. nat_lt k (2 ^ (8 * c))) 7 (lt_true k (2 ^ 64) h) in
     let few = l.least 8 (omega arith) (lt_true k (2 ^ 64) h) in
@@ -86,7 +86,7 @@ counted_code k h =
     below : (c : ℕ) (other : List Bool) → IsNumber (8 * c) k other → k < 2 ^ (8 * c)
     below c other s = rw (← s.width, ← s.value) (number-below other)
 
-counted_signed_code : (y : ℤ) → fits_octets y 8 ≡ true → (bs : List Bool) × Counted (λ c body. IsSigned (8 * c) y body) bs
+pub counted_signed_code : (y : ℤ) → fits_octets y 8 ≡ true → (bs : List Bool) × Counted (λ c body. IsSigned (8 * c) y body) bs
 counted_signed_code y h =
     let l = least_of (fits_octets y) 7 h in
     let few = l.least 8 (omega arith) h in
@@ -140,7 +140,7 @@ reverse-back [] = refl
 reverse-back (x ∷ xs) = ap reverse (reverse-append (x ∷ []) xs) ∙ (reverse-append (reverse xs) (x ∷ []) ∙ ap (λ l. x ∷ l) (reverse-back xs))
 
 -- bits whose octets stand the other way round
-swapped : (k : ℕ) (bs : List Bool) → length bs ≡ 8 * k → (length (in_order true bs) ≡ length bs) × (in_order true (in_order true bs) ≡ bs)
+pub swapped : (k : ℕ) (bs : List Bool) → length bs ≡ 8 * k → (length (in_order true bs) ≡ length bs) × (in_order true (in_order true bs) ≡ bs)
 swapped k bs l =
     let o = octets_of k bs l in
     let back = octets-reverse (in_octets bs) o.1 in
@@ -150,7 +150,7 @@ swapped k bs l =
     let four = length-reverse (in_octets bs) in
     (omega arith, ap (λ os. flat_map (λ x. x) (reverse os)) (in_flat (reverse (in_octets bs)) back) ∙ (ap (flat_map (λ x. x)) (reverse-back (in_octets bs)) ∙ o.0))
 
-eight_of : (n : ℕ) → nat_eq (n % 8) 0 ≡ true → n ≡ 8 * (n / 8)
+pub eight_of : (n : ℕ) → nat_eq (n % 8) 0 ≡ true → n ≡ 8 * (n / 8)
 eight_of n h = let e = equal_numbers (n % 8) 0 h in omega arith
 
 -- bits that stand for these in either order
@@ -160,7 +160,7 @@ ordered true n bs l h =
     let w = swapped (n / 8) bs (l ∙ eight_of n (h refl)) in
     (in_order true bs, w.0 ∙ l, w.1)
 
-implied : (little b : Bool) → implies little b ≡ true → little ≡ true → b ≡ true
+pub implied : (little b : Bool) → implies little b ≡ true → little ≡ true → b ≡ true
 implied true b h e = h
 implied false b h e = cc
 

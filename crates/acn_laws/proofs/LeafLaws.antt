@@ -30,7 +30,7 @@ use Rattle.acn_grammar.proofs.Within.{image_has, between}
 le_nat : (a b : ℕ) → nat_le a b ≡ true → a ≤ b
 le_nat a b h = grind (arith, nat_tests)
 
-coded_nibbles : Coded nibbles 4 (low_bits 4 15)
+pub coded_nibbles : Coded nibbles 4 (low_bits 4 15)
 coded_nibbles = record {
   one = λ d. low_bits 4 d;
   none = refl;
@@ -41,7 +41,7 @@ coded_nibbles = record {
   wide = omega arith;
 }
 
-coded_octets : (end : List Bool) → (is_terminator end && not (begins_number (octet_numbers end))) ≡ true → Coded digit_octets 8 end
+pub coded_octets : (end : List Bool) → (is_terminator end && not (begins_number (octet_numbers end))) ≡ true → Coded digit_octets 8 end
 coded_octets end h =
     let w = both_are (is_terminator end) (not (begins_number (octet_numbers end))) h in
     let t = both_are (is_pattern end) (nat_eq (length end % 8) 0) w.0 in

@@ -21,7 +21,7 @@ behind_same n m a b h e =
     let front : length (take n b) ≡ n = omega (arith, length-take n b) in
     let back : m ≤ length (drop n b) = omega (arith, length-drop n b) in
     let wide : take (length (take n b) + m) a ≡ take (length (take n b) + m) (take n b ++ drop n b) = rw (front, take-append-drop n b) e in
-    let p = split_other (take n b) (drop n b) a m back wide in
+    let p = split_other (take n b) (drop n b) a m wide in
     ap (λ k. take m (drop k a)) (sym front) ∙ p.1
 
 fixed_steady : (coding : NumCoding) (leaf : NumLeaf) (width : ℕ) → Holds (FixedFails coding leaf width)
@@ -136,7 +136,7 @@ ended_steady leaf code size end most IsValue w rest r reach t s =
       omega arith,
       λ other e.
           let wide : take (length (code t.digits) + t.more) other ≡ take (length (code t.digits) + t.more) (code t.digits ++ t.behind) = rw (← t.reaches, ← t.whole) e in
-          let p = split_other (code t.digits) t.behind other t.more m wide in
+          let p = split_other (code t.digits) t.behind other t.more wide in
           record { digits = t.digits; behind = drop (length (code t.digits)) other; whole = p.0; are = t.are; few = t.few; more = t.more; fails = c.1 (drop (length (code t.digits)) other) p.1; reaches = t.reaches },
     )
 

@@ -6,16 +6,17 @@ use Rattle.std.proofs.lemmas.Bool.Decides.{nat_tests}
 use Rattle.acn_num.specs.Ranges.{In, has}
 use Rattle.acn_grammar.specs.Check.{CheckFault, det_width, Undecodable, HasWidth}
 use Rattle.acn_grammar.specs.Code.{Any}
-use Rattle.acn_grammar.specs.Grammar.{Grammar, Fields, Alternatives, node, num, octets, bits, text, seq, list, choice, contained, no_fields, component, inserted, no_alternatives, alternative}
+use Rattle.acn_grammar.specs.Grammar.{Grammar, Form, Fields, Alternatives, node, num, octets, bits, text, seq, list, choice, contained, no_fields, component, inserted, no_alternatives, alternative}
 use Rattle.acn_laws.specs.Laws.{LengthsAreTold, EachLengthIsTold}
 use Rattle.acn_grammar.specs.Leaves.{num_fine, is_range, no_items}
 use Rattle.acn_grammar.specs.Length.{num_length, least}
 use Rattle.acn_grammar.specs.Slots.{slot_leaf, fields_leaf, alternatives_leaf, number_leaf, first_of_two, is_slot as if_slot}
-use Rattle.acn_grammar.specs.Tree.{IsTree, is_slot, kind_inserted}
+use Rattle.acn_grammar.specs.Tree.{IsTree, is_slot, kind_inserted, form_fine, own_fine, presence_fine}
 use Rattle.acn_grammar.specs.Walk.{Stand, Role, a_component, an_inserted, an_alternative, an_element, a_content, root_node, nodes, nodes_of, form_nodes, field_nodes, alternative_nodes, slot_here}
 use Rattle.acn_grammar.specs.declared.node.NumKind.{NumKind}
 use Rattle.acn_grammar.specs.declared.node.NumKind.TheVariants.{Integer, Boolean, Enumerated, Null}
 use Rattle.acn_grammar.specs.declared.node.NumLeaf.{NumLeaf}
+use Rattle.acn_grammar.specs.declared.node.Presence.{Presence}
 use Rattle.acn_laws.proofs.Codes.{each_number_has_a_code, set_ordered, range_within}
 use Rattle.acn_grammar.proofs.Codings.{both_are, equal_numbers}
 use Rattle.acn_grammar.proofs.FineLeaves.{rules_of}
@@ -23,7 +24,7 @@ use Rattle.acn_laws.proofs.HasImage.{Ordered}
 use Rattle.acn_grammar.proofs.LeafLengths.{code-length}
 use Rattle.acn_laws.proofs.LengthLaw.{length_law}
 use Rattle.acn_laws.proofs.NodeLaws.{in_either, some_one, accepted_sound}
-use Rattle.acn_laws.proofs.Placed.{here_at, place_fine, to_fields, to_one, to_cases, first_component, next_component, first_inserted, next_inserted, first_case, next_case, any_left, any_right, field_is, has_field, root_place, parts_apart, or_left, or_right}
+use Rattle.acn_laws.proofs.Placed.{here_at, place_fine, to_fields, to_one, to_cases, first_component, next_component, first_inserted, next_inserted, first_case, next_case, any_left, any_right, field_is, has_field, root_place, parts_apart, or_left, or_right, own_number, is_number, slot_in}
 use Rattle.acn_laws.proofs.Scoping.{At, FieldsAt, CasesAt, numbers, rules, get_here, inserted_is, false_from, same_eq}
 use Rattle.acn_grammar.proofs.SpellLength.{OneWidth, Steady, SteadyLeaf, SteadyFields, SteadyAlternatives}
 
@@ -39,7 +40,15 @@ none_of_two x y p q = rw (p, q) refl
 if_other : (t s : ℕ) (a b : Option NumLeaf) → nat_eq t s ≡ false → if_slot (Some t) s a b ≡ b
 if_other t s a b e = rw e refl
 
-if_same : (t : ℕ) (a b : Option NumLeaf) → if_slot (Some t) t a b ≡ a
+own_other : (own : Option ℕ) (s : ℕ) (a b : Option NumLeaf) → is_slot s own ≡ false → if_slot own s a b ≡ b
+own_other None s a b e = refl
+own_other (Some t) s a b e = if_other t s a b e
+
+-- where a node has no field of the slot, it isn't the field itself
+not_here : (role : Role) (path around : List ℕ) (g : Grammar) (s : ℕ) → has_field s (nodes role path around g) ≡ false → is_slot s (slot_here role) ≡ false
+not_here role path around (node align form) s h = (neither (is_slot s (slot_here role)) (has_field s (form_nodes path around form)) h).0
+
+pub if_same : (t : ℕ) (a b : Option NumLeaf) → if_slot (Some t) t a b ≡ a
 if_same t a b = rw (same_eq t) refl
 
 none_left : (s : ℕ) (a b : List Stand) → has_field s (a ++ b) ≡ false → has_field s a ≡ false
@@ -49,7 +58,7 @@ none_right : (s : ℕ) (a b : List Stand) → has_field s (a ++ b) ≡ false →
 none_right s a b h = false_from (has_field s b) (λ q. let e = any_right (field_is s) a b q in cc)
 
 mutual
-  no_leaf : (g : Grammar) (role : Role) (path around : List ℕ) (s : ℕ) → has_field s (nodes role path around g) ≡ false → slot_leaf g s ≡ None
+  pub no_leaf : (g : Grammar) (role : Role) (path around : List ℕ) (s : ℕ) → has_field s (nodes role path around g) ≡ false → slot_leaf g s ≡ None
   no_leaf (node align (seq fields home)) role path around s h = no_fields_leaf fields path (home ++ around) 0 s (neither (is_slot s (slot_here role)) (has_field s (field_nodes path (home ++ around) 0 fields)) h).1
   no_leaf (node align (list sizing g)) role path around s h = no_leaf g an_element (path ++ 0 ∷ []) around s (neither (is_slot s (slot_here role)) (has_field s (nodes an_element (path ++ 0 ∷ []) around g)) h).1
   no_leaf (node align (contained sizing g)) role path around s h = no_leaf g a_content (path ++ 0 ∷ []) around s (neither (is_slot s (slot_here role)) (has_field s (nodes a_content (path ++ 0 ∷ []) around g)) h).1
@@ -59,12 +68,13 @@ mutual
   no_leaf (node align (bits sizing)) role path around s h = refl
   no_leaf (node align (text leaf)) role path around s h = refl
 
-  no_fields_leaf : (fs : Fields) (path around : List ℕ) (k s : ℕ) → has_field s (field_nodes path around k fs) ≡ false → fields_leaf fs s ≡ None
+  pub no_fields_leaf : (fs : Fields) (path around : List ℕ) (k s : ℕ) → has_field s (field_nodes path around k fs) ≡ false → fields_leaf fs s ≡ None
   no_fields_leaf no_fields path around k s h = refl
-  no_fields_leaf (component name g presence default fs) path around k s h =
-      let a = nodes (a_component name presence) (path ++ k ∷ []) around g in
+  no_fields_leaf (component name g presence default own fs) path around k s h =
+      let a = nodes (a_component name presence own) (path ++ k ∷ []) around g in
       let b = field_nodes path around (suc k) fs in
-      none_of_two (slot_leaf g s) (fields_leaf fs s) (no_leaf g (a_component name presence) (path ++ k ∷ []) around s (none_left s a b h)) (no_fields_leaf fs path around (suc k) s (none_right s a b h))
+      own_other own s (number_leaf g) (first_of_two (slot_leaf g s) (fields_leaf fs s)) (not_here (a_component name presence own) (path ++ k ∷ []) around g s (none_left s a b h))
+      ∙ none_of_two (slot_leaf g s) (fields_leaf fs s) (no_leaf g (a_component name presence own) (path ++ k ∷ []) around s (none_left s a b h)) (no_fields_leaf fs path around (suc k) s (none_right s a b h))
   no_fields_leaf (inserted name g None fs) path around k s h =
       let a = nodes (an_inserted name None) (path ++ k ∷ []) around g in
       let b = field_nodes path around (suc k) fs in
@@ -76,7 +86,7 @@ mutual
       if_other t s (number_leaf (node align form)) (first_of_two (slot_leaf (node align form) s) (fields_leaf fs s)) f.0
       ∙ none_of_two (slot_leaf (node align form) s) (fields_leaf fs s) (no_leaf (node align form) (an_inserted name (Some t)) (path ++ k ∷ []) around s (none_left s a b h)) (no_fields_leaf fs path around (suc k) s (none_right s a b h))
 
-  no_cases_leaf : (cases : Alternatives) (path around : List ℕ) (k s : ℕ) → has_field s (alternative_nodes path around k cases) ≡ false → alternatives_leaf cases s ≡ None
+  pub no_cases_leaf : (cases : Alternatives) (path around : List ℕ) (k s : ℕ) → has_field s (alternative_nodes path around k cases) ≡ false → alternatives_leaf cases s ≡ None
   no_cases_leaf no_alternatives path around k s h = refl
   no_cases_leaf (alternative name g tests more) path around k s h =
       let a = nodes (an_alternative name tests) (path ++ k ∷ []) around g in
@@ -119,29 +129,39 @@ null_width leaf fine k x p =
     same : (x y : ℤ) → pos 0 ≤ℤ x → x ≤ℤ pos 0 → pos 0 ≤ℤ y → y ≤ℤ pos 0 → x ≡ y
     same x y a b c d = omega (arith, ints)
 
-only_null : (k : NumKind) → kind_inserted k None ≡ true → k ≡ Null
+pub only_null : (k : NumKind) → kind_inserted k None ≡ true → k ≡ Null
 only_null Null h = refl
 only_null Integer h = cc
 only_null Boolean h = cc
 only_null Enumerated h = cc
 
+number_steady : (align : ℕ) (form : Form) → is_number form ≡ true → form_fine form ≡ true → Steady (node align form)
+number_steady align (num leaf) n f = f
+number_steady align (octets sizing) n f = cc
+number_steady align (bits sizing) n f = cc
+number_steady align (text leaf) n f = cc
+number_steady align (seq _ home) n f = cc
+number_steady align (list sizing g) n f = cc
+number_steady align (choice cases rule) n f = cc
+number_steady align (contained sizing g) n f = cc
+
 module _ (root : Grammar) (tree : IsTree root) (sound : (f : CheckFault) → Undecodable root f → ⊥) where
   -- the leaf of a slot whose field is among these is the one that is found there
-  abbrev Finds : (nodes' : List Stand) → (ℕ → Option NumLeaf) → Type 0
+  abbrev pub Finds : (nodes' : List Stand) → (ℕ → Option NumLeaf) → Type 0
   Finds nodes' f = (s : ℕ) → has_field s nodes' ≡ true → slot_leaf root s ≡ f s
 
-  finds_first : (a b : List Stand) (f g : ℕ → Option NumLeaf) → ((s : ℕ) → has_field s a ≡ true → has_field s b ≡ true → ⊥) → ((s : ℕ) → has_field s b ≡ false → g s ≡ None) → Finds (a ++ b) (λ s. first_of_two (f s) (g s)) → Finds a f
+  pub finds_first : (a b : List Stand) (f g : ℕ → Option NumLeaf) → ((s : ℕ) → has_field s a ≡ true → has_field s b ≡ true → ⊥) → ((s : ℕ) → has_field s b ≡ false → g s ≡ None) → Finds (a ++ b) (λ s. first_of_two (f s) (g s)) → Finds a f
   finds_first a b f g apart none h s q = h s (any_left (field_is s) a b q) ∙ (ap (first_of_two (f s)) (none s (false_from (has_field s b) (apart s q))) ∙ first_none (f s))
     where
       first_none : (o : Option NumLeaf) → first_of_two o None ≡ o
       first_none None = refl
       first_none (Some x) = refl
 
-  finds_rest : (a b : List Stand) (f g : ℕ → Option NumLeaf) → ((s : ℕ) → has_field s a ≡ true → has_field s b ≡ true → ⊥) → ((s : ℕ) → has_field s a ≡ false → f s ≡ None) → Finds (a ++ b) (λ s. first_of_two (f s) (g s)) → Finds b g
+  pub finds_rest : (a b : List Stand) (f g : ℕ → Option NumLeaf) → ((s : ℕ) → has_field s a ≡ true → has_field s b ≡ true → ⊥) → ((s : ℕ) → has_field s a ≡ false → f s ≡ None) → Finds (a ++ b) (λ s. first_of_two (f s) (g s)) → Finds b g
   finds_rest a b f g apart none h s q = h s (any_right (field_is s) a b q) ∙ ap (λ o. first_of_two o (g s)) (none s (false_from (has_field s a) (λ p. apart s p q)))
 
   -- behind the field of a slot
-  finds_behind : (name : List ℕ) (align : ℕ) (leaf : NumLeaf) (t : ℕ) (fs : Fields) (path around : List ℕ) (b : List Stand) → ((s : ℕ) → nat_eq t s ≡ true → has_field s b ≡ true → ⊥) → Finds (nodes (an_inserted name (Some t)) path around (node align (num leaf)) ++ b) (fields_leaf (inserted name (node align (num leaf)) (Some t) fs)) → Finds b (fields_leaf fs)
+  pub finds_behind : (name : List ℕ) (align : ℕ) (leaf : NumLeaf) (t : ℕ) (fs : Fields) (path around : List ℕ) (b : List Stand) → ((s : ℕ) → nat_eq t s ≡ true → has_field s b ≡ true → ⊥) → Finds (nodes (an_inserted name (Some t)) path around (node align (num leaf)) ++ b) (fields_leaf (inserted name (node align (num leaf)) (Some t) fs)) → Finds b (fields_leaf fs)
   finds_behind name align leaf t fs path around b apart h s q =
       h s (any_right (field_is s) (nodes (an_inserted name (Some t)) path around (node align (num leaf))) b q) ∙ if_other t s (Some leaf) (first_of_two None (fields_leaf fs s)) (false_from (nat_eq t s) (λ p. apart s p q))
 
@@ -160,6 +180,24 @@ module _ (root : Grammar) (tree : IsTree root) (sound : (f : CheckFault) → Und
       let stand = place_fine (nodes_of root) (numbers root tree sound) (rules root tree sound) pre (an_inserted name None) (path ++ k ∷ []) around align (num leaf) (field_nodes path around (suc k) fs ++ post) place in
       (fine, null_width leaf fine (only_null leaf.kind stand.role))
   null_leaf pre path around k name (node align _) fs post p = absurd (inserted_is root tree sound pre path around k name (node align _) None fs post p)
+
+  -- a component that says a slot is a number, whose width is free
+  own_steady : (pre : List Stand) (path around : List ℕ) (k : ℕ) (name : List ℕ) (g : Grammar) (presence : Presence) (default : Option (List ℕ)) (t : ℕ) (fs : Fields) (post : List Stand) → FieldsAt root tree sound pre path around k (component name g presence default (Some t) fs) post → Steady g
+  own_steady pre path around k name (node align form) presence default t fs post p =
+      let place = first_component (nodes_of root) (numbers root tree sound) (rules root tree sound) pre path around k name (node align form) presence default (Some t) fs post p in
+      let fine = place_fine (nodes_of root) (numbers root tree sound) (rules root tree sound) pre (a_component name presence (Some t)) (path ++ k ∷ []) around align form (field_nodes path around (suc k) fs ++ post) place in
+      number_steady align form (own_number (Some t) presence form t (both_are (presence_fine presence) (own_fine (Some t) presence form) fine.role).1 (same_eq t)).1 fine.form
+
+  -- behind it
+  pub own_behind : (pre : List Stand) (path around : List ℕ) (k : ℕ) (name : List ℕ) (g : Grammar) (presence : Presence) (default : Option (List ℕ)) (t : ℕ) (fs : Fields) (post : List Stand) → FieldsAt root tree sound pre path around k (component name g presence default (Some t) fs) post
+      → Finds (field_nodes path around k (component name g presence default (Some t) fs)) (fields_leaf (component name g presence default (Some t) fs)) → Finds (field_nodes path around (suc k) fs) (fields_leaf fs)
+  own_behind pre path around k name g presence default t fs post p h s q =
+      let a = nodes (a_component name presence (Some t)) (path ++ k ∷ []) around g in
+      let b = field_nodes path around (suc k) fs in
+      let apart = parts_apart (nodes_of root) (numbers root tree sound) (rules root tree sound) pre a b post p.whole in
+      h s (any_right (field_is s) a b q)
+      ∙ (if_other t s (number_leaf g) (first_of_two (slot_leaf g s) (fields_leaf fs s)) (false_from (nat_eq t s) (λ e. apart s (slot_in (a_component name presence (Some t)) (path ++ k ∷ []) around g s e) q))
+      ∙ ap (λ o. first_of_two o (fields_leaf fs s)) (no_leaf g (a_component name presence (Some t)) (path ++ k ∷ []) around s (false_from (has_field s a) (λ e. apart s e q))))
 
   mutual
     pub steady : (g : Grammar) (pre : List Stand) (role : Role) (path around : List ℕ) (post : List Stand) → At root tree sound pre role path around g post → Finds (nodes role path around g) (slot_leaf g) → Steady g
@@ -182,14 +220,23 @@ module _ (root : Grammar) (tree : IsTree root) (sound : (f : CheckFault) → Und
 
     steady_fields : (fs : Fields) (pre : List Stand) (path around : List ℕ) (k : ℕ) (post : List Stand) → FieldsAt root tree sound pre path around k fs post → Finds (field_nodes path around k fs) (fields_leaf fs) → SteadyFields fs
     steady_fields no_fields pre path around k post p f = tt
-    steady_fields (component name g presence default fs) pre path around k post p f =
-        let a = nodes (a_component name presence) (path ++ k ∷ []) around g in
+    steady_fields (component name g presence default (Some t) fs) pre path around k post p f =
+        let a = nodes (a_component name presence (Some t)) (path ++ k ∷ []) around g in
         let b = field_nodes path around (suc k) fs in
         let apart = parts_apart (nodes_of root) (numbers root tree sound) (rules root tree sound) pre a b post p.whole in (
-          steady g pre (a_component name presence) (path ++ k ∷ []) around (b ++ post) (first_component (nodes_of root) (numbers root tree sound) (rules root tree sound) pre path around k name g presence default fs post p)
+          own_steady pre path around k name g presence default t fs post p,
+          steady_fields fs (pre ++ a) path around (suc k) post (next_component (nodes_of root) (numbers root tree sound) (rules root tree sound) pre path around k name g presence default (Some t) fs post p)
+              (own_behind pre path around k name g presence default t fs post p f),
+        )
+    steady_fields (component name g presence default None fs) pre path around k post p f =
+        let own : Option ℕ = None in
+        let a = nodes (a_component name presence own) (path ++ k ∷ []) around g in
+        let b = field_nodes path around (suc k) fs in
+        let apart = parts_apart (nodes_of root) (numbers root tree sound) (rules root tree sound) pre a b post p.whole in (
+          steady g pre (a_component name presence own) (path ++ k ∷ []) around (b ++ post) (first_component (nodes_of root) (numbers root tree sound) (rules root tree sound) pre path around k name g presence default own fs post p)
               (finds_first a b (slot_leaf g) (fields_leaf fs) apart (no_fields_leaf fs path around (suc k)) f),
-          steady_fields fs (pre ++ a) path around (suc k) post (next_component (nodes_of root) (numbers root tree sound) (rules root tree sound) pre path around k name g presence default fs post p)
-              (finds_rest a b (slot_leaf g) (fields_leaf fs) apart (no_leaf g (a_component name presence) (path ++ k ∷ []) around) f),
+          steady_fields fs (pre ++ a) path around (suc k) post (next_component (nodes_of root) (numbers root tree sound) (rules root tree sound) pre path around k name g presence default own fs post p)
+              (finds_rest a b (slot_leaf g) (fields_leaf fs) apart (no_leaf g (a_component name presence own) (path ++ k ∷ []) around) f),
         )
     steady_fields (inserted name g None fs) pre path around k post p f =
         let a = nodes (an_inserted name None) (path ++ k ∷ []) around g in
@@ -243,9 +290,9 @@ mutual
 
   steady_fields_at : (fs : Fields) (path around : List ℕ) (k : ℕ) → SteadyFields fs → (n : ℕ) (at : Stand) → slice_get (field_nodes path around k fs) n ≡ Some at → Steady (node at.align at.form)
   steady_fields_at no_fields path around k w n at e = cc
-  steady_fields_at (component name g presence default fs) path around k w n at e =
-      in_either {F = Steady (node at.align at.form)} (nodes (a_component name presence) (path ++ k ∷ []) around g) (field_nodes path around (suc k) fs) n at e
-      (λ h. steady_at g (a_component name presence) (path ++ k ∷ []) around w.0 n at h) (λ m q h. steady_fields_at fs path around (suc k) w.1 m at h)
+  steady_fields_at (component name g presence default own fs) path around k w n at e =
+      in_either {F = Steady (node at.align at.form)} (nodes (a_component name presence own) (path ++ k ∷ []) around g) (field_nodes path around (suc k) fs) n at e
+      (λ h. steady_at g (a_component name presence own) (path ++ k ∷ []) around w.0 n at h) (λ m q h. steady_fields_at fs path around (suc k) w.1 m at h)
   steady_fields_at (inserted name g (Some s) fs) path around k w n at e =
       in_either {F = Steady (node at.align at.form)} (nodes (an_inserted name (Some s)) (path ++ k ∷ []) around g) (field_nodes path around (suc k) fs) n at e
       (λ h. steady_at g (an_inserted name (Some s)) (path ++ k ∷ []) around (steady_leaf g w.0) n at h) (λ m q h. steady_fields_at fs path around (suc k) w.1 m at h)

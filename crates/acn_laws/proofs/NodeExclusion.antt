@@ -4,24 +4,29 @@ use Rattle.std.specs.Prelude.{slice_get}
 use Rattle.acn_num.specs.Bits.{number, bits as bits_of}
 use Rattle.acn_grammar.specs.Code.{Any, Code}
 use Rattle.acn_grammar.specs.Env.{Env, at_slot, AllHold, MayBeThere, MayBeAway}
-use Rattle.acn_grammar.specs.Fails.{Fault, Failing, Behind, Here, Says, Short, CharactersFail, TextFails, presence_count, IsThere, flags_behind, count_of, RunFails, After, Overlong, NoneChosen, Fails, FormFails, FieldsFail, AlternativeFails, seen}
-use Rattle.acn_grammar.specs.Grammar.{Grammar, Form, Fields, Alternatives, Data, Places, node, num, octets, bits, text, seq, list, choice, contained, no_fields, component, inserted, no_alternatives, alternative, null, octet_string, bit_string, characters, record_of, list_of, alt, no_places, empty, filled, element_count}
+use Rattle.acn_grammar.specs.Fails.{Fault, Failing, Behind, Here, Says, Short, CharactersFail, TextFails, presence_count, IsThere, flags_behind, count_of, RunFails, ListFails, After, Overlong, NoneChosen, Fails, FormFails, FieldsFail, AlternativeFails, seen}
+use Rattle.acn_grammar.specs.Grammar.{Grammar, Form, Fields, Alternatives, Data, Places, node, num, octets, bits, text, seq, list, choice, contained, no_fields, component, inserted, no_alternatives, alternative, null, octet_string, bit_string, characters, record_of, list_of, alt, no_places, empty, filled, element_count, Elements}
 use Rattle.acn_grammar.specs.LeafFails.{Reason, LeafFails, content_size}
 use Rattle.acn_grammar.specs.Leaves.{num_fine, text_fine}
-use Rattle.acn_grammar.specs.Length.{padding, presence_bits, bit_before, index_width}
-use Rattle.acn_grammar.specs.Scoped.{Known, with_slot, Agree, TestsIn, PresenceIn, RuleIn, choose_known, after, tests_at, names_of, Permitted, Scoped, FormScoped, FieldsScoped, AlternativesScoped}
+use Rattle.acn_grammar.specs.Length.{padding, presence_bits, bit_before, index_width, ending}
+use Rattle.acn_grammar.specs.Scoped.{Known, with_slot, Agree, TestsIn, PresenceIn, RuleIn, choose_known, with_own, EndTold, after, tests_at, names_of, Permitted, Scoped, FormScoped, FieldsScoped, AlternativesScoped}
 use Rattle.acn_grammar.specs.Shaped.{are_octets}
 use Rattle.acn_grammar.specs.Slots.{items_of}
-use Rattle.acn_grammar.specs.Spell.{Part, ◌then◌, Where, Exactly, Padding, Fill, Window, CharactersPart, EndedPart, RunPart, Spell, FormPart, FieldsPart, AlternativePart, SlotField, Chosen, with_home}
+use Rattle.acn_grammar.specs.Interval.{size_of}
+use Rattle.acn_num.specs.Ranges.{greatest}
+use Rattle.acn_grammar.specs.Spell.{Part, ◌then◌, Where, Exactly, Carries, ListPart, Padding, Fill, Window, CharactersPart, EndedPart, RunPart, Spell, FormPart, FieldsPart, AlternativePart, SlotField, Chosen, with_home}
 use Rattle.acn_grammar.specs.declared.node.ChoiceRule.{ChoiceRule}
 use Rattle.acn_grammar.specs.declared.node.ChoiceRule.TheVariants.{Index, Tests, Item}
 use Rattle.acn_grammar.specs.declared.node.NumLeaf.{NumLeaf}
 use Rattle.acn_grammar.specs.declared.node.Presence.{Presence}
 use Rattle.acn_grammar.specs.declared.node.Presence.TheVariants.{Always, Bit, When}
+use Rattle.acn_grammar.specs.declared.node.Sizing.{Sizing}
 use Rattle.acn_grammar.specs.declared.node.TextLeaf.{TextLeaf}
+use Rattle.acn_laws.proofs.EndedListFails.{ended_excl, ended_same}
+use Rattle.acn_laws.proofs.Leads.{not_begun}
 use Rattle.acn_laws.proofs.Exclusion.{Excl, Same, whole_of, take_n, drop_n, excl_first, excl_given, where_law, excl_behind, same_behind, clash_behind, excl_short, same_short, sized_excl, sized_same, run_excl, run_same}
 use Rattle.acn_grammar.proofs.Prefix.{Law, same_front, padding_law}
-use Rattle.acn_laws.proofs.PrefixNodes.{spell_law, slot_law, agree_inside, permitted_home, after_there, after_away, all_hold_too, agree_back, chosen_at, item_at, same_item_name, names_one}
+use Rattle.acn_laws.proofs.PrefixNodes.{spell_law, slot_law, own_law, agree_inside, permitted_home, after_there, after_away, all_hold_too, agree_back, chosen_at, item_at, same_item_name, names_one}
 use Rattle.acn_grammar.proofs.SpellLength.{Padding-length, bits-length}
 
 abbrev pub LeafExcl : Type 0
@@ -93,15 +98,15 @@ after_missing Always ks more env env' flags none same = absurd (none tt)
 after_missing Bit ks more env env' flags none same = same
 after_missing (When ts) ks more env env' flags none same = same
 
-one_more : (presence : Presence) (b : Bool) (fs : List Bool) (n m : ℕ) → length fs ≡ n → (name : List ℕ) (g : Grammar) (default : Option (List ℕ)) (rest : Fields) → presence_count rest ≡ n → length (bit_before presence b fs) ≡ presence_count (component name g presence default rest)
-one_more Always b fs n m e name g default rest c = e ∙ sym c
-one_more Bit b fs n m e name g default rest c = ap suc (e ∙ sym c)
-one_more (When ts) b fs n m e name g default rest c = e ∙ sym c
+one_more : (presence : Presence) (b : Bool) (fs : List Bool) (n m : ℕ) → length fs ≡ n → (name : List ℕ) (g : Grammar) (default : Option (List ℕ)) (own : Option ℕ) (rest : Fields) → presence_count rest ≡ n → length (bit_before presence b fs) ≡ presence_count (component name g presence default own rest)
+one_more Always b fs n m e name g default own rest c = e ∙ sym c
+one_more Bit b fs n m e name g default own rest c = ap suc (e ∙ sym c)
+one_more (When ts) b fs n m e name g default own rest c = e ∙ sym c
 
 count_flags : (root : Grammar) (fs : Fields) (env : Env) (ps : Places) (at : ℕ) (bs : List Bool) → FieldsPart root Any fs env ps at bs → length (presence_bits fs ps) ≡ presence_count fs
 count_flags root no_fields env no_places at bs t = refl
-count_flags root (component name g presence default fs) env (filled d ps) at bs t = one_more presence true (presence_bits fs ps) (presence_count fs) 0 (count_flags root fs env ps _ _ t.second) name g default fs refl
-count_flags root (component name g presence default fs) env (empty ps) at bs t = one_more presence false (presence_bits fs ps) (presence_count fs) 0 (count_flags root fs env ps at bs t.spelled) name g default fs refl
+count_flags root (component name g presence default own fs) env (filled d ps) at bs t = one_more presence true (presence_bits fs ps) (presence_count fs) 0 (count_flags root fs env ps _ _ t.second) name g default own fs refl
+count_flags root (component name g presence default own fs) env (empty ps) at bs t = one_more presence false (presence_bits fs ps) (presence_count fs) 0 (count_flags root fs env ps at bs t.spelled) name g default own fs refl
 count_flags root (inserted name g (Some s) fs) env ps at bs t = count_flags root fs env ps _ _ t.second
 count_flags root (inserted name g None fs) env ps at bs t = count_flags root fs env ps _ _ t.second
 count_flags root _ env ps at bs t = absurd t.0
@@ -252,6 +257,27 @@ module _ (root : Grammar) (leaf_excl : LeafExcl) (leaf_same : LeafSame) (text_ex
   element_law : (g : Grammar) (ks : Known) → Scoped root ks g → (env env' : Env) → Permitted root env → Agree ks env env' → (d d' : Data) → Law (Spell root Any g env d) (Spell root Any g env' d') (d ≡ d')
   element_law g ks fine env env' ok same d d' at a b r s p q e = let h = spell_law root g ks fine env env' ok same d d' at a b r s p q e in (h.0, h.1.0)
 
+  list_excl : (end : Option (List Bool)) (sizing : Sizing) (g : Grammar) (ks : Known) → RuleIn ks sizing.rule → EndTold end sizing.sizes g → Scoped root ks g → (env env' : Env) → Agree ks env env' → (here : Here) (fails : ℕ → Failing)
+      → ((d : Data) (k : ℕ) → Excl (Spell root Any g env d) (fails k)) → ((d d' : Data) → Law (Spell root Any g env d) (Spell root Any g env' d') (d ≡ d'))
+      → (es : Elements) → Excl (ListPart end sizing env (Spell root Any g env) es) (ListFails end here sizing env' (Spell root Any g env') fails)
+  list_excl None sizing g ks known told fine env env' same here fails excl law es at a r fault reach t f =
+      sized_excl root here sizing ks known env env' same (element_count es) (RunPart (Spell root Any g env) es) (λ n. RunFails (Spell root Any g env') fails n 0)
+      (λ m e. run_excl (Spell root Any g env) (Spell root Any g env') fails excl law es m 0 e) at a r fault reach t f
+  list_excl (Some end) sizing g ks known told fine env env' same here fails excl law es at a r fault reach t f =
+      ended_excl here end sizing told.fine (Spell root Any g env) (Spell root Any g env') fails excl law
+      (λ d at' bs u z. not_begun root end g ks fine told.told env d at' bs u z) (λ d at' bs u z. not_begun root end g ks fine told.told env' d at' bs u z) es t.given at a r fault reach t.spelled f
+
+  list_same : (end : Option (List Bool)) (sizing : Sizing) (g : Grammar) (ks : Known) → RuleIn ks sizing.rule → EndTold end sizing.sizes g → Scoped root ks g → (env env' : Env) → Agree ks env env' → (here : Here) (fails fails' : ℕ → Failing)
+      → ((k : ℕ) → Same (fails k) (fails' k)) → ((d : Data) (k : ℕ) → Excl (Spell root Any g env d) (fails' k)) → ((d : Data) (k : ℕ) → Excl (Spell root Any g env' d) (fails k)) → ((d d' : Data) → Law (Spell root Any g env d) (Spell root Any g env' d') (d ≡ d'))
+      → Same (ListFails end here sizing env (Spell root Any g env) fails) (ListFails end here sizing env' (Spell root Any g env') fails')
+  list_same None sizing g ks known told fine env env' same here fails fails' h x y law =
+      sized_same root here sizing ks known env env' same (λ n. RunFails (Spell root Any g env) fails n 0) (λ n. RunFails (Spell root Any g env') fails' n 0)
+      (λ i j e. subst (λ (l : ℕ). Same (RunFails (Spell root Any g env) fails i 0) (RunFails (Spell root Any g env') fails' l 0)) e
+      (run_same (Spell root Any g env) (Spell root Any g env') fails fails' h x y law i 0))
+  list_same (Some end) sizing g ks known told fine env env' same here fails fails' h x y law =
+      ended_same here end sizing (Spell root Any g env) (Spell root Any g env') fails fails' h x y law
+      (λ d at' bs u z. not_begun root end g ks fine told.told env d at' bs u z) (λ d at' bs u z. not_begun root end g ks fine told.told env' d at' bs u z) (size_of (greatest sizing.sizes)) 0
+
   mutual
     pub node_excl : (g : Grammar) (ks : Known) → Scoped root ks g → (env env' : Env) → Permitted root env → Agree ks env env' → (inside : Bool) (origin : ℕ) (path : List ℕ) (d : Data) → Excl (Spell root Any g env d) (Fails root g env' inside origin path)
     node_excl (node align form) ks fine env env' ok same inside origin path d at a r fault reach t f =
@@ -287,8 +313,8 @@ module _ (root : Grammar) (leaf_excl : LeafExcl) (leaf_same : LeafSame) (text_ex
         at a r fault reach t.spelled f.3
     form_excl (seq _ home) ks fine env env' ok same here origin _ at a r fault reach t f = absurd t.0
     form_excl (list sizing g) ks fine env env' ok same here origin (list_of es) at a r fault reach t f =
-        sized_excl root here sizing ks fine.0 env env' same (element_count es) (RunPart (Spell root Any g env) es) (λ n. RunFails (Spell root Any g env') (λ k. Fails root g env' here.inside origin (here.path ++ k ∷ [])) n 0)
-        (λ m e. run_excl (Spell root Any g env) (Spell root Any g env') (λ k. Fails root g env' here.inside origin (here.path ++ k ∷ [])) (λ d k. node_excl g ks fine.1 env env' ok same here.inside origin (here.path ++ k ∷ []) d) (λ d d'. element_law g ks fine.1 env env' ok same d d') es m 0 e) at a r fault reach t f
+        list_excl (ending sizing.rule) sizing g ks fine.0 fine.2 fine.1 env env' same here (λ k. Fails root g env' here.inside origin (here.path ++ k ∷ []))
+        (λ d k. node_excl g ks fine.1 env env' ok same here.inside origin (here.path ++ k ∷ []) d) (λ d d'. element_law g ks fine.1 env env' ok same d d') es at a r fault reach t f
     form_excl (list sizing g) ks fine env env' ok same here origin _ at a r fault reach t f = absurd t.0
     form_excl (contained sizing g) ks fine env env' ok same here origin d at a r fault reach t f =
         sized_excl root here sizing ks fine.0 env env' same t.some (Window (Spell root Any g env d) (Fill Any) t.some) (WindowFails root here g env' origin)
@@ -335,17 +361,17 @@ module _ (root : Grammar) (leaf_excl : LeafExcl) (leaf_same : LeafSame) (text_ex
 
     fields_excl : (fs : Fields) (ks : Known) → FieldsScoped root ks fs → (env env' : Env) → Permitted root env → Agree ks env env' → (here : Here) (origin k : ℕ) (ps : Places) (flags : List Bool) → flags ≡ presence_bits fs ps → Excl (FieldsPart root Any fs env ps) (FieldsFail root fs env' flags here origin k)
     fields_excl no_fields ks fine env env' ok same here origin k ps flags e at a r fault reach t f = absurd f
-    fields_excl (component name g presence default fs) ks fine env env' ok same here origin k (filled d ps) flags e at a r fault reach t (inl (there, inl f)) =
-        excl_first {P = Where (MayBeThere env presence) (Spell root Any g env d)} {P2 = FieldsPart root Any fs env ps} (Fails root g env' here.inside origin (here.path ++ k ∷ []))
+    fields_excl (component name g presence default own fs) ks fine env env' ok same here origin k (filled d ps) flags e at a r fault reach t (inl (there, inl f)) =
+        excl_first {P = Where (MayBeThere env presence × Carries env own d) (Spell root Any g env d)} {P2 = FieldsPart root Any fs env ps} (Fails root g env' here.inside origin (here.path ++ k ∷ []))
         (excl_given (Fails root g env' here.inside origin (here.path ++ k ∷ [])) (node_excl g ks fine.1 env env' ok same here.inside origin (here.path ++ k ∷ []) d)) at a r fault reach t f
-    fields_excl (component name g presence default fs) ks fine env env' ok same here origin k (filled d ps) flags e at a r fault reach t (inl (there, inr f)) =
-        excl_behind (where_law (spell_law root g ks fine.1 env env' ok same d f.0))
-        (λ h. fields_excl fs (choose_known presence ks (after ks g)) fine.2 env env' ok (after_there root presence ks (after ks g) env env' same h.1) here origin (suc k) ps (flags_behind presence flags) (flags_rest presence true flags (presence_bits fs ps) e)) at a r fault reach t f.1
-    fields_excl (component name g presence default fs) ks fine env env' ok same here origin k (filled d ps) flags e at a r fault reach t (inr f) = f.0 (is_there ks env env' same presence fine.0 flags (presence_bits fs ps) e t.first.given)
-    fields_excl (component name g presence default fs) ks fine env env' ok same here origin k (empty ps) flags e at a r fault reach t (inl f) = not_there ks env env' same presence fine.0 flags (presence_bits fs ps) e t.given f.0
-    fields_excl (component name g presence default fs) ks fine env env' ok same here origin k (empty ps) flags e at a r fault reach t (inr f) =
-        fields_excl fs (choose_known presence ks (after ks g)) fine.2 env env' ok (after_away root presence ks (after ks g) env env' t.given same) here origin (suc k) ps (flags_behind presence flags) (flags_rest presence false flags (presence_bits fs ps) e) at a r fault reach t.spelled f.1
-    fields_excl (component name g presence default fs) ks fine env env' ok same here origin k no_places flags e at a r fault reach t f = absurd t.0
+    fields_excl (component name g presence default own fs) ks fine env env' ok same here origin k (filled d ps) flags e at a r fault reach t (inl (there, inr f)) =
+        excl_behind (own_law root own (after ks g) env env' d f.0 (λ x. x.1) (λ x. x) (spell_law root g ks fine.1 env env' ok same d f.0))
+        (λ h. fields_excl fs (choose_known presence ks (with_own own (after ks g))) fine.2 env env' ok (after_there root presence ks (with_own own (after ks g)) env env' same h.1) here origin (suc k) ps (flags_behind presence flags) (flags_rest presence true flags (presence_bits fs ps) e)) at a r fault reach t f.1
+    fields_excl (component name g presence default own fs) ks fine env env' ok same here origin k (filled d ps) flags e at a r fault reach t (inr f) = f.0 (is_there ks env env' same presence fine.0 flags (presence_bits fs ps) e t.first.given.0)
+    fields_excl (component name g presence default own fs) ks fine env env' ok same here origin k (empty ps) flags e at a r fault reach t (inl f) = not_there ks env env' same presence fine.0 flags (presence_bits fs ps) e t.given f.0
+    fields_excl (component name g presence default own fs) ks fine env env' ok same here origin k (empty ps) flags e at a r fault reach t (inr f) =
+        fields_excl fs (choose_known presence ks (with_own own (after ks g))) fine.2 env env' ok (after_away root presence ks (with_own own (after ks g)) env env' t.given same) here origin (suc k) ps (flags_behind presence flags) (flags_rest presence false flags (presence_bits fs ps) e) at a r fault reach t.spelled f.1
+    fields_excl (component name g presence default own fs) ks fine env env' ok same here origin k no_places flags e at a r fault reach t f = absurd t.0
     fields_excl (inserted name (node align (num leaf)) (Some s) fs) ks fine env env' ok same here origin k ps flags e at a r fault reach t (inl f) =
         slot_excl align leaf fine.0 env s here.inside origin (here.path ++ k ∷ []) at t.front (t.back ++ r) fault reach env' t.first (subst (λ (x : List Bool). Fails root (node align (num leaf)) env' here.inside origin (here.path ++ k ∷ []) at x fault reach) (whole_of a t.front t.back r t.whole) f)
     fields_excl (inserted name (node align (num leaf)) (Some s) fs) ks fine env env' ok same here origin k ps flags e at a r fault reach t (inr f) =
@@ -405,11 +431,9 @@ module _ (root : Grammar) (leaf_excl : LeafExcl) (leaf_same : LeafSame) (text_ex
         after_same (presence_count fields) (FieldsFail root fields (with_home home p.0 env) (take (presence_count fields) rest) here origin 0) (FieldsFail root fields (with_home home q.0 env') (take (presence_count fields) rest) here origin 0)
         (fields_same fields ks fine.1 (with_home home p.0 env) (with_home home q.0 env') (permitted_home root home p.0 env p.2 ok) (permitted_home root home q.0 env' q.2 ok') (agree_inside ks home p.0 q.0 env env' fine.0 same) here origin 0 (take (presence_count fields) rest)) at rest f g m n p.3 q.3
     form_same (list sizing g') ks fine env env' ok ok' same here origin at rest f g m n p q =
-        sized_same root here sizing ks fine.0 env env' same (λ n. RunFails (Spell root Any g' env) (λ k. Fails root g' env here.inside origin (here.path ++ k ∷ [])) n 0) (λ n. RunFails (Spell root Any g' env') (λ k. Fails root g' env' here.inside origin (here.path ++ k ∷ [])) n 0)
-        (λ i j e. subst (λ (l : ℕ). Same (RunFails (Spell root Any g' env) (λ k. Fails root g' env here.inside origin (here.path ++ k ∷ [])) i 0) (RunFails (Spell root Any g' env') (λ k. Fails root g' env' here.inside origin (here.path ++ k ∷ [])) l 0)) e
-        (run_same (Spell root Any g' env) (Spell root Any g' env') (λ k. Fails root g' env here.inside origin (here.path ++ k ∷ [])) (λ k. Fails root g' env' here.inside origin (here.path ++ k ∷ []))
+        list_same (ending sizing.rule) sizing g' ks fine.0 fine.2 fine.1 env env' same here (λ k. Fails root g' env here.inside origin (here.path ++ k ∷ [])) (λ k. Fails root g' env' here.inside origin (here.path ++ k ∷ []))
         (λ k. node_same g' ks fine.1 env env' ok ok' same here.inside origin (here.path ++ k ∷ [])) (λ d k. node_excl g' ks fine.1 env env' ok same here.inside origin (here.path ++ k ∷ []) d) (λ d k. node_excl g' ks fine.1 env' env ok' (agree_back ks env env' same) here.inside origin (here.path ++ k ∷ []) d)
-        (λ d d'. element_law g' ks fine.1 env env' ok same d d') i 0)) at rest f g m n p q
+        (λ d d'. element_law g' ks fine.1 env env' ok same d d') at rest f g m n p q
     form_same (contained sizing g') ks fine env env' ok ok' same here origin at rest f g m n p q =
         sized_same root here sizing ks fine.0 env env' same (WindowFails root here g' env origin) (WindowFails root here g' env' origin)
         (λ i j e. subst (λ (l : ℕ). Same (WindowFails root here g' env origin i) (WindowFails root here g' env' origin l)) e
@@ -455,17 +479,17 @@ module _ (root : Grammar) (leaf_excl : LeafExcl) (leaf_same : LeafSame) (text_ex
 
     fields_same : (fs : Fields) (ks : Known) → FieldsScoped root ks fs → (env env' : Env) → Permitted root env → Permitted root env' → Agree ks env env' → (here : Here) (origin k : ℕ) (flags : List Bool) → Same (FieldsFail root fs env flags here origin k) (FieldsFail root fs env' flags here origin k)
     fields_same no_fields ks fine env env' ok ok' same here origin k flags at rest f g m n p q = absurd p
-    fields_same (component name g' presence default fs) ks fine env env' ok ok' same here origin k flags at rest f g m n (inl (there, inl p)) (inl (there', inl q)) = node_same g' ks fine.1 env env' ok ok' same here.inside origin (here.path ++ k ∷ []) at rest f g m n p q
-    fields_same (component name g' presence default fs) ks fine env env' ok ok' same here origin k flags at rest f g m n (inl (there, inl p)) (inl (there', inr q)) =
-        absurd (clash_behind (Fails root g' env here.inside origin (here.path ++ k ∷ [])) (node_excl g' ks fine.1 env' env ok' (agree_back ks env env' same) here.inside origin (here.path ++ k ∷ []) q.0) at rest f g m n p q.1)
-    fields_same (component name g' presence default fs) ks fine env env' ok ok' same here origin k flags at rest f g m n (inl (there, inr p)) (inl (there', inl q)) =
-        absurd (clash_behind (Fails root g' env' here.inside origin (here.path ++ k ∷ [])) (node_excl g' ks fine.1 env env' ok same here.inside origin (here.path ++ k ∷ []) p.0) at rest g f n m q p.1)
-    fields_same (component name g' presence default fs) ks fine env env' ok ok' same here origin k flags at rest f g m n (inl (there, inr p)) (inl (there', inr q)) =
-        same_behind (spell_law root g' ks fine.1 env env' ok same p.0 q.0) (λ h. fields_same fs (choose_known presence ks (after ks g')) fine.2 env env' ok ok' (after_there root presence ks (after ks g') env env' same h.1) here origin (suc k) (flags_behind presence flags)) at rest f g m n p.1 q.1
-    fields_same (component name g' presence default fs) ks fine env env' ok ok' same here origin k flags at rest f g m n (inl (there, p)) (inr q) = absurd (q.0 (there_too ks env env' same presence fine.0 flags there))
-    fields_same (component name g' presence default fs) ks fine env env' ok ok' same here origin k flags at rest f g m n (inr p) (inl (there', q)) = absurd (p.0 (there_too ks env' env (agree_back ks env env' same) presence fine.0 flags there'))
-    fields_same (component name g' presence default fs) ks fine env env' ok ok' same here origin k flags at rest f g m n (inr p) (inr q) =
-        fields_same fs (choose_known presence ks (after ks g')) fine.2 env env' ok ok' (after_missing presence ks (after ks g') env env' flags p.0 same) here origin (suc k) (flags_behind presence flags) at rest f g m n p.1 q.1
+    fields_same (component name g' presence default own fs) ks fine env env' ok ok' same here origin k flags at rest f g m n (inl (there, inl p)) (inl (there', inl q)) = node_same g' ks fine.1 env env' ok ok' same here.inside origin (here.path ++ k ∷ []) at rest f g m n p q
+    fields_same (component name g' presence default own fs) ks fine env env' ok ok' same here origin k flags at rest f g m n (inl (there, inl p)) (inl (there', inr q)) =
+        absurd (clash_behind (Fails root g' env here.inside origin (here.path ++ k ∷ [])) (excl_given (Fails root g' env here.inside origin (here.path ++ k ∷ [])) (node_excl g' ks fine.1 env' env ok' (agree_back ks env env' same) here.inside origin (here.path ++ k ∷ []) q.0)) at rest f g m n p q.1)
+    fields_same (component name g' presence default own fs) ks fine env env' ok ok' same here origin k flags at rest f g m n (inl (there, inr p)) (inl (there', inl q)) =
+        absurd (clash_behind (Fails root g' env' here.inside origin (here.path ++ k ∷ [])) (excl_given (Fails root g' env' here.inside origin (here.path ++ k ∷ [])) (node_excl g' ks fine.1 env env' ok same here.inside origin (here.path ++ k ∷ []) p.0)) at rest g f n m q p.1)
+    fields_same (component name g' presence default own fs) ks fine env env' ok ok' same here origin k flags at rest f g m n (inl (there, inr p)) (inl (there', inr q)) =
+        same_behind (own_law root own (after ks g') env env' p.0 q.0 (λ x. x) (λ x. x) (spell_law root g' ks fine.1 env env' ok same p.0 q.0)) (λ h. fields_same fs (choose_known presence ks (with_own own (after ks g'))) fine.2 env env' ok ok' (after_there root presence ks (with_own own (after ks g')) env env' same h.1) here origin (suc k) (flags_behind presence flags)) at rest f g m n p.1 q.1
+    fields_same (component name g' presence default own fs) ks fine env env' ok ok' same here origin k flags at rest f g m n (inl (there, p)) (inr q) = absurd (q.0 (there_too ks env env' same presence fine.0 flags there))
+    fields_same (component name g' presence default own fs) ks fine env env' ok ok' same here origin k flags at rest f g m n (inr p) (inl (there', q)) = absurd (p.0 (there_too ks env' env (agree_back ks env env' same) presence fine.0 flags there'))
+    fields_same (component name g' presence default own fs) ks fine env env' ok ok' same here origin k flags at rest f g m n (inr p) (inr q) =
+        fields_same fs (choose_known presence ks (with_own own (after ks g'))) fine.2 env env' ok ok' (after_missing presence ks (with_own own (after ks g')) env env' flags p.0 same) here origin (suc k) (flags_behind presence flags) at rest f g m n p.1 q.1
     fields_same (inserted name (node align (num leaf)) (Some s) fs) ks fine env env' ok ok' same here origin k flags at rest f g m n (inl p) (inl q) = slot_same align leaf fine.0 env env' here.inside origin (here.path ++ k ∷ []) at rest f g m n p q
     fields_same (inserted name (node align (num leaf)) (Some s) fs) ks fine env env' ok ok' same here origin k flags at rest f g m n (inl p) (inr q) =
         absurd (slot_excl align leaf fine.0 env' s here.inside origin (here.path ++ k ∷ []) at q.front q.back f m env q.spelled (subst (λ (x : List Bool). Fails root (node align (num leaf)) env here.inside origin (here.path ++ k ∷ []) at x f m) q.whole p))

@@ -77,12 +77,12 @@ module _ (root : Grammar) (tree : IsTree root) (sound : (f : CheckFault) → Und
 
     located_fields : (fs : Fields) (pre : List Stand) (path around : List ℕ) (k : ℕ) (post : List Stand) → FieldsAt root tree sound pre path around k fs post → (n : ℕ) (at : Stand) → slice_get (field_nodes path around k fs) n ≡ Some at → Located at (length pre + n)
     located_fields no_fields pre path around k post p n at e = cc
-    located_fields (component name g presence default fs) pre path around k post p n at e =
-        let a = nodes (a_component name presence) (path ++ k ∷ []) around g in
+    located_fields (component name g presence default own fs) pre path around k post p n at e =
+        let a = nodes (a_component name presence own) (path ++ k ∷ []) around g in
         let b = field_nodes path around (suc k) fs in
         in_either {F = Located at (length pre + n)} a b n at e
-        (λ h. located g pre (a_component name presence) (path ++ k ∷ []) around (b ++ post) (first_component (nodes_of root) (numbers root tree sound) (rules root tree sound) pre path around k name g presence default fs post p) n at h)
-        (λ m same h. further at pre a n m same (located_fields fs (pre ++ a) path around (suc k) post (next_component (nodes_of root) (numbers root tree sound) (rules root tree sound) pre path around k name g presence default fs post p) m at h))
+        (λ h. located g pre (a_component name presence own) (path ++ k ∷ []) around (b ++ post) (first_component (nodes_of root) (numbers root tree sound) (rules root tree sound) pre path around k name g presence default own fs post p) n at h)
+        (λ m same h. further at pre a n m same (located_fields fs (pre ++ a) path around (suc k) post (next_component (nodes_of root) (numbers root tree sound) (rules root tree sound) pre path around k name g presence default own fs post p) m at h))
     located_fields (inserted name g slot fs) pre path around k post p n at e =
         let a = nodes (an_inserted name slot) (path ++ k ∷ []) around g in
         let b = field_nodes path around (suc k) fs in

@@ -101,10 +101,10 @@ get_holds [] k s h e = absurd (omega arith)
 get_holds (x ∷ xs) zero s h e = or_left (nat_eq x s) (holds xs s) (ap (λ y. nat_eq y s) e ∙ same_eq s)
 get_holds (x ∷ xs) (suc k) s h e = or_right (nat_eq x s) (holds xs s) (get_holds xs k s (omega arith) e)
 
-contains_holds : (xs : List ℕ) (s : ℕ) → Contains xs s → holds xs s ≡ true
+pub contains_holds : (xs : List ℕ) (s : ℕ) → Contains xs s → holds xs s ≡ true
 contains_holds xs s c = get_holds xs c.0 s c.1 c.2
 
-holds_contains : (xs : List ℕ) (s : ℕ) → holds xs s ≡ true → Contains xs s
+pub holds_contains : (xs : List ℕ) (s : ℕ) → holds xs s ≡ true → Contains xs s
 holds_contains [] s h = cc
 holds_contains (x ∷ xs) s h = either {F = Contains (x ∷ xs) s} (nat_eq x s) (holds xs s) h
     (λ q. (zero, omega arith, equal_numbers x s q))

@@ -4,7 +4,7 @@ use Rattle.std.specs.Prelude.{cond, filter}
 use Rattle.std.specs.List.{list_any, list_all, range_with_len, cons_option}
 use Rattle.acn_grammar.specs.Asks.{same_name}
 use Rattle.acn_grammar.specs.Grammar.{Grammar, Form, Fields, Alternatives, node, num, octets, bits, text, seq, list, choice, contained, no_fields, component, inserted, alternative}
-use Rattle.acn_grammar.specs.Tree.{IsTree, holds, same_numbers, slots_of, is_slot, is_home, encloses, near, near_node, near_form, near_if, home_fine, role_fine, inserted_fine, all_true, stand_rules}
+use Rattle.acn_grammar.specs.Tree.{IsTree, holds, same_numbers, slots_of, is_slot, is_home, encloses, near, near_node, near_form, near_if, slot_list, home_fine, role_fine, inserted_fine, own_fine, presence_fine, all_true, stand_rules}
 use Rattle.acn_grammar.specs.Walk.{Stand, Role, a_component, an_inserted, an_alternative, an_element, a_content, root_node, nodes, nodes_of, form_nodes, field_nodes, alternative_nodes, slot_here}
 use Rattle.acn_grammar.specs.declared.node.Presence.{Presence}
 use Rattle.acn_grammar.specs.declared.node.Presence.TheVariants.{Always, Bit, When}
@@ -128,13 +128,27 @@ near_if_when Always ns s h = (refl, h)
 near_if_when Bit ns s h = cc
 near_if_when (When ts) ns s h = cc
 
+pub own_holds : (own : Option ℕ) (s : ℕ) → holds (slot_list own) s ≡ true → is_slot s own ≡ true
+own_holds None s h = cc
+own_holds (Some t) s h = either {F = nat_eq t s ≡ true} (nat_eq t s) false h (λ q. q) (λ q. cc)
+
+-- what is near in a component and behind it: the slot that it says, what is near inside it, and the rest
+pub near_parts : {F : Type 0} (own : Option ℕ) (presence : Presence) (ns ms : List ℕ) (s : ℕ) → holds (slot_list own ++ (near_if presence ns ++ ms)) s ≡ true
+    → (is_slot s own ≡ true → F) → (holds (near_if presence ns) s ≡ true → F) → (holds ms s ≡ true → F) → F
+near_parts {F} own presence ns ms s h f g r =
+    holds_either {F = F} (slot_list own) (near_if presence ns ++ ms) s h (λ q. f (own_holds own s q)) (λ q. holds_either {F = F} (near_if presence ns) ms s q g r)
+
+pub slot_in : (role : Role) (path around : List ℕ) (g : Grammar) (s : ℕ) → is_slot s (slot_here role) ≡ true → has_field s (nodes role path around g) ≡ true
+slot_in role path around (node align form) s h = or_left (is_slot s (slot_here role)) (has_field s (form_nodes path around form)) h
+
 mutual
   pub near_has : (fs : Fields) (path around : List ℕ) (k s : ℕ) → holds (near fs) s ≡ true → has_field s (field_nodes path around k fs) ≡ true
   near_has no_fields path around k s h = cc
-  near_has (component name g presence default fs) path around k s h =
-      holds_either {F = has_field s (field_nodes path around k (component name g presence default fs)) ≡ true} (near_if presence (near_node g)) (near fs) s h
-      (λ q. any_left (field_is s) (nodes (a_component name presence) (path ++ k ∷ []) around g) (field_nodes path around (suc k) fs) (near_node_has g (a_component name presence) (path ++ k ∷ []) around s (near_if_when presence (near_node g) s q).1))
-      (λ q. any_right (field_is s) (nodes (a_component name presence) (path ++ k ∷ []) around g) (field_nodes path around (suc k) fs) (near_has fs path around (suc k) s q))
+  near_has (component name g presence default own fs) path around k s h =
+      near_parts {F = has_field s (field_nodes path around k (component name g presence default own fs)) ≡ true} own presence (near_node g) (near fs) s h
+      (λ q. any_left (field_is s) (nodes (a_component name presence own) (path ++ k ∷ []) around g) (field_nodes path around (suc k) fs) (slot_in (a_component name presence own) (path ++ k ∷ []) around g s q))
+      (λ q. any_left (field_is s) (nodes (a_component name presence own) (path ++ k ∷ []) around g) (field_nodes path around (suc k) fs) (near_node_has g (a_component name presence own) (path ++ k ∷ []) around s (near_if_when presence (near_node g) s q).1))
+      (λ q. any_right (field_is s) (nodes (a_component name presence own) (path ++ k ∷ []) around g) (field_nodes path around (suc k) fs) (near_has fs path around (suc k) s q))
   near_has (inserted name g None fs) path around k s h =
       any_right (field_is s) (nodes (an_inserted name None) (path ++ k ∷ []) around g) (field_nodes path around (suc k) fs) (near_has fs path around (suc k) s h)
   near_has (inserted name (node align form) (Some t) fs) path around k s h =
@@ -168,9 +182,16 @@ inserted_number slot (list sizing g) h = cc
 inserted_number slot (choice cases rule) h = cc
 inserted_number slot (contained sizing g) h = cc
 
+-- a component that says a slot is a number that is always there
+pub own_number : (own : Option ℕ) (presence : Presence) (form : Form) (s : ℕ) → own_fine own presence form ≡ true → is_slot s own ≡ true → (presence ≡ Always) × (is_number form ≡ true)
+own_number None presence form s h e = cc
+own_number (Some t) Always form s h e = (refl, inserted_number (Some t) form h)
+own_number (Some t) Bit form s h e = cc
+own_number (Some t) (When ts) form s h e = cc
+
 pub field_number : (role : Role) (form : Form) (s : ℕ) → role_fine role form ≡ true → is_slot s (slot_here role) ≡ true → is_number form ≡ true
 field_number root_node form s h e = cc
-field_number (a_component name presence) form s h e = cc
+field_number (a_component name presence own) form s h e = (own_number own presence form s (both_are (presence_fine presence) (own_fine own presence form) h).1 e).1
 field_number (an_inserted name slot) form s h e = inserted_number slot form h
 field_number (an_alternative name tests) form s h e = cc
 field_number an_element form s h e = cc
@@ -182,9 +203,6 @@ no_field role form s h n = by (is_slot s (slot_here role)) refl
     by : (b : Bool) → is_slot s (slot_here role) ≡ b → b ≡ false
     by true e = let t = field_number role form s h e in cc
     by false e = refl
-
-pub slot_in : (role : Role) (path around : List ℕ) (g : Grammar) (s : ℕ) → is_slot s (slot_here role) ≡ true → has_field s (nodes role path around g) ≡ true
-slot_in role path around (node align form) s h = or_left (is_slot s (slot_here role)) (has_field s (form_nodes path around form)) h
 
 abbrev pub here_at : (role : Role) (path around : List ℕ) (align : ℕ) (form : Form) → Stand
 here_at role path around align form = record { path = path; around = around; role = role; align = align; form = form }
@@ -315,37 +333,39 @@ module _ (all : List Stand) (numbered : same_numbers (slots_of all) (range_with_
 
   -- Along the fields.
 
-  abbrev component_nodes : (path around : List ℕ) (k : ℕ) (name : List ℕ) (g : Grammar) (presence : Presence) → List Stand
-  component_nodes path around k name g presence = nodes (a_component name presence) (path ++ k ∷ []) around g
+  abbrev component_nodes : (path around : List ℕ) (k : ℕ) (name : List ℕ) (g : Grammar) (presence : Presence) (own : Option ℕ) → List Stand
+  component_nodes path around k name g presence own = nodes (a_component name presence own) (path ++ k ∷ []) around g
 
   abbrev inserted_nodes : (path around : List ℕ) (k : ℕ) (name : List ℕ) (g : Grammar) (slot : Option ℕ) → List Stand
   inserted_nodes path around k name g slot = nodes (an_inserted name slot) (path ++ k ∷ []) around g
 
-  pub first_component : (pre : List Stand) (path around : List ℕ) (k : ℕ) (name : List ℕ) (g : Grammar) (presence : Presence) (default : Option (List ℕ)) (fs : Fields) (post : List Stand) → FieldsPlace pre path around k (component name g presence default fs) post
-      → Place pre (a_component name presence) (path ++ k ∷ []) around g (field_nodes path around (suc k) fs ++ post)
-  first_component pre path around k name g presence default fs post p =
-      let a = component_nodes path around k name g presence in
+  pub first_component : (pre : List Stand) (path around : List ℕ) (k : ℕ) (name : List ℕ) (g : Grammar) (presence : Presence) (default : Option (List ℕ)) (own : Option ℕ) (fs : Fields) (post : List Stand) → FieldsPlace pre path around k (component name g presence default own fs) post
+      → Place pre (a_component name presence own) (path ++ k ∷ []) around g (field_nodes path around (suc k) fs ++ post)
+  first_component pre path around k name g presence default own fs post p =
+      let a = component_nodes path around k name g presence own in
       let b = field_nodes path around (suc k) fs in
       record {
-        whole = p.whole ∙ split_more pre (component_nodes path around k name g presence) (field_nodes path around (suc k) fs) post;
+        whole = p.whole ∙ split_more pre (component_nodes path around k name g presence own) (field_nodes path around (suc k) fs) post;
         open_slots = p.open_slots;
         alone = λ s o. none_left (encloses all s) a b (p.alone s o);
-        close = λ s o h _. holds_either {F = holds (near_node g) s ≡ true} (near_if presence (near_node g)) (near fs) s (p.close s o (any_left (field_is s) a b h))
+        close = λ s o h n. near_parts {F = holds (near_node g) s ≡ true} own presence (near_node g) (near fs) s (p.close s o (any_left (field_is s) a b h))
+            (λ q. cc)
             (λ q. (near_if_when presence (near_node g) s q).1)
             (λ q. absurd (parts_apart pre a b post p.whole s h (near_has fs path around (suc k) s q)));
       }
 
-  pub next_component : (pre : List Stand) (path around : List ℕ) (k : ℕ) (name : List ℕ) (g : Grammar) (presence : Presence) (default : Option (List ℕ)) (fs : Fields) (post : List Stand) → FieldsPlace pre path around k (component name g presence default fs) post
-      → FieldsPlace (pre ++ nodes (a_component name presence) (path ++ k ∷ []) around g) path around (suc k) fs post
-  next_component pre path around k name g presence default fs post p =
-      let a = component_nodes path around k name g presence in
+  pub next_component : (pre : List Stand) (path around : List ℕ) (k : ℕ) (name : List ℕ) (g : Grammar) (presence : Presence) (default : Option (List ℕ)) (own : Option ℕ) (fs : Fields) (post : List Stand) → FieldsPlace pre path around k (component name g presence default own fs) post
+      → FieldsPlace (pre ++ nodes (a_component name presence own) (path ++ k ∷ []) around g) path around (suc k) fs post
+  next_component pre path around k name g presence default own fs post p =
+      let a = component_nodes path around k name g presence own in
       let b = field_nodes path around (suc k) fs in
       record {
-        whole = p.whole ∙ moved pre (component_nodes path around k name g presence) (field_nodes path around (suc k) fs) post;
+        whole = p.whole ∙ moved pre (component_nodes path around k name g presence own) (field_nodes path around (suc k) fs) post;
         open_slots = p.open_slots;
         alone = λ s o. none_right (encloses all s) a b (p.alone s o);
-        close = λ s o h. holds_either {F = holds (near fs) s ≡ true} (near_if presence (near_node g)) (near fs) s (p.close s o (any_right (field_is s) a b h))
-            (λ q. absurd (parts_apart pre a b post p.whole s (near_node_has g (a_component name presence) (path ++ k ∷ []) around s (near_if_when presence (near_node g) s q).1) h))
+        close = λ s o h. near_parts {F = holds (near fs) s ≡ true} own presence (near_node g) (near fs) s (p.close s o (any_right (field_is s) a b h))
+            (λ q. absurd (parts_apart pre a b post p.whole s (slot_in (a_component name presence own) (path ++ k ∷ []) around g s q) h))
+            (λ q. absurd (parts_apart pre a b post p.whole s (near_node_has g (a_component name presence own) (path ++ k ∷ []) around s (near_if_when presence (near_node g) s q).1) h))
             (λ q. q);
       }
 

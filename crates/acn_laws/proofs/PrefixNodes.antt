@@ -8,7 +8,7 @@ use Rattle.acn_grammar.specs.Asks.{same_name}
 use Rattle.acn_grammar.specs.Leaves.{all_differ}
 use Rattle.acn_grammar.specs.Fails.{count_of}
 use Rattle.acn_grammar.specs.Slots.{items_of, domain_of}
-use Rattle.acn_grammar.specs.Scoped.{Known, with_slot, Agree, TestIn, TestsIn, PresenceIn, RuleIn, Apart, FineField, choose_known, after, form_after, fields_after, tests_at, names_of, Permitted, Scoped, FormScoped, FieldsScoped, AlternativesScoped}
+use Rattle.acn_grammar.specs.Scoped.{Known, with_slot, Agree, TestIn, TestsIn, PresenceIn, RuleIn, Apart, FineField, choose_known, with_own, EndTold, after, form_after, fields_after, tests_at, names_of, Permitted, Scoped, FormScoped, FieldsScoped, AlternativesScoped}
 use Rattle.acn_grammar.specs.Tree.{holds}
 use Rattle.acn_grammar.proofs.Codings.{both_are, not_is}
 use Rattle.acn_grammar.proofs.FineLeaves.{lawful}
@@ -16,21 +16,24 @@ use Rattle.acn_grammar.proofs.Texts.{text_law}
 use Rattle.acn_grammar.specs.Grammar.{Grammar, Form, Fields, Alternatives, Data, Places, Elements, node, num, octets, bits, text, seq, list, choice, contained, no_fields, component, inserted, no_alternatives, alternative, int, boolean, item, null, octet_string, bit_string, characters, record_of, list_of, alt, no_places, empty, filled, no_elements, element, element_count}
 use Rattle.acn_grammar.specs.Code.{Any, NumberOf}
 use Rattle.acn_grammar.specs.Env.{Env, at_slot, Holds, AllHold, MayBeThere, MayBeAway}
-use Rattle.acn_grammar.specs.Length.{presence_bits, bit_before}
-use Rattle.acn_grammar.specs.Spell.{Part, Where, Exactly, Spell, FormPart, FieldsPart, SlotField, with_home, RulePart, RunPart, Window, Fill, AlternativePart}
+use Rattle.acn_grammar.specs.Length.{presence_bits, bit_before, number_of, ending}
+use Rattle.acn_grammar.specs.Spell.{Part, Where, Exactly, Carries, ListPart, Spell, FormPart, FieldsPart, SlotField, with_home, RulePart, RunPart, Window, Fill, AlternativePart}
 use Rattle.acn_grammar.specs.declared.node.NumKind.{NumKind}
 use Rattle.acn_grammar.specs.declared.node.NumKind.TheVariants.{Integer, Boolean, Enumerated, Null}
 use Rattle.acn_grammar.specs.declared.node.Presence.{Presence}
 use Rattle.acn_grammar.specs.declared.node.Presence.TheVariants.{Always, Bit, When}
 use Rattle.acn_grammar.specs.declared.node.Test.{Test}
 use Rattle.acn_grammar.specs.declared.node.Test.TheVariants.{Flag, Equals}
+use Rattle.acn_grammar.specs.declared.node.Sizing.{Sizing}
 use Rattle.acn_grammar.specs.declared.node.SizeRule.{SizeRule}
-use Rattle.acn_grammar.specs.declared.node.SizeRule.TheVariants.{Prefix, Slot}
+use Rattle.acn_grammar.specs.declared.node.SizeRule.TheVariants.{Prefix, Slot, Ended}
 use Rattle.acn_grammar.specs.declared.node.ChoiceRule.{ChoiceRule}
 use Rattle.acn_grammar.specs.declared.node.ChoiceRule.TheVariants.{Index, Tests, Item}
 use Rattle.acn_grammar.specs.Shaped.{are_octets}
 use Rattle.acn_grammar.proofs.Octets.{bits_one}
 use Rattle.acn_grammar.proofs.SpellLength.{bits-length}
+use Rattle.acn_laws.proofs.EndedLists.{ended_law}
+use Rattle.acn_laws.proofs.Leads.{not_begun}
 use Rattle.acn_grammar.proofs.Prefix.{Law, then_law, padding_law, same_front, number_law}
 
 law_map : {P Q : Part} {F G : Type 0} → (F → G) → Law P Q F → Law P Q G
@@ -168,7 +171,7 @@ record_is ps qs e = ap record_of e
 
 abbrev pub flag_count : Fields → ℕ
 flag_count no_fields = 0
-flag_count (component name g presence default fs) = length (bit_before presence true []) + flag_count fs
+flag_count (component name g presence default own fs) = length (bit_before presence true []) + flag_count fs
 flag_count (inserted name g slot fs) = flag_count fs
 
 one_bit : (presence : Presence) (b : Bool) (fs : List Bool) → length (bit_before presence b fs) ≡ length (bit_before presence true []) + length fs
@@ -179,8 +182,8 @@ one_bit (When ts) b fs = omega arith
 -- the bits at the front have one length, whatever the places
 pub flags-count : (root : Grammar) (fs : Fields) (env : Env) (ps : Places) (at : ℕ) (bs : List Bool) → FieldsPart root Any fs env ps at bs → length (presence_bits fs ps) ≡ flag_count fs
 flags-count root no_fields env no_places at bs t = refl
-flags-count root (component name g presence default fs) env (filled d ps) at bs t = one_bit presence true _ ∙ ap (λ n. length (bit_before presence true []) + n) (flags-count root fs env ps _ _ t.second)
-flags-count root (component name g presence default fs) env (empty ps) at bs t = one_bit presence false _ ∙ ap (λ n. length (bit_before presence true []) + n) (flags-count root fs env ps at bs t.spelled)
+flags-count root (component name g presence default own fs) env (filled d ps) at bs t = one_bit presence true _ ∙ ap (λ n. length (bit_before presence true []) + n) (flags-count root fs env ps _ _ t.second)
+flags-count root (component name g presence default own fs) env (empty ps) at bs t = one_bit presence false _ ∙ ap (λ n. length (bit_before presence true []) + n) (flags-count root fs env ps at bs t.spelled)
 flags-count root (inserted name g (Some s) fs) env ps at bs t = flags-count root fs env ps _ _ t.second
 flags-count root (inserted name g None fs) env ps at bs t = flags-count root fs env ps _ _ t.second
 flags-count root _ env ps at bs t = absurd t.0
@@ -207,6 +210,7 @@ module _ (root : Grammar) where
       let over = p.given in
       let above = q.given in
       (h.0, omega arith)
+  rule_law (Ended end) ks known env env' same m n at a b r s p q e = absurd p.0
   rule_law (Slot t) ks known env env' same m n at a b r s p q e =
       let one = same t known in
       let two = p.0 in
@@ -222,6 +226,27 @@ module _ (root : Grammar) where
       let first = one.1.0 in
       let rest = one.1.1 in
       (one.0, cc)
+
+  -- a component that says a slot's number tells it
+  own_agree : (own : Option ℕ) (ks : Known) (env env' : Env) (d d' : Data) → Carries env own d → Carries env' own d' → d ≡ d' → Agree ks env env' → Agree (with_own own ks) env env'
+  own_agree None ks env env' d d' p q e same = same
+  own_agree (Some s) ks env env' d d' p q e same = agree_more ks env env' s (number_of d) same p (q ∙ ap (λ x. Some (number_of x)) (sym e))
+
+  pub own_law : {P Q : Part} {A B : Type 0} (own : Option ℕ) (ks : Known) (env env' : Env) (d d' : Data) → (A → Carries env own d) → (B → Carries env' own d')
+      → Law P Q ((d ≡ d') × Agree ks env env') → Law (Where A P) (Where B Q) ((d ≡ d') × Agree (with_own own ks) env env')
+  own_law own ks env env' d d' f g law at a b r s p q e =
+      let h = law at a b r s p.spelled q.spelled e in
+      (h.0, (h.1.0, own_agree own ks env env' d d' (f p.given) (g q.given) h.1.0 h.1.1))
+
+  -- a list with a size in front, or with a pattern behind that no element begins with
+  list_law : (end : Option (List Bool)) (sizing : Sizing) (g : Grammar) (ks : Known) → RuleIn ks sizing.rule → EndTold end sizing.sizes g → Scoped root ks g → (env env' : Env) → Agree ks env env' → ((d d' : Data) → Law (Spell root Any g env d) (Spell root Any g env' d') (d ≡ d'))
+      → (es fs : Elements) → Law (ListPart end sizing env (Spell root Any g env) es) (ListPart end sizing env' (Spell root Any g env') fs) (es ≡ fs)
+  list_law None sizing g ks known told fine env env' same law es fs at a b r s p q e =
+      let one = then_law (element_count es ≡ element_count fs) (es ≡ fs) (given_law (λ _ _. rule_law sizing.rule ks known env env' same (element_count es) (element_count fs)))
+      (run_law (Spell root Any g env) (Spell root Any g env') law es fs) at a b r s p q e in
+      (one.0, one.1.1)
+  list_law (Some end) sizing g ks known told fine env env' same law es fs at a b r s p q e =
+      ended_law end (Spell root Any g env) (Spell root Any g env') law (λ d at' bs t z. not_begun root end g ks fine told.told env d at' bs t z) (λ d at' bs t z. not_begun root end g ks fine told.told env' d at' bs t z) es fs at a b r s p.spelled q.spelled e
 
   pub window_law : (P Q : Part) (F : Type 0) → Law P Q F → (n : ℕ) → Law (Window P (Fill Any) n) (Window Q (Fill Any) n) F
   window_law P Q F h n at a b r s p q e =
@@ -310,9 +335,8 @@ module _ (root : Grammar) where
     form_law (seq _ home) ks fine env env' ok same (record_of ps) _ at a b r s p q e = absurd q.0
     form_law (seq _ home) ks fine env env' ok same _ d' at a b r s p q e = absurd p.0
     form_law (list sizing g) ks fine env env' ok same (list_of es) (list_of fs) at a b r s p q e =
-        let one = then_law (element_count es ≡ element_count fs) (es ≡ fs) (given_law (λ _ _. rule_law sizing.rule ks fine.0 env env' same (element_count es) (element_count fs)))
-        (run_law (Spell root Any g env) (Spell root Any g env') (λ d d'. law_map (λ h. h.0) (spell_law g ks fine.1 env env' ok same d d')) es fs) at a b r s p q e in
-        (one.0, (ap list_of one.1.1, same))
+        let one = list_law (ending sizing.rule) sizing g ks fine.0 fine.2 fine.1 env env' same (λ d d'. law_map (λ h. h.0) (spell_law g ks fine.1 env env' ok same d d')) es fs at a b r s p q e in
+        (one.0, (ap list_of one.1, same))
     form_law (list sizing g) ks fine env env' ok same (list_of es) _ at a b r s p q e = absurd q.0
     form_law (list sizing g) ks fine env env' ok same _ d' at a b r s p q e = absurd p.0
     form_law (contained sizing g) ks fine env env' ok same d d' at a b r s p q e =
@@ -357,26 +381,27 @@ module _ (root : Grammar) where
 
     fields_law : (fs : Fields) (ks : Known) → FieldsScoped root ks fs → (env env' : Env) → Permitted root env → Agree ks env env' → (ps qs : Places) → presence_bits fs ps ≡ presence_bits fs qs → Law (FieldsPart root Any fs env ps) (FieldsPart root Any fs env' qs) ((ps ≡ qs) × Agree (fields_after ks fs) env env')
     fields_law no_fields ks fine env env' ok same no_places no_places flags at a b r s p q e = (p ∙ sym q, (refl, same))
-    fields_law (component name g presence default fs) ks fine env env' ok same (filled d ps) (filled d' qs) flags at a b r s p q e =
-        let more = choose_known presence ks (after ks g) in
-        let one = then_law ((d ≡ d') × Agree (after ks g) env env') ((ps ≡ qs) × Agree (fields_after more fs) env env') (given_law (λ _ _. spell_law g ks fine.1 env env' ok same d d'))
-        (λ h. fields_law fs more fine.2 env env' ok (after_there presence ks (after ks g) env env' same h.1) ps qs (bits_behind presence true _ _ flags)) at a b r s p q e in
+    fields_law (component name g presence default own fs) ks fine env env' ok same (filled d ps) (filled d' qs) flags at a b r s p q e =
+        let behind = with_own own (after ks g) in
+        let more = choose_known presence ks behind in
+        let one = then_law ((d ≡ d') × Agree behind env env') ((ps ≡ qs) × Agree (fields_after more fs) env env') (own_law own (after ks g) env env' d d' (λ x. x.1) (λ x. x.1) (spell_law g ks fine.1 env env' ok same d d'))
+        (λ h. fields_law fs more fine.2 env env' ok (after_there presence ks behind env env' same h.1) ps qs (bits_behind presence true _ _ flags)) at a b r s p q e in
         let first = one.1.0.0 in
         let rest = one.1.1.0 in
         (one.0, (cc, one.1.1.1))
-    fields_law (component name g presence default fs) ks fine env env' ok same (empty ps) (empty qs) flags at a b r s p q e =
-        let one = fields_law fs (choose_known presence ks (after ks g)) fine.2 env env' ok (after_away presence ks (after ks g) env env' p.given same) ps qs (bits_behind presence false _ _ flags) at a b r s p.spelled q.spelled e in
+    fields_law (component name g presence default own fs) ks fine env env' ok same (empty ps) (empty qs) flags at a b r s p q e =
+        let one = fields_law fs (choose_known presence ks (with_own own (after ks g))) fine.2 env env' ok (after_away presence ks (with_own own (after ks g)) env env' p.given same) ps qs (bits_behind presence false _ _ flags) at a b r s p.spelled q.spelled e in
         (one.0, (ap empty one.1.0, one.1.1))
-    fields_law (component name g presence default fs) ks fine env env' ok same (filled d ps) (empty qs) flags at a b r s p q e =
-        absurd (there_and_away ks env env' same presence fine.0 _ _ flags p.first.given q.given)
-    fields_law (component name g presence default fs) ks fine env env' ok same (empty ps) (filled d qs) flags at a b r s p q e =
-        absurd (there_and_away ks env' env (agree_back ks env env' same) presence fine.0 _ _ (sym flags) q.first.given p.given)
+    fields_law (component name g presence default own fs) ks fine env env' ok same (filled d ps) (empty qs) flags at a b r s p q e =
+        absurd (there_and_away ks env env' same presence fine.0 _ _ flags p.first.given.0 q.given)
+    fields_law (component name g presence default own fs) ks fine env env' ok same (empty ps) (filled d qs) flags at a b r s p q e =
+        absurd (there_and_away ks env' env (agree_back ks env env' same) presence fine.0 _ _ (sym flags) q.first.given.0 p.given)
     fields_law (inserted name g (Some t) fs) ks fine env env' ok same ps qs flags at a b r s p q e =
         law_map (λ h. h.1) (then_law (Agree (with_slot t ks) env env') ((ps ≡ qs) × Agree (fields_after (with_slot t ks) fs) env env') (slot_law g fine.0 ks env env' t same) (λ more. fields_law fs (with_slot t ks) fine.1 env env' ok more ps qs flags)) at a b r s p q e
     fields_law (inserted name g None fs) ks fine env env' ok same ps qs flags at a b r s p q e =
         law_map (λ h. h.1) (then_law ((null ≡ null) × Agree (after ks g) env env') ((ps ≡ qs) × Agree (fields_after ks fs) env env') (spell_law g ks fine.0 env env' ok same null null) (λ _. fields_law fs ks fine.1 env env' ok same ps qs flags)) at a b r s p q e
     fields_law no_fields ks fine env env' ok same no_places _ flags at a b r s p q e = absurd q.0
     fields_law no_fields ks fine env env' ok same _ qs flags at a b r s p q e = absurd p.0
-    fields_law (component name g presence default fs) ks fine env env' ok same (filled d ps) no_places flags at a b r s p q e = absurd q.0
-    fields_law (component name g presence default fs) ks fine env env' ok same (empty ps) no_places flags at a b r s p q e = absurd q.0
-    fields_law (component name g presence default fs) ks fine env env' ok same no_places qs flags at a b r s p q e = absurd p.0
+    fields_law (component name g presence default own fs) ks fine env env' ok same (filled d ps) no_places flags at a b r s p q e = absurd q.0
+    fields_law (component name g presence default own fs) ks fine env env' ok same (empty ps) no_places flags at a b r s p q e = absurd q.0
+    fields_law (component name g presence default own fs) ks fine env env' ok same no_places qs flags at a b r s p q e = absurd p.0

@@ -27,7 +27,7 @@ aligned at = record { aligned = omega arith; fewest = omega arith; zeros = λ _.
 
 -- SEQUENCE { a INTEGER (0..255), b INTEGER (0..7) }
 abbrev first_row : Grammar
-first_row = node 1 (seq (component (97 ∷ []) (node 1 (num (integer (pos 255) (Range (pos 0) 8)))) Always None (component (98 ∷ []) (node 1 (num (integer (pos 7) (Range (pos 0) 3)))) Always None no_fields)) [])
+first_row = node 1 (seq (component (97 ∷ []) (node 1 (num (integer (pos 255) (Range (pos 0) 8)))) Always None None (component (98 ∷ []) (node 1 (num (integer (pos 7) (Range (pos 0) 3)))) Always None None no_fields)) [])
 
 -- {"a":5,"b":3} is 05 60, eleven bits of it
 pub five_three : IsWritten first_row (record_of (filled (int (pos 5)) (filled (int (pos 3)) no_places))) (low_bits 8 5 ++ low_bits 3 3)
@@ -49,7 +49,7 @@ five_three = record {
         back = low_bits 3 3;
         whole = refl;
         first = record {
-          given = tt;
+          given = (tt, tt);
           spelled = record {
             front = [];
             back = _;
@@ -63,7 +63,7 @@ five_three = record {
           back = [];
           whole = refl;
           first = record {
-            given = tt;
+            given = (tt, tt);
             spelled = record {
               front = [];
               back = _;
@@ -81,7 +81,7 @@ five_three = record {
 
 -- SEQUENCE { data OCTET STRING (SIZE (0..16)) } with { len INTEGER u8, data [size len] }
 abbrev fifth_row : Grammar
-fifth_row = node 1 (seq (inserted (108 ∷ []) (node 1 (num (integer (pos 255) (PosInt 8)))) (Some 0) (component (100 ∷ []) (node 1 (octets (record { sizes = (pos 0, pos 16) ∷ []; rule = Slot 0 }))) Always None no_fields)) (0 ∷ []))
+fifth_row = node 1 (seq (inserted (108 ∷ []) (node 1 (num (integer (pos 255) (PosInt 8)))) (Some 0) (component (100 ∷ []) (node 1 (octets (record { sizes = (pos 0, pos 16) ∷ []; rule = Slot 0 }))) Always None None no_fields)) (0 ∷ []))
 
 abbrev two_octets : Data
 two_octets = record_of (filled (octet_string (161 ∷ 178 ∷ [])) no_places)
@@ -98,7 +98,7 @@ length_first = record {
     fine = record {
       count = refl;
       permitted = (refl, tt);
-      least = λ _. (record { answers = record { permitted = refl; meets = ((λ _. refl), tt) }; first = λ y a. omega (arith, ints, a.meets.0 refl) }, tt);
+      least = λ _. (record { answers = record { permitted = refl; meets = (refl, tt) }; first = λ y a. omega (arith, ints, a.meets.0) }, tt);
     };
     spelled = record {
       front = [];
@@ -125,7 +125,7 @@ length_first = record {
           back = [];
           whole = refl;
           first = record {
-            given = tt;
+            given = (tt, tt);
             spelled = record {
               front = [];
               back = _;
@@ -148,7 +148,7 @@ bool_leaf = record { kind = Boolean; set = (pos 0, pos 1) ∷ []; coding = Flag 
 
 -- SEQUENCE { a INTEGER (0..7) OPTIONAL, b BOOLEAN } has 2 and 5
 optional_row : Grammar
-optional_row = node 1 (seq (component (97 ∷ []) (node 1 (num (integer (pos 7) (Range (pos 0) 3)))) Bit None (component (98 ∷ []) (node 1 (num bool_leaf)) Always None no_fields)) [])
+optional_row = node 1 (seq (component (97 ∷ []) (node 1 (num (integer (pos 7) (Range (pos 0) 3)))) Bit None None (component (98 ∷ []) (node 1 (num bool_leaf)) Always None None no_fields)) [])
 
 first_bounds : span first_row ≡ record { least = 11; greatest = 11 }
 first_bounds = refl
@@ -159,7 +159,7 @@ optional_bounds = refl
 
 -- a in 3 bits, b in 8 behind a multiple of 16: 11 and 26
 word_row : Grammar
-word_row = node 1 (seq (component (97 ∷ []) (node 1 (num (integer (pos 7) (Range (pos 0) 3)))) Always None (component (98 ∷ []) (node 16 (num (integer (pos 255) (Range (pos 0) 8)))) Always None no_fields)) [])
+word_row = node 1 (seq (component (97 ∷ []) (node 1 (num (integer (pos 7) (Range (pos 0) 3)))) Always None None (component (98 ∷ []) (node 16 (num (integer (pos 255) (Range (pos 0) 8)))) Always None None no_fields)) [])
 
 word_bounds : span word_row ≡ record { least = 11; greatest = 26 }
 unfolding word_row
@@ -201,7 +201,7 @@ one_octet = inr (record {
               front = low_bits 8 5;
               back = [];
               whole = refl;
-              spelled = record { front = []; back = _; whole = refl; first = any_aligned 0; second = (pos 5, refl, record { permitted = refl; image = pos 5; maps = refl; spelled = (5, refl, record { width = refl; value = refl }) }) };
+              spelled = record { given = tt; spelled = record { front = []; back = _; whole = refl; first = any_aligned 0; second = (pos 5, refl, record { permitted = refl; image = pos 5; maps = refl; spelled = (5, refl, record { width = refl; value = refl }) }) } };
               more = 0;
               reaches = refl;
               fails = inl (

@@ -5,17 +5,17 @@ use Rattle.std.specs.List.{list_any, list_all, range_with_len}
 use Rattle.std.proofs.lemmas.Bool.Decides.{nat_tests}
 use Rattle.acn_grammar.specs.Check.{CheckFault, forward, Undecodable, conditions_of}
 use Rattle.acn_grammar.specs.Grammar.{Grammar, Form, Fields, Alternatives, node, num, octets, bits, text, seq, list, choice, contained, no_fields, component, inserted, no_alternatives, alternative}
-use Rattle.acn_grammar.specs.Scoped.{Known, with_slot, TestsIn, PresenceIn, RuleIn, FineField, choose_known, after, fields_after, names_of}
-use Rattle.acn_grammar.specs.Tree.{IsTree, holds, is_slot, near, near_node, near_if, role_fine, encloses, form_fine, same_numbers, slots_of, all_true, stand_rules}
+use Rattle.acn_grammar.specs.Scoped.{Known, with_slot, TestsIn, PresenceIn, RuleIn, FineField, choose_known, with_own, after, fields_after, names_of}
+use Rattle.acn_grammar.specs.Tree.{IsTree, holds, is_slot, near, near_node, near_if, slot_list, role_fine, own_fine, presence_fine, encloses, form_fine, same_numbers, slots_of, all_true, stand_rules}
 use Rattle.acn_grammar.specs.Walk.{Stand, Role, a_component, an_inserted, an_alternative, an_element, a_content, root_node, nodes, nodes_of, form_nodes, field_nodes, slot_here, Use, condition, slot_of, uses, own_tests, presence_tests, form_uses, rule_uses}
 use Rattle.acn_grammar.specs.declared.node.Presence.{Presence}
 use Rattle.acn_grammar.specs.declared.node.Presence.TheVariants.{Always, Bit, When}
 use Rattle.acn_grammar.specs.declared.node.SizeRule.{SizeRule}
-use Rattle.acn_grammar.specs.declared.node.SizeRule.TheVariants.{Prefix, Slot}
+use Rattle.acn_grammar.specs.declared.node.SizeRule.TheVariants.{Prefix, Slot, Ended}
 use Rattle.acn_grammar.specs.declared.node.Test.{Test}
 use Rattle.acn_grammar.specs.declared.node.Test.TheVariants.{Flag, Equals}
 use Rattle.acn_grammar.proofs.Codings.{both_are, equal_numbers}
-use Rattle.acn_laws.proofs.Placed.{or_left, or_right, any_left, any_right, any_either, holds_right, holds_either, list_all-holds, field_is, has_field, near_has, near_if_when, is_number, no_field, twice, fine_at, home_near, home_is, Place, FieldsPlace, CasesPlace, here_at, place_fine, to_fields, first_component, next_component, first_inserted, next_inserted, tree_numbered, tree_rules, slot_in, parts_apart, inserted_number}
+use Rattle.acn_laws.proofs.Placed.{or_left, or_right, any_left, any_right, any_either, holds_right, holds_either, list_all-holds, field_is, has_field, near_has, near_if_when, near_parts, own_number, is_number, no_field, twice, fine_at, home_near, home_is, Place, FieldsPlace, CasesPlace, here_at, place_fine, to_fields, first_component, next_component, first_inserted, next_inserted, tree_numbered, tree_rules, slot_in, parts_apart, inserted_number}
 use Rattle.acn_grammar.proofs.Texts.{either}
 
 -- Uses and fields by their places.
@@ -66,7 +66,17 @@ get_later (z ∷ a) x y c j e = let r = get_later a x y c j e in (suc r.0, omega
 
 no_uses : (role : Role) (path around : List ℕ) (align : ℕ) (form : Form) (s t : ℕ) → role_fine role form ≡ true → is_slot s (slot_here role) ≡ true → used t (record { path = path; around = around; role = role; align = align; form = form }) ≡ true → ⊥
 no_uses root_node path around align form s t f h u = cc
-no_uses (a_component name presence) path around align form s t f h u = cc
+no_uses (a_component name presence None) path around align form s t f h u = cc
+no_uses (a_component name (When ts) (Some o)) path around align form s t f h u = let g = (both_are (presence_fine (When ts)) false f).1 in cc
+no_uses (a_component name Bit (Some o)) path around align form s t f h u = cc
+no_uses (a_component name Always (Some o)) path around align (num leaf) s t f h u = cc
+no_uses (a_component name Always (Some o)) path around align (octets sizing) s t f h u = cc
+no_uses (a_component name Always (Some o)) path around align (bits sizing) s t f h u = cc
+no_uses (a_component name Always (Some o)) path around align (text leaf) s t f h u = cc
+no_uses (a_component name Always (Some o)) path around align (seq _ home) s t f h u = cc
+no_uses (a_component name Always (Some o)) path around align (list sizing g) s t f h u = cc
+no_uses (a_component name Always (Some o)) path around align (choice cases rule) s t f h u = cc
+no_uses (a_component name Always (Some o)) path around align (contained sizing g) s t f h u = cc
 no_uses (an_alternative name tests) path around align form s t f h u = cc
 no_uses an_element path around align form s t f h u = cc
 no_uses a_content path around align form s t f h u = cc
@@ -91,11 +101,16 @@ presence_in ks (When ts) f = tests_in ks ts f
 
 pub rule_in : (ks : Known) (rule : SizeRule) → ((s : ℕ) → holds (map slot_of (rule_uses rule)) s ≡ true → ks s ≡ true) → RuleIn ks rule
 rule_in ks (Prefix low width) f = tt
+rule_in ks (Ended p) f = tt
 rule_in ks (Slot s) f = f s (or_left (nat_eq s s) false (same_eq s))
 
 pub names_are : (cases : Alternatives) → names_of cases ≡ map (λ c. c.0) (conditions_of cases)
 names_are no_alternatives = refl
 names_are (alternative name g ts more) = ap (λ ns. name ∷ ns) (names_are more)
+
+if_truth : {F : Type 0} (b : Bool) → (b ≡ true → F) → (b ≡ false → F) → F
+if_truth true f g = f refl
+if_truth false f g = g refl
 
 pub false_from : (b : Bool) → (b ≡ true → ⊥) → b ≡ false
 false_from true f = absurd (f refl)
@@ -105,6 +120,18 @@ false_from false f = refl
 
 behind_all : (a b : List Stand) (ks : Known) (s : ℕ) → (ks s || has_field s b) ≡ true → (ks s || has_field s (a ++ b)) ≡ true
 behind_all a b ks s h = either {F = (ks s || has_field s (a ++ b)) ≡ true} (ks s) (has_field s b) h (λ q. or_left (ks s) (has_field s (a ++ b)) q) (λ q. or_right (ks s) (has_field s (a ++ b)) (any_right (field_is s) a b q))
+
+own_either : {F : Type 0} (own : Option ℕ) (ks : Known) (s : ℕ) → with_own own ks s ≡ true → (is_slot s own ≡ true → F) → (ks s ≡ true → F) → F
+own_either None ks s h f g = g h
+own_either {F} (Some t) ks s h f g = either {F = F} (nat_eq t s) (ks s) h f g
+
+own_first : (own : Option ℕ) (ks : Known) (s : ℕ) → is_slot s own ≡ true → with_own own ks s ≡ true
+own_first None ks s h = cc
+own_first (Some t) ks s h = or_left (nat_eq t s) (ks s) h
+
+own_second : (own : Option ℕ) (ks : Known) (s : ℕ) → ks s ≡ true → with_own own ks s ≡ true
+own_second None ks s h = h
+own_second (Some t) ks s h = or_right (nat_eq t s) (ks s) h
 
 mutual
   pub after_from : (g : Grammar) (role : Role) (path around : List ℕ) (ks : Known) (s : ℕ) → after ks g s ≡ true → (ks s || has_field s (nodes role path around g)) ≡ true
@@ -123,17 +150,19 @@ mutual
 
   fields_after_from : (fs : Fields) (path around : List ℕ) (k : ℕ) (ks : Known) (s : ℕ) → fields_after ks fs s ≡ true → (ks s || has_field s (field_nodes path around k fs)) ≡ true
   fields_after_from no_fields path around k ks s h = or_left (ks s) false h
-  fields_after_from (component name g Always default fs) path around k ks s h =
-      let a = nodes (a_component name Always) (path ++ k ∷ []) around g in
+  fields_after_from (component name g Always default own fs) path around k ks s h =
+      let a = nodes (a_component name Always own) (path ++ k ∷ []) around g in
       let b = field_nodes path around (suc k) fs in
-      either {F = (ks s || has_field s (nodes (a_component name Always) (path ++ k ∷ []) around g ++ field_nodes path around (suc k) fs)) ≡ true} (after ks g s) (has_field s b) (fields_after_from fs path around (suc k) (after ks g) s h)
-      (λ q. either {F = (ks s || has_field s (nodes (a_component name Always) (path ++ k ∷ []) around g ++ field_nodes path around (suc k) fs)) ≡ true} (ks s) (has_field s a) (after_from g (a_component name Always) (path ++ k ∷ []) around ks s q)
-      (λ r. or_left (ks s) (has_field s (a ++ b)) r) (λ r. or_right (ks s) (has_field s (a ++ b)) (any_left (field_is s) a b r)))
+      either {F = (ks s || has_field s (nodes (a_component name Always own) (path ++ k ∷ []) around g ++ field_nodes path around (suc k) fs)) ≡ true} (with_own own (after ks g) s) (has_field s b) (fields_after_from fs path around (suc k) (with_own own (after ks g)) s h)
+      (λ q. own_either {F = (ks s || has_field s (nodes (a_component name Always own) (path ++ k ∷ []) around g ++ field_nodes path around (suc k) fs)) ≡ true} own (after ks g) s q
+      (λ r. or_right (ks s) (has_field s (a ++ b)) (any_left (field_is s) a b (slot_in (a_component name Always own) (path ++ k ∷ []) around g s r)))
+      (λ t. either {F = (ks s || has_field s (nodes (a_component name Always own) (path ++ k ∷ []) around g ++ field_nodes path around (suc k) fs)) ≡ true} (ks s) (has_field s a) (after_from g (a_component name Always own) (path ++ k ∷ []) around ks s t)
+      (λ r. or_left (ks s) (has_field s (a ++ b)) r) (λ r. or_right (ks s) (has_field s (a ++ b)) (any_left (field_is s) a b r))))
       (λ q. or_right (ks s) (has_field s (a ++ b)) (any_right (field_is s) a b q))
-  fields_after_from (component name g Bit default fs) path around k ks s h =
-      behind_all (nodes (a_component name Bit) (path ++ k ∷ []) around g) (field_nodes path around (suc k) fs) ks s (fields_after_from fs path around (suc k) ks s h)
-  fields_after_from (component name g (When ts) default fs) path around k ks s h =
-      behind_all (nodes (a_component name (When ts)) (path ++ k ∷ []) around g) (field_nodes path around (suc k) fs) ks s (fields_after_from fs path around (suc k) ks s h)
+  fields_after_from (component name g Bit default own fs) path around k ks s h =
+      behind_all (nodes (a_component name Bit own) (path ++ k ∷ []) around g) (field_nodes path around (suc k) fs) ks s (fields_after_from fs path around (suc k) ks s h)
+  fields_after_from (component name g (When ts) default own fs) path around k ks s h =
+      behind_all (nodes (a_component name (When ts) own) (path ++ k ∷ []) around g) (field_nodes path around (suc k) fs) ks s (fields_after_from fs path around (suc k) ks s h)
   fields_after_from (inserted name (node align form) (Some t) fs) path around k ks s h =
       let a = nodes (an_inserted name (Some t)) (path ++ k ∷ []) around (node align form) in
       let b = field_nodes path around (suc k) fs in
@@ -148,11 +177,11 @@ pub both_true : (a b : Bool) → a ≡ true → b ≡ true → (a && b) ≡ true
 both_true true b h k = k
 both_true false b h k = cc
 
-not_true : (b : Bool) → b ≡ false → not b ≡ true
+pub not_true : (b : Bool) → b ≡ false → not b ≡ true
 not_true true h = cc
 not_true false h = refl
 
-neither : (a b : Bool) → (a || b) ≡ false → (a ≡ false) × (b ≡ false)
+pub neither : (a b : Bool) → (a || b) ≡ false → (a ≡ false) × (b ≡ false)
 neither true b h = cc
 neither false b h = (refl, h)
 
@@ -166,6 +195,11 @@ fresh_more ks pre a f s h = any_left (field_is s) pre a (f s h)
 fresh_after : (g : Grammar) (role : Role) (path around : List ℕ) (ks : Known) (pre : List Stand) → Fresh ks pre → Fresh (after ks g) (pre ++ nodes role path around g)
 fresh_after g role path around ks pre f s h = either {F = has_field s (pre ++ nodes role path around g) ≡ true} (ks s) (has_field s (nodes role path around g)) (after_from g role path around ks s h)
     (λ q. any_left (field_is s) pre (nodes role path around g) (f s q)) (λ q. any_right (field_is s) pre (nodes role path around g) q)
+
+fresh_own : (name : List ℕ) (g : Grammar) (path around : List ℕ) (k : ℕ) (own : Option ℕ) (ks : Known) (pre : List Stand) → Fresh ks pre → Fresh (with_own own (after ks g)) (pre ++ nodes (a_component name Always own) (path ++ k ∷ []) around g)
+fresh_own name g path around k own ks pre f s h = own_either {F = has_field s (pre ++ nodes (a_component name Always own) (path ++ k ∷ []) around g) ≡ true} own (after ks g) s h
+    (λ q. any_right (field_is s) pre (nodes (a_component name Always own) (path ++ k ∷ []) around g) (slot_in (a_component name Always own) (path ++ k ∷ []) around g s q))
+    (λ q. fresh_after g (a_component name Always own) (path ++ k ∷ []) around ks pre f s q)
 
 fresh_slot : (name : List ℕ) (g : Grammar) (path around : List ℕ) (k t : ℕ) (ks : Known) (pre : List Stand) → Fresh ks pre → Fresh (with_slot t ks) (pre ++ nodes (an_inserted name (Some t)) (path ++ k ∷ []) around g)
 fresh_slot name g path around k t ks pre f s h = either {F = has_field s (pre ++ nodes (an_inserted name (Some t)) (path ++ k ∷ []) around g) ≡ true} (nat_eq t s) (ks s) h
@@ -211,7 +245,7 @@ module _ (root : Grammar) (tree : IsTree root) (sound : (f : CheckFault) → Und
       let fine = place_fine (nodes_of root) numbers rules pre role path around align (seq fields home) post p in
       twice (nodes_of root) numbers rules pre ((here ∷ inner) ++ post) p.whole s h (any_left (field_is s) (here ∷ inner) post (or_right (field_is s here) (has_field s inner) (near_has fields path (home ++ around) 0 s (home_near (nodes_of root) numbers rules here fields home fine.home s q)))))
 
-  outer_home : (pre : List Stand) (role : Role) (path around : List ℕ) (align : ℕ) (fields : Fields) (home : List ℕ) (post : List Stand) → At pre role path around (node align (seq fields home)) post → (s : ℕ) → holds around s ≡ true → holds home s ≡ false
+  pub outer_home : (pre : List Stand) (role : Role) (path around : List ℕ) (align : ℕ) (fields : Fields) (home : List ℕ) (post : List Stand) → At pre role path around (node align (seq fields home)) post → (s : ℕ) → holds around s ≡ true → holds home s ≡ false
   outer_home pre role path around align fields home post p s o = false_from (holds home s) (λ q.
       let here = here_at role path around align (seq fields home) in
       let inner = field_nodes path (home ++ around) 0 fields in
@@ -221,7 +255,7 @@ module _ (root : Grammar) (tree : IsTree root) (sound : (f : CheckFault) → Und
       cc)
 
   mutual
-    keeps : (g : Grammar) (pre : List Stand) (role : Role) (path around : List ℕ) (post : List Stand) → At pre role path around g post → (ks : Known) → Fresh ks pre → (s : ℕ) → ks s ≡ true → after ks g s ≡ true
+    pub keeps : (g : Grammar) (pre : List Stand) (role : Role) (path around : List ℕ) (post : List Stand) → At pre role path around g post → (ks : Known) → Fresh ks pre → (s : ℕ) → ks s ≡ true → after ks g s ≡ true
     keeps (node align (seq fields home)) pre role path around post p ks fresh s h =
         let here = here_at role path around align (seq fields home) in
         both_true (fields_after ks fields s) (not (holds home s))
@@ -237,22 +271,29 @@ module _ (root : Grammar) (tree : IsTree root) (sound : (f : CheckFault) → Und
 
     fields_keeps : (fs : Fields) (pre : List Stand) (path around : List ℕ) (k : ℕ) (post : List Stand) → FieldsAt pre path around k fs post → (ks : Known) → Fresh ks pre → (s : ℕ) → ks s ≡ true → fields_after ks fs s ≡ true
     fields_keeps no_fields pre path around k post p ks fresh s h = h
-    fields_keeps (component name g Always default fs) pre path around k post p ks fresh s h =
-        fields_keeps fs (pre ++ nodes (a_component name Always) (path ++ k ∷ []) around g) path around (suc k) post (next_component (nodes_of root) numbers rules pre path around k name g Always default fs post p)
-        (after ks g) (fresh_after g (a_component name Always) (path ++ k ∷ []) around ks pre fresh) s
-        (keeps g pre (a_component name Always) (path ++ k ∷ []) around (field_nodes path around (suc k) fs ++ post) (first_component (nodes_of root) numbers rules pre path around k name g Always default fs post p) ks fresh s h)
-    fields_keeps (component name g Bit default fs) pre path around k post p ks fresh s h =
-        fields_keeps fs (pre ++ nodes (a_component name Bit) (path ++ k ∷ []) around g) path around (suc k) post (next_component (nodes_of root) numbers rules pre path around k name g Bit default fs post p)
-        ks (fresh_more ks pre (nodes (a_component name Bit) (path ++ k ∷ []) around g) fresh) s h
-    fields_keeps (component name g (When ts) default fs) pre path around k post p ks fresh s h =
-        fields_keeps fs (pre ++ nodes (a_component name (When ts)) (path ++ k ∷ []) around g) path around (suc k) post (next_component (nodes_of root) numbers rules pre path around k name g (When ts) default fs post p)
-        ks (fresh_more ks pre (nodes (a_component name (When ts)) (path ++ k ∷ []) around g) fresh) s h
+    fields_keeps (component name g Always default own fs) pre path around k post p ks fresh s h =
+        fields_keeps fs (pre ++ nodes (a_component name Always own) (path ++ k ∷ []) around g) path around (suc k) post (next_component (nodes_of root) numbers rules pre path around k name g Always default own fs post p)
+        (with_own own (after ks g)) (fresh_own name g path around k own ks pre fresh) s
+        (own_second own (after ks g) s (keeps g pre (a_component name Always own) (path ++ k ∷ []) around (field_nodes path around (suc k) fs ++ post) (first_component (nodes_of root) numbers rules pre path around k name g Always default own fs post p) ks fresh s h))
+    fields_keeps (component name g Bit default own fs) pre path around k post p ks fresh s h =
+        fields_keeps fs (pre ++ nodes (a_component name Bit own) (path ++ k ∷ []) around g) path around (suc k) post (next_component (nodes_of root) numbers rules pre path around k name g Bit default own fs post p)
+        ks (fresh_more ks pre (nodes (a_component name Bit own) (path ++ k ∷ []) around g) fresh) s h
+    fields_keeps (component name g (When ts) default own fs) pre path around k post p ks fresh s h =
+        fields_keeps fs (pre ++ nodes (a_component name (When ts) own) (path ++ k ∷ []) around g) path around (suc k) post (next_component (nodes_of root) numbers rules pre path around k name g (When ts) default own fs post p)
+        ks (fresh_more ks pre (nodes (a_component name (When ts) own) (path ++ k ∷ []) around g) fresh) s h
     fields_keeps (inserted name g (Some t) fs) pre path around k post p ks fresh s h =
         fields_keeps fs (pre ++ nodes (an_inserted name (Some t)) (path ++ k ∷ []) around g) path around (suc k) post (next_inserted (nodes_of root) numbers rules pre path around k name g (Some t) fs post p)
         (with_slot t ks) (fresh_slot name g path around k t ks pre fresh) s (or_right (nat_eq t s) (ks s) h)
     fields_keeps (inserted name g None fs) pre path around k post p ks fresh s h =
         fields_keeps fs (pre ++ nodes (an_inserted name None) (path ++ k ∷ []) around g) path around (suc k) post (next_inserted (nodes_of root) numbers rules pre path around k name g None fs post p)
         ks (fresh_more ks pre (nodes (an_inserted name None) (path ++ k ∷ []) around g) fresh) s h
+
+  -- a component that says a slot is always there
+  pub own_always : (pre : List Stand) (path around : List ℕ) (k : ℕ) (name : List ℕ) (g : Grammar) (presence : Presence) (default : Option (List ℕ)) (own : Option ℕ) (fs : Fields) (post : List Stand) → FieldsAt pre path around k (component name g presence default own fs) post
+      → (s : ℕ) → is_slot s own ≡ true → presence ≡ Always
+  own_always pre path around k name (node align form) presence default own fs post p s q =
+      let fine = place_fine (nodes_of root) numbers rules pre (a_component name presence own) (path ++ k ∷ []) around align form (field_nodes path around (suc k) fs ++ post) (first_component (nodes_of root) numbers rules pre path around k name (node align form) presence default own fs post p) in
+      (own_number own presence form s (both_are (presence_fine presence) (own_fine own presence form) fine.role).1 q).0
 
   -- an open slot whose field stands near in a node is known behind it
   mutual
@@ -272,19 +313,27 @@ module _ (root : Grammar) (tree : IsTree root) (sound : (f : CheckFault) → Und
 
     fields_near_after : (fs : Fields) (pre : List Stand) (path around : List ℕ) (k : ℕ) (post : List Stand) → FieldsAt pre path around k fs post → (ks : Known) → Fresh ks pre → (s : ℕ) → holds around s ≡ true → holds (near fs) s ≡ true → fields_after ks fs s ≡ true
     fields_near_after no_fields pre path around k post p ks fresh s o h = cc
-    fields_near_after (component name g Always default fs) pre path around k post p ks fresh s o h =
-        let next = next_component (nodes_of root) numbers rules pre path around k name g Always default fs post p in
-        let more = fresh_after g (a_component name Always) (path ++ k ∷ []) around ks pre fresh in
-        holds_either {F = fields_after (after ks g) fs s ≡ true} (near_node g) (near fs) s h
-        (λ q. fields_keeps fs (pre ++ nodes (a_component name Always) (path ++ k ∷ []) around g) path around (suc k) post next (after ks g) more s
-        (near_after g pre (a_component name Always) (path ++ k ∷ []) around (field_nodes path around (suc k) fs ++ post) (first_component (nodes_of root) numbers rules pre path around k name g Always default fs post p) ks fresh s o q))
-        (λ q. fields_near_after fs (pre ++ nodes (a_component name Always) (path ++ k ∷ []) around g) path around (suc k) post next (after ks g) more s o q)
-    fields_near_after (component name g Bit default fs) pre path around k post p ks fresh s o h =
-        fields_near_after fs (pre ++ nodes (a_component name Bit) (path ++ k ∷ []) around g) path around (suc k) post (next_component (nodes_of root) numbers rules pre path around k name g Bit default fs post p)
-        ks (fresh_more ks pre (nodes (a_component name Bit) (path ++ k ∷ []) around g) fresh) s o h
-    fields_near_after (component name g (When ts) default fs) pre path around k post p ks fresh s o h =
-        fields_near_after fs (pre ++ nodes (a_component name (When ts)) (path ++ k ∷ []) around g) path around (suc k) post (next_component (nodes_of root) numbers rules pre path around k name g (When ts) default fs post p)
-        ks (fresh_more ks pre (nodes (a_component name (When ts)) (path ++ k ∷ []) around g) fresh) s o h
+    fields_near_after (component name g Always default own fs) pre path around k post p ks fresh s o h =
+        let next = next_component (nodes_of root) numbers rules pre path around k name g Always default own fs post p in
+        let more = fresh_own name g path around k own ks pre fresh in
+        let behind = with_own own (after ks g) in
+        near_parts {F = fields_after behind fs s ≡ true} own Always (near_node g) (near fs) s h
+        (λ q. fields_keeps fs (pre ++ nodes (a_component name Always own) (path ++ k ∷ []) around g) path around (suc k) post next behind more s (own_first own (after ks g) s q))
+        (λ q. fields_keeps fs (pre ++ nodes (a_component name Always own) (path ++ k ∷ []) around g) path around (suc k) post next behind more s
+        (own_second own (after ks g) s (near_after g pre (a_component name Always own) (path ++ k ∷ []) around (field_nodes path around (suc k) fs ++ post) (first_component (nodes_of root) numbers rules pre path around k name g Always default own fs post p) ks fresh s o q)))
+        (λ q. fields_near_after fs (pre ++ nodes (a_component name Always own) (path ++ k ∷ []) around g) path around (suc k) post next behind more s o q)
+    fields_near_after (component name g Bit default own fs) pre path around k post p ks fresh s o h =
+        near_parts {F = fields_after ks fs s ≡ true} own Bit (near_node g) (near fs) s h
+        (λ q. (let never = own_always pre path around k name g Bit default own fs post p s q in cc))
+        (λ q. cc)
+        (λ q. fields_near_after fs (pre ++ nodes (a_component name Bit own) (path ++ k ∷ []) around g) path around (suc k) post (next_component (nodes_of root) numbers rules pre path around k name g Bit default own fs post p)
+        ks (fresh_more ks pre (nodes (a_component name Bit own) (path ++ k ∷ []) around g) fresh) s o q)
+    fields_near_after (component name g (When ts) default own fs) pre path around k post p ks fresh s o h =
+        near_parts {F = fields_after ks fs s ≡ true} own (When ts) (near_node g) (near fs) s h
+        (λ q. (let never = own_always pre path around k name g (When ts) default own fs post p s q in cc))
+        (λ q. cc)
+        (λ q. fields_near_after fs (pre ++ nodes (a_component name (When ts) own) (path ++ k ∷ []) around g) path around (suc k) post (next_component (nodes_of root) numbers rules pre path around k name g (When ts) default own fs post p)
+        ks (fresh_more ks pre (nodes (a_component name (When ts) own) (path ++ k ∷ []) around g) fresh) s o q)
     fields_near_after (inserted name g (Some t) fs) pre path around k post p ks fresh s o h =
         let next = next_inserted (nodes_of root) numbers rules pre path around k name g (Some t) fs post p in
         let more = fresh_slot name g path around k t ks pre fresh in
@@ -377,12 +426,13 @@ module _ (root : Grammar) (tree : IsTree root) (sound : (f : CheckFault) → Und
   }
 
   -- no open slot has its field in a component that may be absent
-  pub optional_none : (pre : List Stand) (path around : List ℕ) (k : ℕ) (name : List ℕ) (g : Grammar) (presence : Presence) (default : Option (List ℕ)) (fs : Fields) (post : List Stand) → FieldsAt pre path around k (component name g presence default fs) post
-      → (presence ≡ Always → ⊥) → (s : ℕ) → holds around s ≡ true → has_field s (nodes (a_component name presence) (path ++ k ∷ []) around g) ≡ true → ⊥
-  optional_none pre path around k name g presence default fs post p never s o h =
-      let a = nodes (a_component name presence) (path ++ k ∷ []) around g in
+  pub optional_none : (pre : List Stand) (path around : List ℕ) (k : ℕ) (name : List ℕ) (g : Grammar) (presence : Presence) (default : Option (List ℕ)) (own : Option ℕ) (fs : Fields) (post : List Stand) → FieldsAt pre path around k (component name g presence default own fs) post
+      → (presence ≡ Always → ⊥) → (s : ℕ) → holds around s ≡ true → has_field s (nodes (a_component name presence own) (path ++ k ∷ []) around g) ≡ true → ⊥
+  optional_none pre path around k name g presence default own fs post p never s o h =
+      let a = nodes (a_component name presence own) (path ++ k ∷ []) around g in
       let b = field_nodes path around (suc k) fs in
-      holds_either {F = ⊥} (near_if presence (near_node g)) (near fs) s (p.close s o (any_left (field_is s) a b h))
+      near_parts {F = ⊥} own presence (near_node g) (near fs) s (p.close s o (any_left (field_is s) a b h))
+      (λ q. never (own_always pre path around k name g presence default own fs post p s q))
       (λ q. never (near_if_when presence (near_node g) s q).0)
       (λ q. parts_apart (nodes_of root) numbers rules pre a b post p.whole s h (near_has fs path around (suc k) s q))
 
@@ -396,23 +446,24 @@ module _ (root : Grammar) (tree : IsTree root) (sound : (f : CheckFault) → Und
   only_slot (node align (num leaf)) f name path around slot s h = either {F = is_slot s slot ≡ true} (is_slot s slot) false h (λ q. q) (λ q. cc)
   only_slot (node align _) f name path around slot s h = absurd f
 
-  pub component_behind : (pre : List Stand) (path around : List ℕ) (k : ℕ) (name : List ℕ) (g : Grammar) (presence : Presence) (default : Option (List ℕ)) (fs : Fields) (post : List Stand) → FieldsAt pre path around k (component name g presence default fs) post
-      → (ks : Known) → Knows ks pre around (field_nodes path around k (component name g presence default fs)) → Knows (choose_known presence ks (after ks g)) (pre ++ nodes (a_component name presence) (path ++ k ∷ []) around g) around (field_nodes path around (suc k) fs)
-  component_behind pre path around k name g Always default fs post p ks knows =
-      let a = nodes (a_component name Always) (path ++ k ∷ []) around g in
+  pub component_behind : (pre : List Stand) (path around : List ℕ) (k : ℕ) (name : List ℕ) (g : Grammar) (presence : Presence) (default : Option (List ℕ)) (own : Option ℕ) (fs : Fields) (post : List Stand) → FieldsAt pre path around k (component name g presence default own fs) post
+      → (ks : Known) → Knows ks pre around (field_nodes path around k (component name g presence default own fs)) → Knows (choose_known presence ks (with_own own (after ks g))) (pre ++ nodes (a_component name presence own) (path ++ k ∷ []) around g) around (field_nodes path around (suc k) fs)
+  component_behind pre path around k name g Always default own fs post p ks knows =
+      let a = nodes (a_component name Always own) (path ++ k ∷ []) around g in
       let b = field_nodes path around (suc k) fs in
-      let first = first_component (nodes_of root) numbers rules pre path around k name g Always default fs post p in
+      let first = first_component (nodes_of root) numbers rules pre path around k name g Always default own fs post p in
       let last = field_nodes path around (suc k) fs ++ post in
       record {
-        known = λ s o h m. any_either {F = after ks g s ≡ true} (field_is s) pre a h
-            (λ q. keeps g pre (a_component name Always) (path ++ k ∷ []) around last first ks knows.fresh s (knows.known s o q (any_right (used s) a b m)))
-            (λ q. near_after g pre (a_component name Always) (path ++ k ∷ []) around last first ks knows.fresh s o (first.close s o q refl));
-        fresh = fresh_after g (a_component name Always) (path ++ k ∷ []) around ks pre knows.fresh;
+        known = λ s o h m. any_either {F = with_own own (after ks g) s ≡ true} (field_is s) pre a h
+            (λ q. own_second own (after ks g) s (keeps g pre (a_component name Always own) (path ++ k ∷ []) around last first ks knows.fresh s (knows.known s o q (any_right (used s) a b m))))
+            (λ q. if_truth {F = with_own own (after ks g) s ≡ true} (is_slot s own) (λ e. own_first own (after ks g) s e)
+            (λ e. own_second own (after ks g) s (near_after g pre (a_component name Always own) (path ++ k ∷ []) around last first ks knows.fresh s o (first.close s o q e))));
+        fresh = fresh_own name g path around k own ks pre knows.fresh;
       }
-  component_behind pre path around k name g Bit default fs post p ks knows =
-      knows_right ks pre around (nodes (a_component name Bit) (path ++ k ∷ []) around g) (field_nodes path around (suc k) fs) (optional_none pre path around k name g Bit default fs post p (λ e. cc)) knows
-  component_behind pre path around k name g (When ts) default fs post p ks knows =
-      knows_right ks pre around (nodes (a_component name (When ts)) (path ++ k ∷ []) around g) (field_nodes path around (suc k) fs) (optional_none pre path around k name g (When ts) default fs post p (λ e. cc)) knows
+  component_behind pre path around k name g Bit default own fs post p ks knows =
+      knows_right ks pre around (nodes (a_component name Bit own) (path ++ k ∷ []) around g) (field_nodes path around (suc k) fs) (optional_none pre path around k name g Bit default own fs post p (λ e. cc)) knows
+  component_behind pre path around k name g (When ts) default own fs post p ks knows =
+      knows_right ks pre around (nodes (a_component name (When ts) own) (path ++ k ∷ []) around g) (field_nodes path around (suc k) fs) (optional_none pre path around k name g (When ts) default own fs post p (λ e. cc)) knows
 
   pub inserted_behind : (pre : List Stand) (path around : List ℕ) (k : ℕ) (name : List ℕ) (g : Grammar) (t : ℕ) (fs : Fields) (post : List Stand) → FieldsAt pre path around k (inserted name g (Some t) fs) post
       → (ks : Known) → Knows ks pre around (field_nodes path around k (inserted name g (Some t) fs)) → Knows (with_slot t ks) (pre ++ nodes (an_inserted name (Some t)) (path ++ k ∷ []) around g) around (field_nodes path around (suc k) fs)

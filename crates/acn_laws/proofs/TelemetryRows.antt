@@ -5,7 +5,7 @@ use Rattle.acn_num.specs.Bits.{low_bits, bits as bits_of}
 use Rattle.acn_grammar.specs.Grammar.{Grammar, Data, node, num, seq, contained, inserted, no_fields, int, item, record_of, no_places, filled}
 use Rattle.acn_grammar.specs.Code.{Any}
 use Rattle.acn_grammar.specs.Env.{Env, MayBeThere}
-use Rattle.acn_grammar.specs.Spell.{Part, Where, Spell, Padding}
+use Rattle.acn_grammar.specs.Spell.{Part, Where, Carries, Spell, Padding}
 use Rattle.acn_grammar.specs.Fails.{Fails, Refusal}
 use Rattle.acn_grammar.specs.Interval.{span}
 use Rattle.acn_grammar.specs.LeafFails.{bad_pattern, content_size, past_content, short, wrong}
@@ -50,7 +50,7 @@ packet_bounds = refl
 
 -- a component that is always there
 abbrev where_component : Grammar → Grammar → Env → Data → Part
-where_component root g env d = Where (MayBeThere env Always) (Spell root Any g env d)
+where_component root g env d = Where (MayBeThere env Always × Carries env None d) (Spell root Any g env d)
 
 -- the octets from bit 48 on, where length says 4: the contents are 21 bits of them
 abbrev late : List Bool
@@ -64,10 +64,10 @@ telemetry = record_of (filled (int (pos 1000)) (filled (item 2) (filled (int (po
 
 -- the first two fields at their places
 time_part : (env : Env) → (where_component packet (integer (pos 0) (pos 4095) (Range (pos 0) 12)) env (int (pos 1000))) 0 (low_bits 12 1000)
-time_part env = record { given = tt; spelled = record { front = []; back = _; whole = refl; first = no_padding 0; second = (pos 1000, refl, record { permitted = refl; image = pos 1000; maps = refl; spelled = (1000, refl, record { width = refl; value = refl }) }) } }
+time_part env = record { given = (tt, tt); spelled = record { front = []; back = _; whole = refl; first = no_padding 0; second = (pos 1000, refl, record { permitted = refl; image = pos 1000; maps = refl; spelled = (1000, refl, record { width = refl; value = refl }) }) } }
 
 mode_part : (env : Env) → (where_component packet mode_node env (item 2)) 12 (low_bits 2 2)
-mode_part env = record { given = tt; spelled = record { front = []; back = _; whole = refl; first = no_padding 12; second = (pos 2, refl, record { permitted = refl; image = pos 2; maps = refl; spelled = (2, refl, record { width = refl; value = refl }) }) } }
+mode_part env = record { given = (tt, tt); spelled = record { front = []; back = _; whole = refl; first = no_padding 12; second = (pos 2, refl, record { permitted = refl; image = pos 2; maps = refl; spelled = (2, refl, record { width = refl; value = refl }) }) } }
 
 pub overlong : Fails packet body ((0, pos 4) ∷ []) false 0 (7 ∷ []) 48 late (record { path = 7 ∷ []; reason = content_size 4 21; at = 48 }) 32
 overlong = inr (record {
@@ -121,7 +121,7 @@ overlong = inr (record {
                         front = low_bits 7 41;
                         back = [];
                         whole = refl;
-                        first = record { given = tt; spelled = record { front = []; back = _; whole = refl; first = no_padding 14; second = (pos 1, refl, record { permitted = refl; image = pos 1; maps = refl; spelled = (41, refl, record { width = refl; value = refl }) }) } };
+                        first = record { given = (tt, tt); spelled = record { front = []; back = _; whole = refl; first = no_padding 14; second = (pos 1, refl, record { permitted = refl; image = pos 1; maps = refl; spelled = (41, refl, record { width = refl; value = refl }) }) } };
                         second = refl;
                       };
                     };
@@ -179,7 +179,7 @@ past_inside = inr (record {
               front = low_bits 12 1000;
               back = low_bits 2 2 ++ low_bits 2 1;
               whole = refl;
-              spelled = (time_part []).spelled;
+              spelled = record { given = tt; spelled = (time_part []).spelled };
               more = 4;
               reaches = refl;
               fails = inl (
@@ -190,7 +190,7 @@ past_inside = inr (record {
                     front = low_bits 2 2;
                     back = low_bits 2 1;
                     whole = refl;
-                    spelled = (mode_part []).spelled;
+                    spelled = record { given = tt; spelled = (mode_part []).spelled };
                     more = 2;
                     reaches = refl;
                     fails = inl (tt, inl (inr (record { front = []; back = _; whole = refl; spelled = no_padding 14; more = 2; reaches = refl; fails = (short, inl (omega arith, refl, refl), refl) })));

@@ -42,7 +42,7 @@ octet_first : (f rest : List Bool) → length f ≡ 8 → octet_values (f ++ res
 octet_first (a ∷ b ∷ c ∷ d ∷ e ∷ f ∷ g ∷ h ∷ []) rest l = refl
 octet_first _ rest l = absurd (omega arith)
 
-characters_octets : (leaf : TextLeaf) → leaf.width ≡ 8 → leaf.indexed ≡ false → (cs : List ℕ) (at : ℕ) (bs rest : List Bool) → CharactersPart leaf cs at bs → octet_values (bs ++ rest) ≡ cs ++ octet_values rest
+pub characters_octets : (leaf : TextLeaf) → leaf.width ≡ 8 → leaf.indexed ≡ false → (cs : List ℕ) (at : ℕ) (bs rest : List Bool) → CharactersPart leaf cs at bs → octet_values (bs ++ rest) ≡ cs ++ octet_values rest
 characters_octets leaf w i [] at bs rest e = ap (λ z. octet_values (z ++ rest)) e
 characters_octets leaf w i (c ∷ cs) at bs rest t =
     let value : number t.front ≡ c = t.first.spelled.value ∙ rw i refl in
@@ -52,7 +52,7 @@ characters_octets leaf w i (c ∷ cs) at bs rest t =
     join : {x y : ℕ} {xs ys : List ℕ} → x ≡ y → xs ≡ ys → x ∷ xs ≡ y ∷ ys
     join e f = cc
 
-whole_octets : (k : ℕ) (bs rest : List Bool) → length bs ≡ 8 * k → (octet_values (bs ++ rest) ≡ octet_numbers bs ++ octet_values rest) × (length (octet_numbers bs) ≡ k)
+pub whole_octets : (k : ℕ) (bs rest : List Bool) → length bs ≡ 8 * k → (octet_values (bs ++ rest) ≡ octet_numbers bs ++ octet_values rest) × (length (octet_numbers bs) ≡ k)
 whole_octets zero [] rest l = (refl, refl)
 whole_octets zero (x ∷ bs) rest l = absurd (omega arith)
 whole_octets (suc k) (a ∷ b ∷ c ∷ d ∷ e ∷ f ∷ g ∷ h ∷ bs) rest l = let r = whole_octets k bs rest (omega arith) in (ap (λ z. number (a ∷ b ∷ c ∷ d ∷ e ∷ f ∷ g ∷ h ∷ []) ∷ z) r.0, ap suc r.1)

@@ -106,21 +106,19 @@ module _ (path : List ℕ) (place : ℕ) (leaf : TextLeaf) (end : List Bool) (wh
   FoundIn all rest found fault reach = FoundFails (out path place) leaf (length end) most (length (octet_values all)) rest found fault reach
 
   found_steady : (rest : List Bool) (fault : Fault) (reach : ℕ) (found : Option ℕ) → found_end (octet_numbers end) (front rest) ≡ found → FoundIn rest rest found fault reach → (fault.reason ≡ short → ⊥)
-      → (reach ≤ length rest) × ((other : List Bool) → take reach other ≡ take reach rest → FoundIn other other (found_end (octet_numbers end) (front other)) fault reach)
+      → (other : List Bool) → take reach other ≡ take reach rest → FoundIn other other (found_end (octet_numbers end) (front other)) fault reach
   found_steady rest fault reach None is (inl t) r = absurd (r (ap (λ f. f.reason) t.1))
   found_steady rest fault reach None is (inr t) r =
       let all = t.0 in
       let n = t.2 in
-      let l = octets-short rest in (
-        omega arith,
+      let l = octets-short rest in
         λ other e.
             let bits : take (8 * most) other ≡ take (8 * most) rest = rw (← n) e in
             let same = octets_same most other rest bits in
             let far = long_enough (8 * most) other rest (omega arith) bits in
             let long = octets-long other in
             let none : found_end (octet_numbers end) (front other) ≡ None = ap (found_end (octet_numbers end)) same ∙ is in
-            rw none (inr (omega arith, t.1, t.2)),
-      )
+            rw none (inr (omega arith, t.1, t.2))
   found_steady rest fault reach (Some i) is t r =
       let f = find_from (λ j. same_name (take (length (octet_numbers end)) (drop j (front rest))) (octet_numbers end)) 0 (length (front rest)) i is in
       let stands = ap length (same_names (take (length (octet_numbers end)) (drop i (front rest))) (octet_numbers end) f.2) in
@@ -129,8 +127,7 @@ module _ (path : List ℕ) (place : ℕ) (leaf : TextLeaf) (end : List Bool) (wh
       let behind = length-drop i (front rest) in
       let kept = length-take most (octet_values rest) in
       let l = octets-short rest in
-      let place_in : i + length (octet_numbers end) ≤ length (front rest) = omega arith in (
-        omega arith,
+      let place_in : i + length (octet_numbers end) ≤ length (front rest) = omega arith in
         λ other e.
             let k = i + length (octet_numbers end) in
             let bits : take (8 * (i + length (octet_numbers end))) other ≡ take (8 * (i + length (octet_numbers end))) rest = same_within reach (8 * (i + length (octet_numbers end))) other rest (omega arith) e in
@@ -143,8 +140,7 @@ module _ (path : List ℕ) (place : ℕ) (leaf : TextLeaf) (end : List Bool) (wh
             find_too (λ j. same_name (take (length (octet_numbers end)) (drop j (front rest))) (octet_numbers end)) (λ j. same_name (take (length (octet_numbers end)) (drop j (front other))) (octet_numbers end)) 0 (length (front rest)) (length (front other)) i
             (λ j h. ap (λ w. same_name w (octet_numbers end)) (window_same j (length (octet_numbers end)) (i + length (octet_numbers end)) (front other) (front rest) (omega arith) same)) (omega arith) is in
             let text : take (8 * i) other ≡ take (8 * i) rest = same_within reach (8 * i) other rest (omega arith) e in
-            rw found (moved other t text),
-      )
+            rw found (moved other t text)
     where
       reach_is : FoundIn rest rest (Some i) fault reach → reach ≡ 8 * i + length end
       reach_is (inl t) = t.2
@@ -160,14 +156,11 @@ octets-whole end h = let a = octets-short end in let b = octets-long end in omeg
 characters_steady : (path : List ℕ) (place : ℕ) (leaf : TextLeaf) (n : ℕ) → Steady (CharactersFail (out path place) leaf n)
 characters_steady path place leaf n at rest fault reach (inl t) r = absurd (r (ap (λ f. f.reason) t.1))
 characters_steady path place leaf n at rest fault reach (inr t) r =
-    let is = t.3 in
-    let l = t.0 in (
-      omega arith,
-      λ other e.
-          let same = same_within reach (leaf.width * n) other rest (omega arith) e in
-          let far = long_enough (leaf.width * n) other rest l same in
-          inr (far, rw same t.1, t.2, t.3),
-    )
+    λ other e.
+        let is = t.3 in
+        let same = same_within reach (leaf.width * n) other rest (omega arith) e in
+        let far = long_enough (leaf.width * n) other rest t.0 same in
+        inr (far, rw same t.1, t.2, t.3)
 
 by_end : (end : Option (List Bool)) (leaf : TextLeaf) → end_fine end leaf ≡ true → (path : List ℕ) (place : ℕ) (env : Env) → Steady (TextFails (out path place) end leaf env)
 by_end None leaf f path place env at rest fault reach t r =

@@ -31,7 +31,7 @@ abbrev pub octets_of : (low high : ℕ) → SizeRule → Grammar
 octets_of low high rule = node 1 (octets (record { sizes = (pos low, pos high) ∷ []; rule = rule }))
 
 abbrev pub one : (name : ℕ) → Grammar → Presence → Fields → Fields
-one name g presence fs = component (name ∷ []) g presence None fs
+one name g presence fs = component (name ∷ []) g presence None None fs
 
 -- SEQUENCE { a INTEGER (0..255), b INTEGER (0..7) }
 abbrev pub plain : Grammar

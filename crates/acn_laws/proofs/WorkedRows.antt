@@ -116,8 +116,8 @@ one_octet_there = record {
       count = refl;
       permitted = (refl, (refl, tt));
       least = λ _. (
-        record { answers = record { permitted = refl; meets = ((λ _. refl), ((λ e. cc), tt)) }; first = λ y a. omega (arith, ints, a.meets.0 refl) },
-        (record { answers = record { permitted = refl; meets = ((λ e. cc), ((λ _. refl), tt)) }; first = λ y a. omega (arith, ints, a.meets.1.0 refl) }, tt),
+        record { answers = record { permitted = refl; meets = (refl, tt) }; first = λ y a. omega (arith, ints, a.meets.0) },
+        (record { answers = record { permitted = refl; meets = (refl, tt) }; first = λ y a. omega (arith, ints, a.meets.0) }, tt),
       );
     };
     spelled = record {
@@ -140,7 +140,7 @@ one_octet_there = record {
             back = [];
             whole = refl;
             first = record {
-              given = (refl, tt);
+              given = ((refl, tt), tt);
               spelled = record { front = []; back = _; whole = refl; first = none Written 9; second = record { front = []; back = _; whole = refl; first = record { given = refl; spelled = (refl, refl) }; second = record { given = refl; spelled = refl } } };
             };
             second = refl;
@@ -220,7 +220,7 @@ five_and_one mode fill pad = record {
         back = fill ++ low_bits 8 1;
         whole = refl;
         first = record {
-          given = tt;
+          given = (tt, tt);
           spelled = record {
             front = [];
             back = _;
@@ -234,7 +234,7 @@ five_and_one mode fill pad = record {
           back = [];
           whole = sym (append-nil (fill ++ low_bits 8 1));
           first = record {
-            given = tt;
+            given = (tt, tt);
             spelled = record {
               front = fill;
               back = low_bits 8 1;
@@ -282,7 +282,7 @@ truth_alone = record {
           back = [];
           whole = refl;
           first = record {
-            given = tt;
+            given = (tt, tt);
             spelled = record {
               front = [];
               back = _;
@@ -317,7 +317,7 @@ both_there = record {
         back = false ∷ [];
         whole = refl;
         first = record {
-          given = tt;
+          given = (tt, tt);
           spelled = record {
             front = [];
             back = _;
@@ -331,7 +331,7 @@ both_there = record {
           back = [];
           whole = refl;
           first = record {
-            given = tt;
+            given = (tt, tt);
             spelled = record {
               front = [];
               back = _;
@@ -405,7 +405,7 @@ in_packet behind fault more f = inr (record {
                     front = low_bits 11 100;
                     back = _;
                     whole = refl;
-                    spelled = record { front = []; back = _; whole = refl; first = none Any 5; second = (pos 100, refl, record { permitted = refl; image = pos 100; maps = refl; spelled = (refl, refl) }) };
+                    spelled = record { given = tt; spelled = record { front = []; back = _; whole = refl; first = none Any 5; second = (pos 100, refl, record { permitted = refl; image = pos 100; maps = refl; spelled = (refl, refl) }) } };
                     more = 32 + more;
                     reaches = omega arith;
                     fails = inr (record {
@@ -423,7 +423,7 @@ in_packet behind fault more f = inr (record {
                             front = low_bits 14 7;
                             back = _;
                             whole = refl;
-                            spelled = record { front = []; back = _; whole = refl; first = none Any 18; second = (pos 7, refl, record { permitted = refl; image = pos 7; maps = refl; spelled = (refl, refl) }) };
+                            spelled = record { given = tt; spelled = record { front = []; back = _; whole = refl; first = none Any 18; second = (pos 7, refl, record { permitted = refl; image = pos 7; maps = refl; spelled = (refl, refl) }) } };
                             more = 16 + more;
                             reaches = omega arith;
                             fails = inr (record {

@@ -1,25 +1,30 @@
 -- Laws of the definitions, as contracts name them.
-use Rattle.std.specs.Prelude.{◌≡◌, ◌≢◌, ℕ, ◌≤◌, ◌<◌, ℤ, Bool, false, List, [], ◌∷◌, ◌++◌, length, map, take, Some, IsTrue}
+use Rattle.std.specs.Prelude.{◌≡◌, ◌≢◌, ℕ, ◌≤◌, ◌<◌, ℤ, Bool, true, false, List, [], ◌∷◌, ◌++◌, length, map, take, slice_get, Some, IsTrue, ◌⊎◌}
 use Rattle.std.specs.List.{flat_map}
-use Rattle.acn_grammar.specs.Grammar.{Grammar, Data, node}
+use Rattle.acn_grammar.specs.Grammar.{Grammar, Fields, Data, node, seq}
+use Rattle.acn_grammar.specs.Asks.{moments, field_path}
+use Rattle.acn_grammar.specs.AsksOn.{form_asks_on}
 use Rattle.acn_num.specs.Ranges.{In}
-use Rattle.acn_grammar.specs.Check.{CheckFault, NodeAt, Undecodable, FirstFault, HasWidth}
+use Rattle.acn_grammar.specs.Check.{CheckFault, AsksFor, NodeAt, Undecodable, FirstFault, HasWidth, open_at}
 use Rattle.acn_grammar.specs.Code.{Mode, Any, Code}
 use Rattle.acn_grammar.specs.Env.{Env, at_slot}
 use Rattle.acn_grammar.specs.Fails.{Fault, Refusal}
-use Rattle.acn_grammar.specs.Front.{Front}
+use Rattle.acn_grammar.specs.Front.{Front, IsWritten}
 use Rattle.acn_grammar.specs.Interval.{span, width_of}
-use Rattle.acn_grammar.specs.LeafFails.{short}
+use Rattle.acn_grammar.specs.LeafFails.{Reason, LeafFails, short}
 use Rattle.acn_grammar.specs.Length.{bit_length}
 use Rattle.acn_grammar.specs.Leaves.{num_fine}
+use Rattle.acn_grammar.specs.Meets.{Meets, Unfit, breaches}
+use Rattle.acn_grammar.specs.Refused.{Refused, asks_of}
+use Rattle.acn_grammar.specs.PartAt.{part_at, occurrence}
 use Rattle.acn_grammar.specs.Scoped.{Known, Agree, after, FineField, Permitted, Scoped}
+use Rattle.acn_grammar.specs.Shaped.{Shaped}
+use Rattle.acn_grammar.specs.Sound.{Sound}
 use Rattle.acn_grammar.specs.Spell.{Spell, SlotField}
+use Rattle.acn_grammar.specs.Slots.{slot_leaf}
 use Rattle.acn_grammar.specs.Tree.{IsTree, holds, slots_of}
-use Rattle.acn_grammar.specs.View.{data_of, grammar_of}
-use Rattle.acn_grammar.specs.Walk.{Stand, inside, slot_here, slot_of, uses}
-use Rattle.acn_grammar.specs.declared.node.Node.{Node}
+use Rattle.acn_grammar.specs.Walk.{Stand, Use, inside, slot_here, slot_of, uses}
 use Rattle.acn_grammar.specs.declared.node.NumLeaf.{NumLeaf}
-use Rattle.acn_grammar.specs.declared.value.Value.{Value}
 
 -- no code of a leaf that keeps its rules begins another, and the code tells the number
 abbrev pub NumbersArePrefixFree : Type 0
@@ -52,9 +57,38 @@ pub record IsAccepted (root : Grammar) : Type 0 where
 abbrev pub NoFaultWithoutAFirst : Type 0
 NoFaultWithoutAFirst = (root : Grammar) → ((f : CheckFault) → FirstFault root f → ⊥) → (f : CheckFault) → Undecodable root f → ⊥
 
+-- at most one fault comes first
+abbrev pub OneFirstFault : Type 0
+OneFirstFault = (root : Grammar) (f g : CheckFault) → IsTree root → FirstFault root f → FirstFault root g → f ≡ g
+
 -- an accepted tree is scoped: before it nothing is known
 abbrev pub AcceptedIsScoped : Type 0
 AcceptedIsScoped = (root : Grammar) → IsAccepted root → Scoped root (λ s. false) root
+
+-- an accepted tree is sound at each of its nodes: its root stands at a path of no steps, no slot is at home round it, and nothing is known before it
+abbrev pub AcceptedIsSound : Type 0
+AcceptedIsSound = (root : Grammar) → IsAccepted root → Sound root 0 [] (λ s. false) root
+
+-- so is each node by its number, where some slots are known
+abbrev pub EachNodeIsSound : Type 0
+EachNodeIsSound = (root : Grammar) (k : ℕ) (here : Stand) → IsAccepted root → NodeAt root k here → (ks : Known) × Sound root (length here.path) here.around ks (node here.align here.form)
+
+-- what is sound is scoped
+abbrev pub SoundIsScoped : Type 0
+SoundIsScoped = (root : Grammar) (k : ℕ) (around : List ℕ) (ks : Known) (g : Grammar) → Sound root k around ks g → Scoped root ks g
+
+-- a slot that is known behind a sound node was known before it, or is at home round it
+abbrev pub KnownBehind : Type 0
+KnownBehind = (root : Grammar) (k : ℕ) (around : List ℕ) (ks : Known) (g : Grammar) → Sound root k around ks g → (s : ℕ) → after ks g s ≡ true → (ks s ≡ true) ⊎ (holds around s ≡ true)
+
+-- at most 256 slots are at home on the path to a node
+abbrev pub FewAreOpen : Type 0
+FewAreOpen = (root : Grammar) (k : ℕ) (here : Stand) → IsAccepted root → NodeAt root k here → open_at here ≤ 256
+
+-- a use of a slot asks for the kind of number that its leaf is
+abbrev pub UsesFitTheirSlots : Type 0
+UsesFitTheirSlots =
+    (root : Grammar) (k : ℕ) (here : Stand) (u : ℕ) (use' : Use) (leaf : NumLeaf) → IsAccepted root → NodeAt root k here → slice_get (uses here) u ≡ Some use' → slot_leaf root (slot_of use') ≡ Some leaf → AsksFor use' leaf.kind
 
 -- No spelling begins another.
 
@@ -123,3 +157,50 @@ FrontsExcludeFailures = (root : Grammar) (input : List Bool) (d : Data) (n : ℕ
 -- the failure is one: its path, its reason and its bit, and how many bits it rests on
 abbrev pub OneFailure : Type 0
 OneFailure = (root : Grammar) (input : List Bool) (f g : Fault) (m n : ℕ) → IsAccepted root → Refusal root input f m → Refusal root input g n → (f ≡ g) × (m ≡ n)
+
+-- no input of an accepted tree is left: a value is at its front, or something fails
+abbrev pub EachInputIsReadOrFails : Type 0
+EachInputIsReadOrFails = (root : Grammar) (input : List Bool) → IsAccepted root → ((d : Data) × (n : ℕ) × Front root input d n) ⊎ ((fault : Fault) × (reach : ℕ) × Refusal root input fault reach)
+
+-- a code of the leaf is at the front
+pub record CodeAtFront (leaf : NumLeaf) (input : List Bool) : Type 0 where
+  pub number : ℤ
+  pub code : List Bool
+  pub behind : List Bool
+  pub whole : input ≡ code ++ behind
+  pub codes : Code Any leaf number code
+
+-- the same of a number leaf that keeps its rules
+abbrev pub EachInputIsANumberOrFails : Type 0
+EachInputIsANumberOrFails = (leaf : NumLeaf) (input : List Bool) → IsTrue (num_fine leaf) → CodeAtFront leaf input ⊎ ((r : Reason) × (reach : ℕ) × LeafFails leaf input r reach)
+
+-- What an accepted tree says of a value.
+
+-- what is written for it can be read
+abbrev pub WrittenIsRead : Type 0
+WrittenIsRead = (root : Grammar) (d : Data) (bs : List Bool) → IsTree root → IsWritten root d bs → Spell root Any root [] d 0 bs
+
+-- a value that has a spelling has the form of the tree, and no breach
+abbrev pub SpelledValuesMeet : Type 0
+SpelledValuesMeet = (root : Grammar) (mode : Mode) (d : Data) (bs : List Bool) → IsTree root → Spell root mode root [] d 0 bs → Meets root d
+-- what the whole walk asks of the field of a slot at home in one occurrence of a SEQUENCE is, in order, what that occurrence asks of the slot
+abbrev pub EachOccurrenceAsks : Type 0
+EachOccurrenceAsks =
+    (root : Grammar) (d part : Data) (path home : List ℕ) (align s : ℕ) (fields : Fields) → IsTree root → part_at root d path ≡ Some (occurrence (node align (seq fields home)) part) → IsTrue (holds home s)
+    → asks_of (field_path path fields s) (moments root root [] [] d) ≡ form_asks_on root s (seq fields home) part
+
+-- in what is spelled, read or written, nothing is a breach
+abbrev pub SpellingsHaveNoBreach : Type 0
+SpellingsHaveNoBreach = (root g : Grammar) (mode : Mode) (path : List ℕ) (env : Env) (d : Data) (at : ℕ) (bs : List Bool) → Spell root mode g env d at bs → breaches path g d ≡ []
+
+-- a value is written in one way
+abbrev pub OneWriting : Type 0
+OneWriting = (root : Grammar) (d : Data) (a b : List Bool) → IsAccepted root → IsWritten root d a → IsWritten root d b → a ≡ b
+
+-- a value of the tree's form is written, or refused
+abbrev pub EachValueIsWrittenOrRefused : Type 0
+EachValueIsWrittenOrRefused = (root : Grammar) (d : Data) → IsAccepted root → Shaped root d → ((bs : List Bool) × IsWritten root d bs) ⊎ ((u : Unfit) × Refused root d u)
+
+-- what is refused has no spelling, neither written nor read
+abbrev pub RefusedHasNoSpelling : Type 0
+RefusedHasNoSpelling = (root : Grammar) (d : Data) (u : Unfit) (bs : List Bool) → IsAccepted root → Refused root d u → Spell root Any root [] d 0 bs → ⊥

@@ -41,7 +41,7 @@ abbrev pub u8 : Grammar
 u8 = integer (pos 0) (pos 255) (PosInt 8)
 
 abbrev pub field : (name : ℕ) → Grammar → Presence → Fields → Fields
-field name g presence fs = component (name ∷ []) g presence None fs
+field name g presence fs = component (name ∷ []) g presence None None fs
 
 abbrev pub in_slot : (name : ℕ) → Grammar → (slot : ℕ) → Fields → Fields
 in_slot name g slot fs = inserted (name ∷ []) g (Some slot) fs
@@ -126,7 +126,7 @@ pub record ConditionsThatAreMissedAreAvoided : Type 0 where
 
 -- SEQUENCE { a INTEGER (0..7), b INTEGER (0..255) }, b aligned to 16 bits
 abbrev pub aligned : Grammar
-aligned = node 1 (seq (field 97 (integer (pos 0) (pos 7) (Range (pos 0) 3)) Always (component (98 ∷ []) (node 16 (num (record { kind = Integer; set = (pos 0, pos 255) ∷ []; coding = Range (pos 0) 8; little = false; table = None; items = record { items = []; values = false } }))) Always None no_fields)) [])
+aligned = node 1 (seq (field 97 (integer (pos 0) (pos 7) (Range (pos 0) 3)) Always (component (98 ∷ []) (node 16 (num (record { kind = Integer; set = (pos 0, pos 255) ∷ []; coding = Range (pos 0) 8; little = false; table = None; items = record { items = []; values = false } }))) Always None None no_fields)) [])
 
 -- {"a":5,"b":1} is a0 00 01, and bf ff 01 is read as it; without padding it is neither
 pub record PaddingIsReadInAnyWay : Type 0 where

@@ -1,4 +1,4 @@
-ghost use Rattle.acn_laws.specs.Laws.{NumbersArePrefixFree, BoundsHold, FailuresRestOnBits, FrontsRestOnBits, NoFaultWithoutAFirst, AcceptedIsScoped, NodesArePrefixFree, SlotFieldsArePrefixFree, EachNodeIsPrefixFree, PacketsArePrefixFree, EachNumberHasACode, LengthsAreTold, EachLengthIsTold, WidthsAreLengths, OneFront, FrontsExcludeFailures, OneFailure};
+ghost use Rattle.acn_laws.specs.Laws.{NumbersArePrefixFree, BoundsHold, FailuresRestOnBits, FrontsRestOnBits, NoFaultWithoutAFirst, OneFirstFault, AcceptedIsScoped, AcceptedIsSound, EachNodeIsSound, SoundIsScoped, KnownBehind, FewAreOpen, UsesFitTheirSlots, NodesArePrefixFree, SlotFieldsArePrefixFree, EachNodeIsPrefixFree, PacketsArePrefixFree, EachNumberHasACode, LengthsAreTold, EachLengthIsTold, WidthsAreLengths, OneFront, FrontsExcludeFailures, OneFailure, EachInputIsReadOrFails, EachInputIsANumberOrFails, WrittenIsRead, SpelledValuesMeet, SpellingsHaveNoBreach, EachOccurrenceAsks, OneWriting};
 
 /// No code of a number leaf begins another, and the code tells the number.
 pub fn numbers_are_prefix_free()
@@ -25,10 +25,46 @@ pub fn no_fault_without_a_first()
     ensures { NoFaultWithoutAFirst }
 {}
 
+/// At most one fault of a tree comes first.
+pub fn one_first_fault()
+    ensures { OneFirstFault }
+{}
+
 /// In an accepted tree each use names a slot whose field stands before it, and no permitted numbers
 /// choose two alternatives of one CHOICE.
 pub fn accepted_is_scoped()
     ensures { AcceptedIsScoped }
+{}
+
+/// In an accepted tree each node keeps all that a reader, a writer or a compiled plan needs of it.
+pub fn accepted_is_sound()
+    ensures { AcceptedIsSound }
+{}
+
+/// The same of each node by its number.
+pub fn each_node_is_sound()
+    ensures { EachNodeIsSound }
+{}
+
+/// What is sound is scoped.
+pub fn sound_is_scoped()
+    ensures { SoundIsScoped }
+{}
+
+/// A slot that is known behind a sound node was known before it, or is at home round it.
+pub fn known_behind()
+    ensures { KnownBehind }
+{}
+
+/// At most 256 slots are at home on the path to a node of an accepted tree.
+pub fn few_are_open()
+    ensures { FewAreOpen }
+{}
+
+/// In an accepted tree a size or a condition with `==` is on an INTEGER, a flag on a BOOLEAN and a
+/// determinant of a CHOICE an ENUMERATED.
+pub fn uses_fit_their_slots()
+    ensures { UsesFitTheirSlots }
 {}
 
 /// From node to node: where one spelling begins another, they are the same, and so are their values.
@@ -84,4 +120,39 @@ pub fn fronts_exclude_failures()
 /// An input has at most one failure: one path, one reason and one bit.
 pub fn one_failure()
     ensures { OneFailure }
+{}
+
+/// An input has a value of an accepted tree at its front, or a failure.
+pub fn each_input_is_read_or_fails()
+    ensures { EachInputIsReadOrFails }
+{}
+
+/// The same of a number leaf: a code is at the front, or it fails.
+pub fn each_input_is_a_number_or_fails()
+    ensures { EachInputIsANumberOrFails }
+{}
+
+/// What is written for a value can be read.
+pub fn written_is_read()
+    ensures { WrittenIsRead }
+{}
+
+/// A value that has a spelling has the form of the tree and meets its constraints.
+pub fn spelled_values_meet()
+    ensures { SpelledValuesMeet }
+{}
+
+/// In what is spelled every number, size and character is permitted, and no terminator stands inside a text.
+pub fn spellings_have_no_breach()
+    ensures { SpellingsHaveNoBreach }
+{}
+
+/// What the whole walk asks of one field is what the occurrence of its slot's home asks of the slot.
+pub fn each_occurrence_asks()
+    ensures { EachOccurrenceAsks }
+{}
+
+/// A value of an accepted tree is written in one way.
+pub fn one_writing()
+    ensures { OneWriting }
 {}

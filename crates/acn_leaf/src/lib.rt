@@ -9,4 +9,4 @@ mod table_rules;
 
 pub use leaf_rules::{num_fine, same_text};
 pub use lengths::{code_lengths, fixed_width, width};
-pub use size_rules::{is_least, sizing_fine, text_fine};
+pub use size_rules::{is_least, list_fine, sizing_fine, text_fine};

@@ -7,7 +7,7 @@ ghost use Rattle.acn_grammar.specs.Images as images;
 ghost use Rattle.acn_grammar.specs.Leaves as leaves;
 ghost use Rattle.acn_grammar.specs.Spell.{octet_numbers};
 
-use crate::size_rules::{apart, is_least, is_terminator};
+use crate::size_rules::{apart, is_least, is_pattern, is_terminator};
 use acn_grammar::{NumCoding, NumKind, Pattern};
 use acn_num::RangeSet;
 
@@ -38,14 +38,6 @@ pub fn has_size(coding: &NumCoding) -> bool
             | NumCoding::Ascii { .. }
             | NumCoding::AsciiEnded { .. }
     )
-}
-
-// Whether a pattern has 1 to 64 bits, which each has.
-fn is_pattern(pattern: &Pattern) -> bool
-    ensures { result ≡ leaves.is_pattern pattern.now }
-{
-    let bits = pattern.bits();
-    !bits.is_empty()
 }
 
 fn same_bits(a: &[bool], b: &[bool]) -> bool

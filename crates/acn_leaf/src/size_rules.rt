@@ -3,6 +3,7 @@ ghost use Rattle.acn_num.specs.Bits.{is_least_width};
 ghost use Rattle.acn_num.specs.Ranges as ranges;
 ghost use Rattle.acn_num.specs.Ranges.{count, distance, greatest, least};
 ghost use Rattle.acn_grammar.specs.Leaves as leaves;
+ghost use Rattle.acn_grammar.specs.Length.{ending};
 
 use acn_grammar::{Pattern, SizeRule, Sizing, TextLeaf};
 use acn_num::RangeSet;
@@ -78,12 +79,13 @@ fn prefix_fine(low: u64, width: u32, sizes: &RangeSet) -> bool
     }
 }
 
-fn rule_fine(sizes: &RangeSet, rule: SizeRule) -> bool
-    ensures { result ≡ leaves.rule_fine sizes.now rule }
+fn rule_fine(sizes: &RangeSet, rule: &SizeRule) -> bool
+    ensures { result ≡ leaves.rule_fine sizes.now rule.now }
 {
     match rule {
         SizeRule::Slot(_) => true,
-        SizeRule::Prefix { low, width } => prefix_fine(low, width, sizes),
+        SizeRule::Prefix { low, width } => prefix_fine(*low, *width, sizes),
+        SizeRule::Ended(_) => false,
     }
 }
 
@@ -91,17 +93,44 @@ fn rule_fine(sizes: &RangeSet, rule: SizeRule) -> bool
 pub fn sizing_fine(sizing: &Sizing) -> bool
     ensures { result ≡ leaves.sizing_fine sizing.now }
 {
-    sizes_fine(&sizing.sizes) && rule_fine(&sizing.sizes, sizing.rule)
+    sizes_fine(&sizing.sizes) && rule_fine(&sizing.sizes, &sizing.rule)
+}
+
+// Whether a list's size, or the pattern that ends it, is well formed.
+fn list_rule_fine(sizing: &Sizing) -> bool
+    ensures { result ≡ leaves.list_rule_fine (ending sizing.now.rule) sizing.now }
+{
+    match &sizing.rule {
+        SizeRule::Ended(pattern) => is_pattern(pattern),
+        SizeRule::Slot(_) => true,
+        SizeRule::Prefix { low, width } => prefix_fine(*low, *width, &sizing.sizes),
+    }
+}
+
+/// Whether the sizes of a list and their rule are well formed.
+pub fn list_fine(sizing: &Sizing) -> bool
+    ensures { result ≡ leaves.list_fine sizing.now }
+{
+    sizes_fine(&sizing.sizes) && list_rule_fine(sizing)
 }
 
 // Whether there is no size in front.
-fn no_size(rule: SizeRule) -> bool
-    ensures { result ≡ leaves.no_size rule }
+fn no_size(rule: &SizeRule) -> bool
+    ensures { result ≡ leaves.no_size rule.now }
 {
     match rule {
         SizeRule::Slot(_) => false,
-        SizeRule::Prefix { low, width } => low == 0 && width == 0,
+        SizeRule::Prefix { low, width } => *low == 0 && *width == 0,
+        SizeRule::Ended(_) => false,
     }
+}
+
+/// Whether a pattern has 1 to 64 bits, which each has.
+pub fn is_pattern(pattern: &Pattern) -> bool
+    ensures { result ≡ leaves.is_pattern pattern.now }
+{
+    let bits = pattern.bits();
+    !bits.is_empty()
 }
 
 // Whether the width is the least in which as many characters as the alphabet has have numbers of their own.
@@ -155,9 +184,9 @@ fn end_fine(leaf: &TextLeaf) -> bool
     ensures { result ≡ leaves.end_fine leaf.now.ended leaf.now }
 {
     match &leaf.ended {
-        None => rule_fine(&leaf.sized.sizes, leaf.sized.rule) && width_fine(leaf),
+        None => rule_fine(&leaf.sized.sizes, &leaf.sized.rule) && width_fine(leaf),
         Some(end) => {
-            no_size(leaf.sized.rule) && leaf.width == 8 && !leaf.indexed && is_terminator(end)
+            no_size(&leaf.sized.rule) && leaf.width == 8 && !leaf.indexed && is_terminator(end)
         }
     }
 }

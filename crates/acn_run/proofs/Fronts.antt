@@ -129,7 +129,7 @@ fields_spell root (c ∷ cs) input ns at e =
         front = take c.width input;
         back = take (width_of cs) (drop c.width input);
         whole = take-add c.width (width_of cs) input;
-        first = record { given = tt; spelled = leaf_spells root c env at (take c.width input) long (leb-true _ _ t.1) };
+        first = record { given = (tt, tt); spelled = leaf_spells root c env at (take c.width input) long (leb-true _ _ t.1) };
         second = more.spelled env;
       };
     } in

@@ -130,11 +130,11 @@ seq_form : (fields : List Field) (home : List ℕ) → view.form_of (Seq_body (r
 seq_form fields home = search (rules, node_lemmas)
 
 pub one_field : (c : Component) (name : List ℕ) (leaf : NumLeaf) → name ≡ c.name → leaf ≡ leaf_of c
-    → view.field_of (Component_field name (roll-Node (record { align = 1; body = Num_body leaf })) Always None) ≡ field_of c
+    → view.field_of (Component_field name (roll-Node (record { align = 1; body = Num_body leaf })) Always None None) ≡ field_of c
 one_field c name leaf n l =
     let whole : view.grammar_of (roll-Node (record { align = 1; body = Num_body leaf })) ≡ node 1 (num leaf) = node_is (Num_body leaf) ∙ ap (node 1) (leaf_form leaf) in
-    let same : view.a_component name (node 1 (num leaf)) Always None ≡ field_of c = cc (n, l) in
-    view_component name (roll-Node (record { align = 1; body = Num_body leaf })) Always None ∙ ap (λ (g : Grammar). view.a_component name g Always None) whole ∙ same
+    let same : view.a_component name (node 1 (num leaf)) Always None None ≡ field_of c = cc (n, l) in
+    view_component name (roll-Node (record { align = 1; body = Num_body leaf })) Always None None ∙ ap (λ (g : Grammar). view.a_component name g Always None None) whole ∙ same
 
 pub all_seen : {A B : Type 0} (f : A → B) (xs : List B) (cs : List A) (i : ℕ) → length cs ≤ i → xs ++ map f (drop i cs) ≡ map f cs → xs ≡ map f cs
 all_seen f xs cs i h e = rw (drop_of_length-le cs h, append-nil xs) at e

@@ -17,11 +17,11 @@ leaf_of c = record { kind = Integer; set = (pos c.low, pos c.high) ∷ []; codin
 
 -- a component that is always there
 abbrev pub field_of : Component → OneField
-field_of c = a_component c.name (node 1 (num (leaf_of c))) Always None
+field_of c = a_component c.name (node 1 (num (leaf_of c))) Always None None
 
 abbrev pub fields_of : List Component → Fields
 fields_of [] = no_fields
-fields_of (c ∷ cs) = component c.name (node 1 (num (leaf_of c))) Always None (fields_of cs)
+fields_of (c ∷ cs) = component c.name (node 1 (num (leaf_of c))) Always None None (fields_of cs)
 
 -- the SEQUENCE of these components
 abbrev pub grammar_of : List Component → Grammar

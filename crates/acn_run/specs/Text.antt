@@ -48,8 +48,8 @@ abbrev mutual
   form_text _ d = []
 
   pub members_of : Fields → Places → List Member
-  members_of (component name g presence default fs) (filled d ps) = (name, text_of g d) ∷ members_of fs ps
-  members_of (component name g presence default fs) (empty ps) = members_of fs ps
+  members_of (component name g presence default own fs) (filled d ps) = (name, text_of g d) ∷ members_of fs ps
+  members_of (component name g presence default own fs) (empty ps) = members_of fs ps
   members_of (inserted name g slot fs) ps = members_of fs ps
   members_of _ ps = []
 

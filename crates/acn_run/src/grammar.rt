@@ -44,6 +44,7 @@ fn field(alloc: Global, component: &Component) -> Result<Field, NoMemory>
         },
         presence: Presence::Always,
         default: None,
+        slot: None,
     })
 }
 

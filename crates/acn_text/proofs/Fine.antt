@@ -9,7 +9,7 @@ use Rattle.acn_num.specs.Bits.{is_least_width}
 use Rattle.acn_num.specs.Ranges.{In, has, Above, least, greatest, are_ranges, are_ranges_above, distance, count, all_within}
 use Rattle.acn_grammar.specs.Leaves.{text_fine, sizes_fine, rule_fine, prefix_fine, end_fine, width_fine, no_size, holds_characters, is_beyond, same_truth, is_terminator, is_pattern}
 use Rattle.acn_grammar.specs.declared.node.SizeRule.{SizeRule}
-use Rattle.acn_grammar.specs.declared.node.SizeRule.TheVariants.{Prefix, Slot}
+use Rattle.acn_grammar.specs.declared.node.SizeRule.TheVariants.{Prefix, Slot, Ended}
 use Rattle.acn_grammar.specs.declared.node.TextLeaf.{TextLeaf}
 use Rattle.acn_grammar.proofs.Codings.{both_are, not_is, equal_numbers}
 use Rattle.acn_grammar.proofs.Texts.{either, above, ranges_from, lt_fact, le_fact}
@@ -68,6 +68,7 @@ none_given leaf given n h = by leaf.sized.rule n h
     by : (rule : SizeRule) → no_size rule ≡ true → IsGiven rule given → given ≡ None
     by (Prefix low width) n h = h
     by (Slot s) n h = cc
+    by (Ended p) n h = h
 
 -- Ranges of characters.
 
@@ -315,6 +316,7 @@ rule_fits leaf f is = by leaf.sized.rule (rule_is leaf f is)
   where
     by : (rule : SizeRule) → rule_fine leaf.sized.sizes rule ≡ true → RuleFits rule
     by (Slot s) h = tt
+    by (Ended p) h = cc
     by (Prefix low width) h = let p = prefix_is leaf.sized.sizes low width f.sizes h in (p.few, p.narrow)
 
 -- a permitted size can be written
@@ -326,6 +328,7 @@ size_fits leaf n f is p = by leaf.sized.rule (rule_is leaf f is)
 
     by : (rule : SizeRule) → rule_fine leaf.sized.sizes rule ≡ true → SizeFits rule n
     by (Slot s) h = tt
+    by (Ended p) h = cc
     by (Prefix low width) h =
         let q = prefix_is leaf.sized.sizes low width f.sizes h in
         let o = both_are (are_ranges leaf.sized.sizes) (all_within (pos 0) (pos 65536) leaf.sized.sizes) (both_are (nat_lt 0 (length leaf.sized.sizes)) (are_ranges leaf.sized.sizes && all_within (pos 0) (pos 65536) leaf.sized.sizes) f.sizes).1 in

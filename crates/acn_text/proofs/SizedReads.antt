@@ -12,7 +12,7 @@ use Rattle.acn_grammar.specs.Fails.{Here, RuleFails, NoText, TextFails}
 use Rattle.acn_grammar.specs.LeafFails.{Reason, short, size_out_of_range, bad_character}
 use Rattle.acn_grammar.specs.Spell.{RulePart, SizePart, CharactersPart, EndedPart, character_number}
 use Rattle.acn_grammar.specs.declared.node.SizeRule.{SizeRule}
-use Rattle.acn_grammar.specs.declared.node.SizeRule.TheVariants.{Prefix, Slot}
+use Rattle.acn_grammar.specs.declared.node.SizeRule.TheVariants.{Prefix, Slot, Ended}
 use Rattle.acn_grammar.specs.declared.node.Sizing.{Sizing}
 use Rattle.acn_grammar.specs.declared.node.TextLeaf.{TextLeaf}
 use Rattle.acn_laws.proofs.NodeExclusion.{characters_long}
@@ -76,6 +76,7 @@ rule_read (Prefix low width) given old new n t =
 rule_read (Slot s) given old new n t =
     read_nothing (λ bs. (env : Env) (at : ℕ) → SlotSays (Slot s) given env → RulePart (Slot s) env n at bs) old new t.1
     (λ env at h. (h.2 ∙ ap (λ k. Some (pos k)) (some_same (sym h.1 ∙ t.0)), refl))
+rule_read (Ended p) given old new n t = absurd t
 
 pub size_read : (sizing : Sizing) (given : Option ℕ) (old new : Reading) (n : ℕ) → In sizing.sizes (pos n) → SizeTaken sizing.rule given old new n → Reads (SizeCode sizing given n) old new
 size_read sizing given old new n p t =
@@ -93,6 +94,7 @@ size_refused sizing given old new n out t =
     by : (rule : SizeRule) → SizeTaken rule given old new n → (reach : ℕ) × ((here : Here) (env : Env) (at : ℕ) → SlotSays rule given env → RuleFails here sizing rule env at old.rest (fault_here here (size_out_of_range n)) reach)
     by (Prefix low width) u = (width, λ here env at s. inr (u.0, (λ p. out (subst (λ (k : ℕ). In sizing.sizes (pos k)) (sym u.1) p)), ap (λ k. fault_here here (size_out_of_range k)) u.1, refl))
     by (Slot s) u = (0, λ here env at h. (pos n, h.2 ∙ ap (λ k. Some (pos k)) (some_same (sym h.1 ∙ u.0)), out, refl, refl))
+    by (Ended p) u = absurd u
 
 pub size_missing : (sizing : Sizing) (given : Option ℕ) (old : Reading) → SizeMissing sizing.rule old → NoSizeAt sizing given old.rest short
 size_missing sizing given old t =
@@ -102,6 +104,7 @@ size_missing sizing given old t =
     by : (rule : SizeRule) → SizeMissing rule old → (reach : ℕ) × ((here : Here) (env : Env) (at : ℕ) → SlotSays rule given env → RuleFails here sizing rule env at old.rest (fault_here here short) reach)
     by (Prefix low width) u = (length old.rest, λ here env at s. inl (u, refl, refl))
     by (Slot s) u = absurd u
+    by (Ended p) u = absurd u
 
 -- Characters.
 

@@ -14,7 +14,7 @@ use Rattle.acn_grammar.specs.Length.{text_length, rule_width}
 use Rattle.acn_grammar.specs.Meets.{text_breach, size_breach, unless, where_found, end_breach, first_end, bad_character, size_out_of_range, terminator_inside, Why}
 use Rattle.acn_grammar.specs.Spell.{RulePart, CharactersPart, EndedPart, EndsFirst, octet_numbers, character_number}
 use Rattle.acn_grammar.specs.declared.node.SizeRule.{SizeRule}
-use Rattle.acn_grammar.specs.declared.node.SizeRule.TheVariants.{Prefix, Slot}
+use Rattle.acn_grammar.specs.declared.node.SizeRule.TheVariants.{Prefix, Slot, Ended}
 use Rattle.acn_grammar.specs.declared.node.TextLeaf.{TextLeaf}
 use Rattle.acn_laws.proofs.NodeExclusion.{characters_long}
 use Rattle.acn_laws.proofs.PrefixNodes.{same_name-refl}
@@ -101,6 +101,7 @@ module _ (leaf : TextLeaf) (f : FineText leaf) where
     where
       same : {a b : ℕ} → ◌≡◌ {A = Option ℕ} (Some a) (Some b) → a ≡ b
       same e = cc
+  size_spell (Ended p) n at env h says = absurd h
 
   end_first : (end : List Bool) (cs : List ℕ) → end_breach (Some end) cs ≡ [] → EndsFirst (octet_numbers end) cs
   end_first end cs e i h = by (order i (length cs))
@@ -140,6 +141,7 @@ module _ (leaf : TextLeaf) (f : FineText leaf) where
   pub size_bits_long : (rule : SizeRule) (n : ℕ) → length (size_bits rule n) ≡ rule_width rule
   size_bits_long (Prefix low width) n = length-low_bits width (n - low)
   size_bits_long (Slot s) n = refl
+  size_bits_long (Ended p) n = refl
 
   pub text_bits_long : (o : Option (List Bool)) (cs : List ℕ) → MeetsText leaf cs → length (text_bits o leaf cs) ≡ text_length o leaf (length cs)
   text_bits_long None cs m =

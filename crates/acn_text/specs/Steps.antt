@@ -10,7 +10,7 @@ use Rattle.acn_grammar.specs.Fails.{Here, SizeFails, CharactersFail}
 use Rattle.acn_grammar.specs.LeafFails.{Reason}
 use Rattle.acn_grammar.specs.Spell.{CharactersPart, character_number}
 use Rattle.acn_grammar.specs.declared.node.SizeRule.{SizeRule}
-use Rattle.acn_grammar.specs.declared.node.SizeRule.TheVariants.{Prefix, Slot}
+use Rattle.acn_grammar.specs.declared.node.SizeRule.TheVariants.{Prefix, Slot, Ended}
 use Rattle.acn_grammar.specs.declared.node.Sizing.{Sizing}
 use Rattle.acn_grammar.specs.declared.node.TextLeaf.{TextLeaf}
 use Rattle.acn_text.specs.Texts.{SlotSays, fault_here}
@@ -31,16 +31,19 @@ NoCharacter leaf v = (c : ℕ) → In leaf.alphabet (pos c) → character_number
 abbrev pub RuleFits : SizeRule → Type 0
 RuleFits (Prefix low width) = (low ≤ 65536) × (width ≤ 17)
 RuleFits (Slot s) = Unit {0}
+RuleFits (Ended p) = ⊥
 
 -- the size was taken from the bits in front, or is the given one
 abbrev pub SizeTaken : SizeRule → Option ℕ → Reading → Reading → ℕ → Type 0
 SizeTaken (Prefix low width) given old new n = (width ≤ length old.rest) × (n ≡ low + number (take width old.rest)) × (new ≡ passed width old)
 SizeTaken (Slot s) given old new n = (given ≡ Some n) × (new ≡ old)
+SizeTaken (Ended p) given old new n = ⊥
 
 -- fewer bits than the size in front has are left
 abbrev pub SizeMissing : SizeRule → Reading → Type 0
 SizeMissing (Prefix low width) old = length old.rest < width
 SizeMissing (Slot s) old = ⊥
+SizeMissing (Ended p) old = ⊥
 
 -- the first reason why no size stands at the front
 pub record NoSizeAt (sizing : Sizing) (given : Option ℕ) (rest : List Bool) (r : Reason) : Type 0 where
@@ -67,6 +70,7 @@ character_bits leaf cs = flat_map (λ c. low_bits leaf.width (character_number l
 abbrev pub size_bits : SizeRule → ℕ → List Bool
 size_bits (Prefix low width) n = low_bits width (n - low)
 size_bits (Slot s) n = []
+size_bits (Ended p) n = []
 
 -- the bits of a text
 abbrev pub text_bits : Option (List Bool) → TextLeaf → List ℕ → List Bool
@@ -85,3 +89,4 @@ NumbersFit leaf cs = AllByRecursion (λ c. IsFitting leaf c) cs
 abbrev pub SizeFits : SizeRule → ℕ → Type 0
 SizeFits (Prefix low width) n = (low ≤ n) × (width ≤ 64) × (n - low < 2 ^ width)
 SizeFits (Slot s) n = Unit {0}
+SizeFits (Ended p) n = ⊥

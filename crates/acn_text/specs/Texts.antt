@@ -7,23 +7,26 @@ use Rattle.acn_grammar.specs.Fails.{Fault, Here, TextFails, seen}
 use Rattle.acn_grammar.specs.LeafFails.{Reason}
 use Rattle.acn_grammar.specs.Spell.{TextPart}
 use Rattle.acn_grammar.specs.declared.node.SizeRule.{SizeRule}
-use Rattle.acn_grammar.specs.declared.node.SizeRule.TheVariants.{Prefix, Slot}
+use Rattle.acn_grammar.specs.declared.node.SizeRule.TheVariants.{Prefix, Slot, Ended}
 use Rattle.acn_grammar.specs.declared.node.TextLeaf.{TextLeaf}
 
 -- a size is given from elsewhere exactly where the rule is a slot
 abbrev pub IsGiven : SizeRule → Option ℕ → Type 0
 IsGiven (Prefix low width) given = given ≡ None
 IsGiven (Slot s) given = (n : ℕ) × (given ≡ Some n)
+IsGiven (Ended p) given = given ≡ None
 
 -- the slot has the given size
 abbrev pub SlotSays : SizeRule → Option ℕ → Env → Type 0
 SlotSays (Prefix low width) given env = Unit {0}
 SlotSays (Slot s) given env = (n : ℕ) × (given ≡ Some n) × (at_slot env s ≡ Some (pos n))
+SlotSays (Ended p) given env = Unit {0}
 
 -- the size of a text of n characters that is given from elsewhere
 abbrev pub given_size : SizeRule → ℕ → Option ℕ
 given_size (Prefix low width) n = None
 given_size (Slot s) n = Some n
+given_size (Ended p) n = None
 
 -- these bits spell the text, wherever the slot has the given size
 abbrev pub TextCode : TextLeaf → Option ℕ → List ℕ → List Bool → Type 0

@@ -22,13 +22,14 @@ fn add_number(list: &mut BitList, width: u32, v: u64) -> Result<(), NoMemory>
 }
 
 /// Adds the size in front.
-fn add_size(list: &mut BitList, rule: SizeRule, n: u64) -> Result<(), NoMemory>
-    requires { SizeFits rule n }
-    ensures { OnOk result (list.new ≡ list.old ++ size_bits rule n) }
+fn add_size(list: &mut BitList, rule: &SizeRule, n: u64) -> Result<(), NoMemory>
+    requires { SizeFits rule.now n }
+    ensures { OnOk result (list.new ≡ list.old ++ size_bits rule.now n) }
 {
     match rule {
-        SizeRule::Prefix { low, width } => add_number(list, width, n - low),
+        SizeRule::Prefix { low, width } => add_number(list, *width, n - *low),
         SizeRule::Slot(_) => Ok(()),
+        SizeRule::Ended(_) => Ok(()),
     }
 }
 
@@ -63,7 +64,7 @@ fn add_text(list: &mut BitList, leaf: &TextLeaf, text: &[u8]) -> Result<(), NoMe
 {
     match &leaf.ended {
         None => {
-            add_size(list, leaf.sized.rule, text.len() as u64)?;
+            add_size(list, &leaf.sized.rule, text.len() as u64)?;
             add_characters(list, leaf, text)
         }
         Some(end) => {

@@ -14,21 +14,22 @@ use acn_bits::ReadCursor;
 use acn_grammar::{ReadFault, SizeRule, Sizing, TextLeaf};
 
 /// The size that stands in front, or the given one.
-fn said_size(cur: &mut ReadCursor<'_>, rule: SizeRule, given: Option<u64>) -> Result<u64, ReadFault>
-    requires fits { RuleFits rule }
-    requires given { IsGiven rule given }
-    ensures taken { IfOk result (SizeTaken rule given cur.old cur.new) }
-    ensures missing { IfErr result (λ e. (e ≡ ReadFault.Short) × SizeMissing rule cur.old × (cur.new ≡ cur.old)) }
+fn said_size(cur: &mut ReadCursor<'_>, rule: &SizeRule, given: Option<u64>) -> Result<u64, ReadFault>
+    requires fits { RuleFits rule.now }
+    requires given { IsGiven rule.now given }
+    ensures taken { IfOk result (SizeTaken rule.now given cur.old cur.new) }
+    ensures missing { IfErr result (λ e. (e ≡ ReadFault.Short) × SizeMissing rule.now cur.old × (cur.new ≡ cur.old)) }
 {
     match rule {
-        SizeRule::Prefix { low, width } => match cur.take(width) {
-            Ok(v) => Ok(low + v),
+        SizeRule::Prefix { low, width } => match cur.take(*width) {
+            Ok(v) => Ok(*low + v),
             Err(_) => Err(ReadFault::Short),
         },
         SizeRule::Slot(_) => match given {
             Some(n) => Ok(n),
             None => unreachable!(),
         },
+        SizeRule::Ended(_) => unreachable!(),
     }
 }
 
@@ -45,7 +46,7 @@ pub fn read_size(
     ensures wrong { IfErr result (λ e. NoSizeAt sizing.now given cur.old.rest (reason_of e)) }
     ensures stays { OnErr result (Stays cur.old cur.new) }
 {
-    match said_size(cur, sizing.rule, given) {
+    match said_size(cur, &sizing.rule, given) {
         Ok(n) => {
             if is_in(&sizing.sizes, n) {
                 Ok(n)

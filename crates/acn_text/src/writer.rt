@@ -14,14 +14,15 @@ use acn_grammar::{Pattern, SizeRule, TextLeaf};
 use acn_ints::pattern_number;
 
 /// Writes the size in front, which has no bits where a slot says it.
-fn put_size<const N: usize>(cur: &mut WriteCursor<'_, N>, rule: SizeRule, n: u64)
-    requires fits { SizeFits rule n }
-    requires room { place_of cur.old + rule_width rule ≤ 8 * N }
-    ensures { Writes cur.old cur.new (place_of cur.old) (size_bits rule n) (place_of cur.old + rule_width rule) }
+fn put_size<const N: usize>(cur: &mut WriteCursor<'_, N>, rule: &SizeRule, n: u64)
+    requires fits { SizeFits rule.now n }
+    requires room { place_of cur.old + rule_width rule.now ≤ 8 * N }
+    ensures { Writes cur.old cur.new (place_of cur.old) (size_bits rule.now n) (place_of cur.old + rule_width rule.now) }
 {
     match rule {
-        SizeRule::Prefix { low, width } => cur.put(width, n - low),
+        SizeRule::Prefix { low, width } => cur.put(*width, n - *low),
         SizeRule::Slot(_) => cur.put(0, 0),
+        SizeRule::Ended(_) => cur.put(0, 0),
     }
 }
 
@@ -58,7 +59,7 @@ pub fn put_text<const N: usize>(cur: &mut WriteCursor<'_, N>, leaf: &TextLeaf, t
 {
     match &leaf.ended {
         None => {
-            put_size(cur, leaf.sized.rule, text.len() as u64);
+            put_size(cur, &leaf.sized.rule, text.len() as u64);
             put_characters(cur, leaf, text);
         }
         Some(end) => {

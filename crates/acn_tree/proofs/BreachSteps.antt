@@ -46,28 +46,28 @@ run-end each vs k i h = ap (λ xs. run_breaches each k (elements_view xs)) (drop
 
 -- Fields.
 
-component_turn : (path : List ℕ) (k : ℕ) (f : OneField) (name : List ℕ) (g : Grammar) (presence : Presence) (default : Option (List ℕ)) (fs : List Field) (p : Option Value) (ps : List (Option Value)) → f ≡ a_component name g presence default
+component_turn : (path : List ℕ) (k : ℕ) (f : OneField) (name : List ℕ) (g : Grammar) (presence : Presence) (default : Option (List ℕ)) (own : Option ℕ) (fs : List Field) (p : Option Value) (ps : List (Option Value)) → f ≡ a_component name g presence default own
     → field_breaches path k (with_field f (fields_view fs)) (places_view (p ∷ ps)) ≡ place_breaches (path ++ k ∷ []) g (option_map data_of p) ++ field_breaches path (suc k) (fields_view fs) (places_view ps)
-component_turn path k f name g presence default fs None ps e = rw e
-component_turn path k f name g presence default fs (Some v) ps e = rw e
+component_turn path k f name g presence default own fs None ps e = rw e
+component_turn path k f name g presence default own fs (Some v) ps e = rw e
 
-component_end : (path : List ℕ) (k : ℕ) (f : OneField) (name : List ℕ) (g : Grammar) (presence : Presence) (default : Option (List ℕ)) (fs : List Field) → f ≡ a_component name g presence default
+component_end : (path : List ℕ) (k : ℕ) (f : OneField) (name : List ℕ) (g : Grammar) (presence : Presence) (default : Option (List ℕ)) (own : Option ℕ) (fs : List Field) → f ≡ a_component name g presence default own
     → field_breaches path k (with_field f (fields_view fs)) (places_view []) ≡ []
-component_end path k f name g presence default fs e = rw e
+component_end path k f name g presence default own fs e = rw e
 
 inserted_turn : (path : List ℕ) (k : ℕ) (f : OneField) (name : List ℕ) (g : Grammar) (slot : Option ℕ) (fs : List Field) (ps : List (Option Value)) → f ≡ an_inserted name g slot
     → field_breaches path k (with_field f (fields_view fs)) (places_view ps) ≡ field_breaches path (suc k) (fields_view fs) (places_view ps)
 inserted_turn path k f name g slot fs ps e = rw e
 
-pub component-turn : (path : List ℕ) (fs : List Field) (ps : List (Option Value)) (k i at : ℕ) (f : Field) (name : List ℕ) (g : Grammar) (presence : Presence) (default : Option (List ℕ)) (p : Option Value) → i < length fs → at < length ps → f ≡ get_or fs i f → p ≡ get_or ps at p → field_of f ≡ a_component name g presence default
+pub component-turn : (path : List ℕ) (fs : List Field) (ps : List (Option Value)) (k i at : ℕ) (f : Field) (name : List ℕ) (g : Grammar) (presence : Presence) (default : Option (List ℕ)) (own : Option ℕ) (p : Option Value) → i < length fs → at < length ps → f ≡ get_or fs i f → p ≡ get_or ps at p → field_of f ≡ a_component name g presence default own
     → field_breaches path k (fields_view (drop i fs)) (places_view (drop at ps)) ≡ place_breaches (path ++ k ∷ []) g (option_map data_of p) ++ field_breaches path (k + 1) (fields_view (drop (i + 1) fs)) (places_view (drop (at + 1) ps))
-component-turn path fs ps k i at f name g presence default p h j e q is =
-    rw (drop_more fs i f h, drop_more ps at p j, ← e, ← q, add-one k) (component_turn path k (field_of f) name g presence default (drop (i + 1) fs) p (drop (at + 1) ps) is)
+component-turn path fs ps k i at f name g presence default own p h j e q is =
+    rw (drop_more fs i f h, drop_more ps at p j, ← e, ← q, add-one k) (component_turn path k (field_of f) name g presence default own (drop (i + 1) fs) p (drop (at + 1) ps) is)
 
-pub component-end : (path : List ℕ) (fs : List Field) (ps : List (Option Value)) (k i at : ℕ) (f : Field) (name : List ℕ) (g : Grammar) (presence : Presence) (default : Option (List ℕ)) → i < length fs → length ps ≤ at → f ≡ get_or fs i f → field_of f ≡ a_component name g presence default
+pub component-end : (path : List ℕ) (fs : List Field) (ps : List (Option Value)) (k i at : ℕ) (f : Field) (name : List ℕ) (g : Grammar) (presence : Presence) (default : Option (List ℕ)) (own : Option ℕ) → i < length fs → length ps ≤ at → f ≡ get_or fs i f → field_of f ≡ a_component name g presence default own
     → field_breaches path k (fields_view (drop i fs)) (places_view (drop at ps)) ≡ []
-component-end path fs ps k i at f name g presence default h j e is =
-    rw (drop_more fs i f h, drop_all at ps j, ← e) (component_end path k (field_of f) name g presence default (drop (i + 1) fs) is)
+component-end path fs ps k i at f name g presence default own h j e is =
+    rw (drop_more fs i f h, drop_all at ps j, ← e) (component_end path k (field_of f) name g presence default own (drop (i + 1) fs) is)
 
 pub inserted-turn : (path : List ℕ) (fs : List Field) (ps : List (Option Value)) (k i at : ℕ) (f : Field) (name : List ℕ) (g : Grammar) (slot : Option ℕ) → i < length fs → f ≡ get_or fs i f → field_of f ≡ an_inserted name g slot
     → field_breaches path k (fields_view (drop i fs)) (places_view (drop at ps)) ≡ field_breaches path (k + 1) (fields_view (drop (i + 1) fs)) (places_view (drop at ps))
@@ -96,7 +96,7 @@ field_count-length [] = refl
 field_count-length (f ∷ fs) = one_more (field_of f) ∙ ap suc (field_count-length fs)
   where
     one_more : (x : OneField) → field_count (with_field x (fields_view fs)) ≡ suc (field_count (fields_view fs))
-    one_more (a_component name g presence default) = refl
+    one_more (a_component name g presence default own) = refl
     one_more (an_inserted name g slot) = refl
 
 pub room-fields : (k : ℕ) (n : Node) (s : SeqNode) → n.body ≡ Seq_body s → HasRoom k (grammar_of n) → (length s.fields < 2 ^ 32) × FieldsHaveRoom (k + 1) (fields_view s.fields)
@@ -107,11 +107,11 @@ room-fields k n s e h =
 pub room-turn : (k : ℕ) (fs : List Field) (i : ℕ) (f : Field) → i < length fs → f ≡ get_or fs i f → FieldsHaveRoom k (fields_view (drop i fs)) → FieldsHaveRoom k (with_field (field_of f) (fields_view (drop (i + 1) fs)))
 room-turn k fs i f h e r = subst (λ xs. FieldsHaveRoom k (fields_view xs)) (drop_more fs i f h ∙ ap (λ x. x ∷ drop (i + 1) fs) (sym e)) r
 
-pub room-component : (k : ℕ) (f : OneField) (fs : List Field) (name : List ℕ) (g : Grammar) (presence : Presence) (default : Option (List ℕ)) → f ≡ a_component name g presence default → FieldsHaveRoom k (with_field f (fields_view fs)) → HasRoom k g
-room-component k f fs name g presence default e r = (subst (λ x. FieldsHaveRoom k (with_field x (fields_view fs))) e r).0
+pub room-component : (k : ℕ) (f : OneField) (fs : List Field) (name : List ℕ) (g : Grammar) (presence : Presence) (default : Option (List ℕ)) (own : Option ℕ) → f ≡ a_component name g presence default own → FieldsHaveRoom k (with_field f (fields_view fs)) → HasRoom k g
+room-component k f fs name g presence default own e r = (subst (λ x. FieldsHaveRoom k (with_field x (fields_view fs))) e r).0
 
 pub room-rest : (k : ℕ) (f : OneField) (fs : List Field) → FieldsHaveRoom k (with_field f (fields_view fs)) → FieldsHaveRoom k (fields_view fs)
-room-rest k (a_component name g presence default) fs r = r.1
+room-rest k (a_component name g presence default own) fs r = r.1
 room-rest k (an_inserted name g slot) fs r = r.1
 
 alternative-grammar : (a : Alternative) → (alternative_of a).grammar ≡ grammar_of a.node
@@ -151,29 +151,29 @@ element-later path here g vs step i v h e p s a =
     let b : None ≡ first_of (breaches (path ++ i ∷ []) g (data_of v)) = a ∙ (ap (λ x. first_of (breaches (x ++ step ∷ []) g (data_of v))) p ∙ ap (λ x. first_of (breaches (path ++ x ∷ []) g (data_of v))) s) in
     sym (ap first_of (run-turn (Each path g) vs i i v h e) ∙ first_later _ _ b)
 
-pub component-here : (path here : List ℕ) (fs : List Field) (ps : List (Option Value)) (step i at : ℕ) (f : Field) (name : List ℕ) (n : Node) (presence : Presence) (default : Option (List ℕ)) (p : Option Value) (u : Unfit) → i < length fs → at < length ps → f ≡ get_or fs i f → p ≡ get_or ps at p → f ≡ Component name n presence default → here ≡ path → step ≡ i
+pub component-here : (path here : List ℕ) (fs : List Field) (ps : List (Option Value)) (step i at : ℕ) (f : Field) (name : List ℕ) (n : Node) (presence : Presence) (default : Option (List ℕ)) (own : Option ℕ) (p : Option Value) (u : Unfit) → i < length fs → at < length ps → f ≡ get_or fs i f → p ≡ get_or ps at p → f ≡ Component name n presence default own → here ≡ path → step ≡ i
     → Some u ≡ first_of (place_breaches (here ++ step ∷ []) (grammar_of n) (option_map data_of p))
     → Some u ≡ first_of (field_breaches path i (fields_view (drop i fs)) (places_view (drop at ps)))
-component-here path here fs ps step i at f name n presence default p u h j e q is w s a =
+component-here path here fs ps step i at f name n presence default own p u h j e q is w s a =
     let b : Some u ≡ first_of (place_breaches (path ++ i ∷ []) (grammar_of n) (option_map data_of p)) = a ∙ (ap (λ x. first_of (place_breaches (x ++ step ∷ []) (grammar_of n) (option_map data_of p))) w ∙ ap (λ x. first_of (place_breaches (path ++ x ∷ []) (grammar_of n) (option_map data_of p))) s) in
-    first_here u _ _ b ∙ ap first_of (sym (component-turn path fs ps i i at f name (grammar_of n) presence default p h j e q (ap field_of is ∙ view_component name n presence default)))
+    first_here u _ _ b ∙ ap first_of (sym (component-turn path fs ps i i at f name (grammar_of n) presence default own p h j e q (ap field_of is ∙ view_component name n presence default own)))
 
-pub component-later : (path here : List ℕ) (fs : List Field) (ps : List (Option Value)) (step i at : ℕ) (f : Field) (name : List ℕ) (n : Node) (presence : Presence) (default : Option (List ℕ)) (p : Option Value) → i < length fs → at < length ps → f ≡ get_or fs i f → p ≡ get_or ps at p → f ≡ Component name n presence default → here ≡ path → step ≡ i
+pub component-later : (path here : List ℕ) (fs : List Field) (ps : List (Option Value)) (step i at : ℕ) (f : Field) (name : List ℕ) (n : Node) (presence : Presence) (default : Option (List ℕ)) (own : Option ℕ) (p : Option Value) → i < length fs → at < length ps → f ≡ get_or fs i f → p ≡ get_or ps at p → f ≡ Component name n presence default own → here ≡ path → step ≡ i
     → None ≡ first_of (place_breaches (here ++ step ∷ []) (grammar_of n) (option_map data_of p))
     → first_of (field_breaches path (i + 1) (fields_view (drop (i + 1) fs)) (places_view (drop (at + 1) ps))) ≡ first_of (field_breaches path i (fields_view (drop i fs)) (places_view (drop at ps)))
-component-later path here fs ps step i at f name n presence default p h j e q is w s a =
+component-later path here fs ps step i at f name n presence default own p h j e q is w s a =
     let b : None ≡ first_of (place_breaches (path ++ i ∷ []) (grammar_of n) (option_map data_of p)) = a ∙ (ap (λ x. first_of (place_breaches (x ++ step ∷ []) (grammar_of n) (option_map data_of p))) w ∙ ap (λ x. first_of (place_breaches (path ++ x ∷ []) (grammar_of n) (option_map data_of p))) s) in
-    sym (ap first_of (component-turn path fs ps i i at f name (grammar_of n) presence default p h j e q (ap field_of is ∙ view_component name n presence default)) ∙ first_later _ _ b)
+    sym (ap first_of (component-turn path fs ps i i at f name (grammar_of n) presence default own p h j e q (ap field_of is ∙ view_component name n presence default own)) ∙ first_later _ _ b)
 
-pub no-place : (path : List ℕ) (fs : List Field) (ps : List (Option Value)) (i at : ℕ) (f : Field) (name : List ℕ) (n : Node) (presence : Presence) (default : Option (List ℕ)) → i < length fs → length ps ≤ at → f ≡ get_or fs i f → f ≡ Component name n presence default → None ≡ first_of (field_breaches path i (fields_view (drop i fs)) (places_view (drop at ps)))
-no-place path fs ps i at f name n presence default h j e is = ap first_of (sym (component-end path fs ps i i at f name (grammar_of n) presence default h j e (ap field_of is ∙ view_component name n presence default)))
+pub no-place : (path : List ℕ) (fs : List Field) (ps : List (Option Value)) (i at : ℕ) (f : Field) (name : List ℕ) (n : Node) (presence : Presence) (default : Option (List ℕ)) (own : Option ℕ) → i < length fs → length ps ≤ at → f ≡ get_or fs i f → f ≡ Component name n presence default own → None ≡ first_of (field_breaches path i (fields_view (drop i fs)) (places_view (drop at ps)))
+no-place path fs ps i at f name n presence default own h j e is = ap first_of (sym (component-end path fs ps i i at f name (grammar_of n) presence default own h j e (ap field_of is ∙ view_component name n presence default own)))
 
 pub inserted-later : (path : List ℕ) (fs : List Field) (ps : List (Option Value)) (i at : ℕ) (f : Field) (name : List ℕ) (n : Node) (slot : Option ℕ) → i < length fs → f ≡ get_or fs i f → f ≡ Inserted name n slot
     → first_of (field_breaches path (i + 1) (fields_view (drop (i + 1) fs)) (places_view (drop at ps))) ≡ first_of (field_breaches path i (fields_view (drop i fs)) (places_view (drop at ps)))
 inserted-later path fs ps i at f name n slot h e is = sym (ap first_of (inserted-turn path fs ps i i at f name (grammar_of n) slot h e (ap field_of is ∙ view_inserted name n slot)))
 
-pub room-node : (k : ℕ) (fs : List Field) (i : ℕ) (f : Field) (name : List ℕ) (n : Node) (presence : Presence) (default : Option (List ℕ)) → i < length fs → f ≡ get_or fs i f → f ≡ Component name n presence default → FieldsHaveRoom k (fields_view (drop i fs)) → HasRoom k (grammar_of n)
-room-node k fs i f name n presence default h e is r = room-component k (field_of f) (drop (i + 1) fs) name (grammar_of n) presence default (ap field_of is ∙ view_component name n presence default) (room-turn k fs i f h e r)
+pub room-node : (k : ℕ) (fs : List Field) (i : ℕ) (f : Field) (name : List ℕ) (n : Node) (presence : Presence) (default : Option (List ℕ)) (own : Option ℕ) → i < length fs → f ≡ get_or fs i f → f ≡ Component name n presence default own → FieldsHaveRoom k (fields_view (drop i fs)) → HasRoom k (grammar_of n)
+room-node k fs i f name n presence default own h e is r = room-component k (field_of f) (drop (i + 1) fs) name (grammar_of n) presence default own (ap field_of is ∙ view_component name n presence default own) (room-turn k fs i f h e r)
 
 elements-length : (vs : List Value) → element_count (elements_view vs) ≡ length vs
 elements-length [] = refl

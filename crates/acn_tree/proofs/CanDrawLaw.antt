@@ -5,7 +5,8 @@ use Rattle.std.proofs.lemmas.Bool.Decides.{nat_tests}
 use Rattle.acn_tree.specs.CanDraw.{CanDraw, FormCanDraw, FieldsCanDraw, AlternativesCanDraw}
 use Rattle.acn_grammar.specs.Check.{conditions_of}
 use Rattle.acn_grammar.specs.Grammar.{Grammar, Form, Fields, Alternatives, node, num, octets, bits, text, seq, list, choice, contained, no_fields, component, inserted, no_alternatives, alternative}
-use Rattle.acn_grammar.specs.Leaves.{sizing_fine, sizes_fine, rule_fine, all_differ}
+use Rattle.acn_grammar.specs.Leaves.{sizing_fine, list_fine, list_rule_fine, sizes_fine, rule_fine, all_differ}
+use Rattle.acn_grammar.specs.Length.{ending}
 use Rattle.acn_grammar.specs.Asks.{same_name}
 use Rattle.acn_tree.specs.Made.{alternative_count}
 use Rattle.acn_grammar.specs.Tree.{IsTree, form_fine, choice_rule_fine, stand_rules, all_true, same_numbers, slots_of}
@@ -23,6 +24,9 @@ less a b h = grind (arith, nat_tests)
 
 sizes_of : (sizing : Sizing) → sizing_fine sizing ≡ true → sizes_fine sizing.sizes ≡ true
 sizes_of sizing h = (both_are (sizes_fine sizing.sizes) (rule_fine sizing.sizes sizing.rule) h).0
+
+list_sizes : (sizing : Sizing) → list_fine sizing ≡ true → sizes_fine sizing.sizes ≡ true
+list_sizes sizing h = (both_are (sizes_fine sizing.sizes) (list_rule_fine (ending sizing.rule) sizing) h).0
 
 same_count : (cases : Alternatives) → length (conditions_of cases) ≡ alternative_count cases
 same_count no_alternatives = refl
@@ -61,7 +65,7 @@ module _ (all : List Stand) where
     can_form (bits sizing) path around f h n = sizes_of sizing f
     can_form (text leaf) path around f h n = f
     can_form (seq fields home) path around f h n = can_fields fields path (home ++ around) 0 h n
-    can_form (list sizing g) path around f h n = (sizes_of sizing f, can_node g an_element (path ++ 0 ∷ []) around h n)
+    can_form (list sizing g) path around f h n = (list_sizes sizing f, can_node g an_element (path ++ 0 ∷ []) around h n)
     can_form (choice cases rule) path around f h n =
         let c = count_cases path around 0 cases in
         (some_case cases rule f, omega arith, can_alternatives cases path around 0 h n)
@@ -69,10 +73,10 @@ module _ (all : List Stand) where
 
     can_fields : (fs : Fields) (path around : List ℕ) (k : ℕ) → list_all passes (field_nodes path around k fs) ≡ true → length (field_nodes path around k fs) ≤ 65536 → FieldsCanDraw fs
     can_fields no_fields path around k h n = tt
-    can_fields (component name g presence default fs) path around k h n =
-        let p = list_all-append passes (nodes (a_component name presence) (path ++ k ∷ []) around g) (field_nodes path around (suc k) fs) h in
-        let l = length-append (nodes (a_component name presence) (path ++ k ∷ []) around g) (field_nodes path around (suc k) fs) in
-        (can_node g (a_component name presence) (path ++ k ∷ []) around p.0 (omega arith), can_fields fs path around (suc k) p.1 (omega arith))
+    can_fields (component name g presence default own fs) path around k h n =
+        let p = list_all-append passes (nodes (a_component name presence own) (path ++ k ∷ []) around g) (field_nodes path around (suc k) fs) h in
+        let l = length-append (nodes (a_component name presence own) (path ++ k ∷ []) around g) (field_nodes path around (suc k) fs) in
+        (can_node g (a_component name presence own) (path ++ k ∷ []) around p.0 (omega arith), can_fields fs path around (suc k) p.1 (omega arith))
     can_fields (inserted name g slot fs) path around k h n =
         let p = list_all-append passes (nodes (an_inserted name slot) (path ++ k ∷ []) around g) (field_nodes path around (suc k) fs) h in
         let l = length-append (nodes (an_inserted name slot) (path ++ k ∷ []) around g) (field_nodes path around (suc k) fs) in

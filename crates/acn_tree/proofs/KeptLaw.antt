@@ -31,7 +31,7 @@ mutual
 
   kept_fields : (fs : Fields) → FieldsFine fs → FieldsKept fs
   kept_fields no_fields h = tt
-  kept_fields (component name g presence default fs) h = (kept g h.0, kept_fields fs h.1)
+  kept_fields (component name g presence default own fs) h = (kept g h.0, kept_fields fs h.1)
   kept_fields (inserted name g slot fs) h = (kept g h.0, kept_fields fs h.1)
 
   kept_alternatives : (as' : Alternatives) → AlternativesFine as' → AlternativesKept as'
@@ -50,14 +50,14 @@ pub kept-fields : (body : Body) (s : SeqNode) → body ≡ Seq_body s → FormKe
 kept-fields body s e h = subst FormKept (ap form_of e ∙ view_seq_form s) h
 
 one_field : (f : OneField) (fs : Fields) → FieldsKept (with_field f fs) → FieldKept f × FieldsKept fs
-one_field (a_component name g presence default) fs h = h
+one_field (a_component name g presence default own) fs h = h
 one_field (an_inserted name g slot) fs h = h
 
 pub kept-turn : (fs : List Field) (i : ℕ) (f : Field) → i < length fs → f ≡ get_or fs i f → FieldsKept (fields_view (drop i fs)) → FieldKept (field_of f) × FieldsKept (fields_view (drop (i + 1) fs))
 kept-turn fs i f h e k = one_field (field_of f) (fields_view (drop (i + 1) fs)) (subst (λ xs. FieldsKept (fields_view xs)) (drop_more fs i f h ∙ ap (λ x. x ∷ drop (i + 1) fs) (sym e)) k)
 
-pub kept-component : (f : Field) (name : List ℕ) (n : Node) (presence : Presence) (default : Option (List ℕ)) → f ≡ Component name n presence default → FieldKept (field_of f) → NumbersKept (grammar_of n)
-kept-component f name n presence default e h = subst FieldKept (ap field_of e ∙ view_component name n presence default) h
+pub kept-component : (f : Field) (name : List ℕ) (n : Node) (presence : Presence) (default : Option (List ℕ)) (own : Option ℕ) → f ≡ Component name n presence default own → FieldKept (field_of f) → NumbersKept (grammar_of n)
+kept-component f name n presence default own e h = subst FieldKept (ap field_of e ∙ view_component name n presence default own) h
 
 pub kept-inserted : (f : Field) (name : List ℕ) (n : Node) (slot : Option ℕ) → f ≡ Inserted name n slot → FieldKept (field_of f) → NumbersKept (grammar_of n)
 kept-inserted f name n slot e h = subst FieldKept (ap field_of e ∙ view_inserted name n slot) h

@@ -28,7 +28,7 @@ elements_state each (suc n) s = elements_state each n (each s).state
 
 abbrev pub places_made : Fields → ℕ → Drawn (List (Option Data))
 places_made no_fields s = record { value = []; state = s }
-places_made (component name g p default fs) s = after (place_made p g s) (λ d t. is (λ ds. d ∷ ds) (places_made fs t))
+places_made (component name g p default own fs) s = after (place_made p g s) (λ d t. is (λ ds. d ∷ ds) (places_made fs t))
 places_made (inserted name g slot fs) s = places_made fs s
 
 component_value : (there : Bool) (t : ℕ) (g : Grammar) (fs : Fields) → ((u : ℕ) → places_of (places_made fs u).value ≡ (fields_made fs u).value)
@@ -39,7 +39,7 @@ component_value false t g fs f = ap empty (f t)
 
 pub places_value : (fs : Fields) (s : ℕ) → places_of (places_made fs s).value ≡ (fields_made fs s).value
 places_value no_fields s = refl
-places_value (component name g p default fs) s = component_value (presence p s).value (presence p s).state g fs (λ u. places_value fs u)
+places_value (component name g p default own fs) s = component_value (presence p s).value (presence p s).state g fs (λ u. places_value fs u)
 places_value (inserted name g slot fs) s = places_value fs s
 
 component_state : (there : Bool) (t : ℕ) (g : Grammar) (fs : Fields) → ((u : ℕ) → (places_made fs u).state ≡ (fields_made fs u).state)
@@ -50,7 +50,7 @@ component_state false t g fs f = f t
 
 pub places_state : (fs : Fields) (s : ℕ) → (places_made fs s).state ≡ (fields_made fs s).state
 places_state no_fields s = refl
-places_state (component name g p default fs) s = component_state (presence p s).value (presence p s).state g fs (λ u. places_state fs u)
+places_state (component name g p default own fs) s = component_state (presence p s).value (presence p s).state g fs (λ u. places_state fs u)
 places_state (inserted name g slot fs) s = places_state fs s
 
 -- the fields from i on are that field and those behind it
@@ -58,16 +58,16 @@ pub fields_from : (fs : List Field) (i : ℕ) (f : Field) → i < length fs → 
 fields_from fs i f h e = rw (drop_more fs i f h, ← e) refl
 
 -- a component adds a place
-pub component_turn : (left rest : Fields) (name : List ℕ) (g : Grammar) (p : Presence) (default : Option (List ℕ)) (s t : ℕ) (d : Option Data) (done whole : List (Option Data))
-    → left ≡ with_field (a_component name g p default) rest → d ≡ (place_made p g s).value → t ≡ (place_made p g s).state
+pub component_turn : (left rest : Fields) (name : List ℕ) (g : Grammar) (p : Presence) (default : Option (List ℕ)) (own : Option ℕ) (s t : ℕ) (d : Option Data) (done whole : List (Option Data))
+    → left ≡ with_field (a_component name g p default own) rest → d ≡ (place_made p g s).value → t ≡ (place_made p g s).state
     → done ++ (places_made left s).value ≡ whole → (done ++ d ∷ []) ++ (places_made rest t).value ≡ whole
-component_turn left rest name g p default s t d done whole e a b same =
+component_turn left rest name g p default own s t d done whole e a b same =
     let step : done ++ (places_made left s).value ≡ done ++ (d ∷ (places_made rest t).value) = rw (e, a, b) refl in
     append_assoc done (d ∷ []) (places_made rest t).value ∙ (sym step ∙ same)
 
-pub component_goes_on : (left rest : Fields) (name : List ℕ) (g : Grammar) (p : Presence) (default : Option (List ℕ)) (s t whole : ℕ)
-    → left ≡ with_field (a_component name g p default) rest → t ≡ (place_made p g s).state → (places_made left s).state ≡ whole → (places_made rest t).state ≡ whole
-component_goes_on left rest name g p default s t whole e b same =
+pub component_goes_on : (left rest : Fields) (name : List ℕ) (g : Grammar) (p : Presence) (default : Option (List ℕ)) (own : Option ℕ) (s t whole : ℕ)
+    → left ≡ with_field (a_component name g p default own) rest → t ≡ (place_made p g s).state → (places_made left s).state ≡ whole → (places_made rest t).state ≡ whole
+component_goes_on left rest name g p default own s t whole e b same =
     let step : (places_made left s).state ≡ (places_made rest t).state = rw (e, b) refl in
     sym step ∙ same
 
@@ -88,18 +88,18 @@ stands_still left s whole e same =
 
 -- What the fields keep, they keep from each of them on.
 
-pub can_component : (left rest : Fields) (name : List ℕ) (g : Grammar) (p : Presence) (default : Option (List ℕ)) → left ≡ with_field (a_component name g p default) rest → FieldsCanDraw left → CanDraw g
-can_component left rest name g p default e h = (subst FieldsCanDraw e h).0
+pub can_component : (left rest : Fields) (name : List ℕ) (g : Grammar) (p : Presence) (default : Option (List ℕ)) (own : Option ℕ) → left ≡ with_field (a_component name g p default own) rest → FieldsCanDraw left → CanDraw g
+can_component left rest name g p default own e h = (subst FieldsCanDraw e h).0
 
-pub named_component : (left rest : Fields) (name : List ℕ) (g : Grammar) (p : Presence) (default : Option (List ℕ)) → left ≡ with_field (a_component name g p default) rest → FieldsItemsNamed left → ItemsNamed g
-named_component left rest name g p default e h = (both_are (items_named g) (fields_items_named rest) (subst FieldsItemsNamed e h)).0
+pub named_component : (left rest : Fields) (name : List ℕ) (g : Grammar) (p : Presence) (default : Option (List ℕ)) (own : Option ℕ) → left ≡ with_field (a_component name g p default own) rest → FieldsItemsNamed left → ItemsNamed g
+named_component left rest name g p default own e h = (both_are (items_named g) (fields_items_named rest) (subst FieldsItemsNamed e h)).0
 
 can_rest : (f : OneField) (rest : Fields) → FieldsCanDraw (with_field f rest) → FieldsCanDraw rest
-can_rest (a_component name g p default) rest h = h.1
+can_rest (a_component name g p default own) rest h = h.1
 can_rest (an_inserted name g slot) rest h = h
 
 named_rest : (f : OneField) (rest : Fields) → FieldsItemsNamed (with_field f rest) → FieldsItemsNamed rest
-named_rest (a_component name g p default) rest h = (both_are (items_named g) (fields_items_named rest) h).1
+named_rest (a_component name g p default own) rest h = (both_are (items_named g) (fields_items_named rest) h).1
 named_rest (an_inserted name g slot) rest h = (both_are (items_named g) (fields_items_named rest) h).1
 
 pub can_turn : (f : OneField) (left rest : Fields) → left ≡ with_field f rest → FieldsCanDraw left → FieldsCanDraw rest

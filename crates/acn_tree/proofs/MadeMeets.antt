@@ -104,11 +104,11 @@ number_back Enumerated coding items table set s h = natural_is (number set s).va
 
 -- The form of the value.
 
-component_fits : (there : Bool) (t : ℕ) (name : List ℕ) (g : Grammar) (p : Presence) (default : Option (List ℕ)) (fs : Fields) → (there ≡ false → may_be_absent p ≡ true)
+component_fits : (there : Bool) (t : ℕ) (name : List ℕ) (g : Grammar) (p : Presence) (default : Option (List ℕ)) (own : Option ℕ) (fs : Fields) → (there ≡ false → may_be_absent p ≡ true)
     → ((u : ℕ) → fits g (made g u).value ≡ true) → ((u : ℕ) → fields_fit fs (fields_made fs u).value ≡ true)
-    → fields_fit (component name g p default fs) (if there then after (made g t) (λ d u. is (filled d) (fields_made fs u)) else is empty (fields_made fs t)).value ≡ true
-component_fits true t name g p default fs away one more = rw (one t) (more (made g t).state)
-component_fits false t name g p default fs away one more = rw (away refl) (more t)
+    → fields_fit (component name g p default own fs) (if there then after (made g t) (λ d u. is (filled d) (fields_made fs u)) else is empty (fields_made fs t)).value ≡ true
+component_fits true t name g p default own fs away one more = rw (one t) (more (made g t).state)
+component_fits false t name g p default own fs away one more = rw (away refl) (more t)
 
 away_fits : (p : Presence) (s : ℕ) → (presence p s).value ≡ false → may_be_absent p ≡ true
 away_fits Always s h = cc
@@ -137,7 +137,7 @@ mutual
 
   shaped_fields : (fs : Fields) (s : ℕ) → FieldsCanDraw fs → fields_fit fs (fields_made fs s).value ≡ true
   shaped_fields no_fields s h = refl
-  shaped_fields (component name g p default fs) s h = component_fits (presence p s).value (presence p s).state name g p default fs (away_fits p s) (λ u. shaped_node g u h.0) (λ u. shaped_fields fs u h.1)
+  shaped_fields (component name g p default own fs) s h = component_fits (presence p s).value (presence p s).state name g p default own fs (away_fits p s) (λ u. shaped_node g u h.0) (λ u. shaped_fields fs u h.1)
   shaped_fields (inserted name g slot fs) s h = shaped_fields fs s h
 
   shaped_alternative : (cases : Alternatives) (i s : ℕ) → i < alternative_count cases → AlternativesCanDraw cases → alternative_fits cases i (alternative_made cases i s).value ≡ true
@@ -214,11 +214,11 @@ run_ends : (path : List ℕ) (g : Grammar) (each : ℕ → Drawn Data) → ((k t
 run_ends path g each h zero k s = refl
 run_ends path g each h (suc n) k s = both_end (breaches (path ++ k ∷ []) g (each s).value) _ (h k s) (run_ends path g each h n (suc k) (each s).state)
 
-component_ends : (there : Bool) (t : ℕ) (path : List ℕ) (k : ℕ) (name : List ℕ) (g : Grammar) (p : Presence) (default : Option (List ℕ)) (fs : Fields)
+component_ends : (there : Bool) (t : ℕ) (path : List ℕ) (k : ℕ) (name : List ℕ) (g : Grammar) (p : Presence) (default : Option (List ℕ)) (own : Option ℕ) (fs : Fields)
     → ((u : ℕ) → Ends (breaches (path ++ k ∷ []) g (made g u).value)) → ((u : ℕ) → Ends (field_breaches path (suc k) fs (fields_made fs u).value))
-    → Ends (field_breaches path k (component name g p default fs) (if there then after (made g t) (λ d u. is (filled d) (fields_made fs u)) else is empty (fields_made fs t)).value)
-component_ends true t path k name g p default fs one more = both_end (breaches (path ++ k ∷ []) g (made g t).value) _ (one t) (more (made g t).state)
-component_ends false t path k name g p default fs one more = more t
+    → Ends (field_breaches path k (component name g p default own fs) (if there then after (made g t) (λ d u. is (filled d) (fields_made fs u)) else is empty (fields_made fs t)).value)
+component_ends true t path k name g p default own fs one more = both_end (breaches (path ++ k ∷ []) g (made g t).value) _ (one t) (more (made g t).state)
+component_ends false t path k name g p default own fs one more = more t
 
 mutual
   node_ends : (g : Grammar) (path : List ℕ) (s : ℕ) → CanDraw g → Ends (breaches path g (made g s).value)
@@ -262,8 +262,8 @@ mutual
 
   field_ends : (fs : Fields) (path : List ℕ) (k s : ℕ) → FieldsCanDraw fs → Ends (field_breaches path k fs (fields_made fs s).value)
   field_ends no_fields path k s h = refl
-  field_ends (component name g p default fs) path k s h =
-      component_ends (presence p s).value (presence p s).state path k name g p default fs (λ u. node_ends g (path ++ k ∷ []) u h.0) (λ u. field_ends fs path (suc k) u h.1)
+  field_ends (component name g p default own fs) path k s h =
+      component_ends (presence p s).value (presence p s).state path k name g p default own fs (λ u. node_ends g (path ++ k ∷ []) u h.0) (λ u. field_ends fs path (suc k) u h.1)
   field_ends (inserted name g slot fs) path k s h = field_ends fs path (suc k) s h
 
   alternative_ends : (cases : Alternatives) (path : List ℕ) (i j s : ℕ) → AlternativesCanDraw cases → Ends (alternative_breaches path i cases j (alternative_made cases j s).value)

@@ -8,11 +8,11 @@ use Rattle.acn_grammar.specs.declared.node.Field.{Field}
 use Rattle.acn_grammar.specs.declared.node.Body.{the_lemmas as node_lemmas}
 
 first_field : (f : OneField) (fs : Fields) → field_at (with_field f fs) zero ≡ Some (grammar_in f)
-first_field (a_component name g presence default) fs = refl
+first_field (a_component name g presence default own) fs = refl
 first_field (an_inserted name g slot) fs = refl
 
 next_field : (f : OneField) (fs : Fields) (k : ℕ) → field_at (with_field f fs) (suc k) ≡ field_at fs k
-next_field (a_component name g presence default) fs k = refl
+next_field (a_component name g presence default own) fs k = refl
 next_field (an_inserted name g slot) fs k = refl
 
 pub field_at-some : (fs : List Field) (k : ℕ) (f : Field) → k < length fs → field_at (fields_view fs) k ≡ Some (grammar_in (field_of (get_or fs k f)))

@@ -6,7 +6,8 @@ use Rattle.std.proofs.lemmas.Bool.Decides.{nat_tests}
 use Rattle.std.proofs.lemmas.Int.{ints}
 use Rattle.acn_num.specs.Ranges.{has, are_ranges, all_within}
 use Rattle.acn_grammar.specs.Grammar.{Grammar, Form, Fields, Alternatives, node, num, octets, bits, text, seq, list, choice, contained, no_fields, component, inserted, no_alternatives, alternative}
-use Rattle.acn_grammar.specs.Leaves.{sizing_fine, sizes_fine, rule_fine}
+use Rattle.acn_grammar.specs.Leaves.{list_fine, list_rule_fine, sizes_fine}
+use Rattle.acn_grammar.specs.Length.{ending}
 use Rattle.acn_tree.specs.NodeAt.{node_at, child, field_at, alternative_at, only, if_some}
 use Rattle.acn_tree.specs.Room.{InTree, HasRoom, FormHasRoom, FieldsHaveRoom, AlternativesHaveRoom, SizesAreSmall, field_count}
 use Rattle.acn_grammar.specs.Tree.{IsTree, form_fine, stand_rules, all_true, same_numbers, slots_of}
@@ -35,9 +36,9 @@ within_end (r ∷ rs) low high x h m =
     under : (x y z : ℤ) → x ≤ℤ y → int_le y z ≡ true → x ≤ℤ z
     under x y z h k = grind (arith, ints, nat_tests)
 
-small_sizes : (sizing : Sizing) → sizing_fine sizing ≡ true → SizesAreSmall sizing
+small_sizes : (sizing : Sizing) → list_fine sizing ≡ true → SizesAreSmall sizing
 small_sizes sizing h n m =
-    let a = both_are (sizes_fine sizing.sizes) (rule_fine sizing.sizes sizing.rule) h in
+    let a = both_are (sizes_fine sizing.sizes) (list_rule_fine (ending sizing.rule) sizing) h in
     let b = both_are (nat_lt 0 (length sizing.sizes)) (are_ranges sizing.sizes && all_within (pos 0) (pos 65536) sizing.sizes) a.0 in
     let c = both_are (are_ranges sizing.sizes) (all_within (pos 0) (pos 65536) sizing.sizes) b.1 in
     let e = within_end sizing.sizes (pos 0) (pos 65536) (pos n) c.1 m in
@@ -54,8 +55,8 @@ some_node role path around (node align form) = omega arith
 
 count_fields : (path around : List ℕ) (k : ℕ) (fs : Fields) → field_count fs ≤ length (field_nodes path around k fs)
 count_fields path around k no_fields = omega arith
-count_fields path around k (component name g presence default fs) =
-    omega (arith, some_node (a_component name presence) (path ++ k ∷ []) around g, count_fields path around (suc k) fs, length-append (nodes (a_component name presence) (path ++ k ∷ []) around g) (field_nodes path around (suc k) fs))
+count_fields path around k (component name g presence default own fs) =
+    omega (arith, some_node (a_component name presence own) (path ++ k ∷ []) around g, count_fields path around (suc k) fs, length-append (nodes (a_component name presence own) (path ++ k ∷ []) around g) (field_nodes path around (suc k) fs))
 count_fields path around k (inserted name g slot fs) =
     omega (arith, some_node (an_inserted name slot) (path ++ k ∷ []) around g, count_fields path around (suc k) fs, length-append (nodes (an_inserted name slot) (path ++ k ∷ []) around g) (field_nodes path around (suc k) fs))
 
@@ -86,10 +87,10 @@ module _ (all : List Stand) where
 
     room_fields : (fs : Fields) (path around : List ℕ) (k m : ℕ) → m ≡ length path → list_all passes (field_nodes path around k fs) ≡ true → length (field_nodes path around k fs) ≤ 65536 → FieldsHaveRoom (suc m) fs
     room_fields no_fields path around k m e h n = tt
-    room_fields (component name g presence default fs) path around k m e h n =
-        let p = list_all-append passes (nodes (a_component name presence) (path ++ k ∷ []) around g) (field_nodes path around (suc k) fs) h in
-        let l = length-append (nodes (a_component name presence) (path ++ k ∷ []) around g) (field_nodes path around (suc k) fs) in
-        (room_node g (a_component name presence) (path ++ k ∷ []) around (suc m) (ap suc e ∙ sym (one_longer path k)) p.0 (omega arith), room_fields fs path around (suc k) m e p.1 (omega arith))
+    room_fields (component name g presence default own fs) path around k m e h n =
+        let p = list_all-append passes (nodes (a_component name presence own) (path ++ k ∷ []) around g) (field_nodes path around (suc k) fs) h in
+        let l = length-append (nodes (a_component name presence own) (path ++ k ∷ []) around g) (field_nodes path around (suc k) fs) in
+        (room_node g (a_component name presence own) (path ++ k ∷ []) around (suc m) (ap suc e ∙ sym (one_longer path k)) p.0 (omega arith), room_fields fs path around (suc k) m e p.1 (omega arith))
     room_fields (inserted name g slot fs) path around k m e h n =
         let p = list_all-append passes (nodes (an_inserted name slot) (path ++ k ∷ []) around g) (field_nodes path around (suc k) fs) h in
         let l = length-append (nodes (an_inserted name slot) (path ++ k ∷ []) around g) (field_nodes path around (suc k) fs) in
@@ -126,7 +127,7 @@ mutual
 
   fewer_fields : (fs : Fields) (j k : ℕ) → j ≤ k → FieldsHaveRoom k fs → FieldsHaveRoom j fs
   fewer_fields no_fields j k l h = tt
-  fewer_fields (component name g presence default fs) j k l h = (fewer g j k l h.0, fewer_fields fs j k l h.1)
+  fewer_fields (component name g presence default own fs) j k l h = (fewer g j k l h.0, fewer_fields fs j k l h.1)
   fewer_fields (inserted name g slot fs) j k l h = (fewer g j k l h.0, fewer_fields fs j k l h.1)
 
   fewer_alternatives : (as' : Alternatives) (j k : ℕ) → j ≤ k → AlternativesHaveRoom k as' → AlternativesHaveRoom j as'
@@ -138,8 +139,8 @@ some_is a b e = cc
 
 room_field : (fs : Fields) (i k : ℕ) (h : Grammar) → FieldsHaveRoom k fs → field_at fs i ≡ Some h → HasRoom k h
 room_field no_fields i k h r e = cc
-room_field (component name g presence default fs) zero k h r e = subst (HasRoom k) (some_is g h e) r.0
-room_field (component name g presence default fs) (suc i) k h r e = room_field fs i k h r.1 e
+room_field (component name g presence default own fs) zero k h r e = subst (HasRoom k) (some_is g h e) r.0
+room_field (component name g presence default own fs) (suc i) k h r e = room_field fs i k h r.1 e
 room_field (inserted name g slot fs) zero k h r e = subst (HasRoom k) (some_is g h e) r.0
 room_field (inserted name g slot fs) (suc i) k h r e = room_field fs i k h r.1 e
 

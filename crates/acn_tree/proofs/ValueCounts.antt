@@ -11,11 +11,11 @@ use Rattle.acn_grammar.specs.declared.node.Field.{Field}
 
 pub fields-held : (fs : Fields) → field_values fs ≤ 2 ^ 40
 fields-held no_fields = omega arith
-fields-held (component name g presence default fs) = omega arith
+fields-held (component name g presence default own fs) = omega arith
 fields-held (inserted name g slot fs) = fields-held fs
 
 one-turn : (all : ℕ) (f : OneField) (fs : Fields) → all ≤ 2 ^ 40 → held (with_field_values all f + field_values fs) ≡ held (all + field_values (with_field f fs))
-one-turn all (a_component name g presence default) fs h = omega arith
+one-turn all (a_component name g presence default own) fs h = omega arith
 one-turn all (an_inserted name g slot) fs h = refl
 
 pub values-turn : (all : ℕ) (fs : List Field) (i : ℕ) (f : Field) → i < length fs → f ≡ get_or fs i f → all ≤ 2 ^ 40 → held (with_field_values all (field_of f) + field_values (fields_view (drop (i + 1) fs))) ≡ held (all + field_values (fields_view (drop i fs)))

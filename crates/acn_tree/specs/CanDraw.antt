@@ -22,7 +22,7 @@ abbrev mutual
   -- an inserted field draws nothing
   pub FieldsCanDraw : Fields → Type 0
   FieldsCanDraw no_fields = Unit {0}
-  FieldsCanDraw (component name g presence default fs) = CanDraw g × FieldsCanDraw fs
+  FieldsCanDraw (component name g presence default own fs) = CanDraw g × FieldsCanDraw fs
   FieldsCanDraw (inserted name g slot fs) = FieldsCanDraw fs
 
   pub AlternativesCanDraw : Alternatives → Type 0

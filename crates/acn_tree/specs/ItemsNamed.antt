@@ -18,7 +18,7 @@ abbrev mutual
 
   pub fields_items_named : Fields → Bool
   fields_items_named no_fields = true
-  fields_items_named (component name g presence default fs) = items_named g && fields_items_named fs
+  fields_items_named (component name g presence default own fs) = items_named g && fields_items_named fs
   fields_items_named (inserted name g slot fs) = items_named g && fields_items_named fs
 
   pub alternatives_items_named : Alternatives → Bool
@@ -27,7 +27,7 @@ abbrev mutual
 
 -- the same of one field
 abbrev pub field_items_named : OneField → Bool
-field_items_named (a_component name g presence default) = items_named g
+field_items_named (a_component name g presence default own) = items_named g
 field_items_named (an_inserted name g slot) = items_named g
 
 abbrev pub ItemsNamed : Grammar → Type 0

@@ -19,7 +19,7 @@ abbrev mutual
 
   pub FieldsKept : Fields → Type 0
   FieldsKept no_fields = Unit {0}
-  FieldsKept (component name g presence default fs) = NumbersKept g × FieldsKept fs
+  FieldsKept (component name g presence default own fs) = NumbersKept g × FieldsKept fs
   FieldsKept (inserted name g slot fs) = NumbersKept g × FieldsKept fs
 
   pub AlternativesKept : Alternatives → Type 0
@@ -28,5 +28,5 @@ abbrev mutual
 
 -- the same of one field
 abbrev pub FieldKept : OneField → Type 0
-FieldKept (a_component name g presence default) = NumbersKept g
+FieldKept (a_component name g presence default own) = NumbersKept g
 FieldKept (an_inserted name g slot) = NumbersKept g

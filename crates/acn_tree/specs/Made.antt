@@ -83,7 +83,7 @@ abbrev mutual
   -- an inserted field draws nothing
   pub fields_made : Fields → ℕ → Drawn Places
   fields_made no_fields s = record { value = no_places; state = s }
-  fields_made (component name g p default fs) s =
+  fields_made (component name g p default own fs) s =
       after (presence p s) (λ there t. if there then after (made g t) (λ d u. is (filled d) (fields_made fs u)) else is empty (fields_made fs t))
   fields_made (inserted name g slot fs) s = fields_made fs s
 

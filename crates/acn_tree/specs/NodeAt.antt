@@ -5,14 +5,14 @@ use Rattle.acn_grammar.specs.View.{OneField, a_component, an_inserted}
 use Rattle.acn_grammar.specs.Grammar.{Grammar, Form, Fields, Alternatives, node, seq, list, choice, contained, no_fields, component, inserted, no_alternatives, alternative}
 
 abbrev pub grammar_in : OneField → Grammar
-grammar_in (a_component name g presence default) = g
+grammar_in (a_component name g presence default own) = g
 grammar_in (an_inserted name g slot) = g
 
 -- the node of the field of this number
 abbrev pub field_at : Fields → ℕ → Option Grammar
 field_at no_fields k = None
-field_at (component name g presence default fs) zero = Some g
-field_at (component name g presence default fs) (suc k) = field_at fs k
+field_at (component name g presence default own fs) zero = Some g
+field_at (component name g presence default own fs) (suc k) = field_at fs k
 field_at (inserted name g slot fs) zero = Some g
 field_at (inserted name g slot fs) (suc k) = field_at fs k
 

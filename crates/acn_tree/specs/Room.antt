@@ -19,7 +19,7 @@ SizesAreSmall sizing = (n : ℕ) → In sizing.sizes (pos n) → n ≤ 65536
 
 abbrev pub field_count : Fields → ℕ
 field_count no_fields = 0
-field_count (component name g presence default fs) = suc (field_count fs)
+field_count (component name g presence default own fs) = suc (field_count fs)
 field_count (inserted name g slot fs) = suc (field_count fs)
 
 abbrev mutual
@@ -36,7 +36,7 @@ abbrev mutual
 
   pub FieldsHaveRoom : ℕ → Fields → Type 0
   FieldsHaveRoom k no_fields = Unit {0}
-  FieldsHaveRoom k (component name g presence default fs) = HasRoom k g × FieldsHaveRoom k fs
+  FieldsHaveRoom k (component name g presence default own fs) = HasRoom k g × FieldsHaveRoom k fs
   FieldsHaveRoom k (inserted name g slot fs) = HasRoom k g × FieldsHaveRoom k fs
 
   pub AlternativesHaveRoom : ℕ → Alternatives → Type 0

@@ -1,8 +1,8 @@
 ghost use Rattle.std.specs.Prelude.{◌≡◌, ◌^◌, ◌<◌, ◌≤◌, IsTrue};
-ghost use Rattle.acn_grammar.specs.Interval.{span, form_span, num_span, text_span, component_span, field_span, fields_span, alternatives_span, end_width, exactly as just, plus as sum_of, times as product_of, hull as hull_of, hold as held, optional as perhaps, in_octets as whole_octets, size_of, sizes_of, from_one_octet as counted_from_one, code_lengths as lengths_of_codes};
+ghost use Rattle.acn_grammar.specs.Interval.{span, form_span, num_span, text_span, component_span, field_span, fields_span, alternatives_span, end_width, list_around, exactly as just, plus as sum_of, times as product_of, hull as hull_of, hold as held, optional as perhaps, in_octets as whole_octets, size_of, sizes_of, from_one_octet as counted_from_one, code_lengths as lengths_of_codes};
 ghost use Rattle.acn_tree.specs.KeptLeaves.{NumbersKept, FormKept, FieldKept, FieldsKept, AlternativesKept};
 ghost use Rattle.acn_grammar.specs.Leaves.{num_fine};
-ghost use Rattle.acn_grammar.specs.Length.{rule_width, index_width};
+ghost use Rattle.acn_grammar.specs.Length.{rule_width, ending, index_width};
 ghost use Rattle.acn_grammar.specs.View.{grammar_of, form_of, field_of, fields_view, alternatives_view};
 
 use crate::tree::Tree;
@@ -104,9 +104,21 @@ fn size_width(sizing: &Sizing) -> u64
     ensures value { result ≡ rule_width sizing.now.rule }
     ensures small { result < 2 ^ 32 }
 {
-    match sizing.rule {
-        SizeRule::Prefix { width, .. } => u64::from(width),
+    match &sizing.rule {
+        SizeRule::Prefix { width, .. } => u64::from(*width),
         SizeRule::Slot(_) => 0,
+        SizeRule::Ended(_) => 0,
+    }
+}
+
+// A list has a size in front or a pattern behind.
+fn list_width(sizing: &Sizing) -> u64
+    ensures { result ≡ list_around (ending sizing.now.rule) sizing.now }
+{
+    match &sizing.rule {
+        SizeRule::Prefix { width, .. } => u64::from(*width),
+        SizeRule::Slot(_) => 0,
+        SizeRule::Ended(pattern) => pattern.bits().len() as u64,
     }
 }
 
@@ -215,7 +227,7 @@ fn body(body: &Body) -> Bounds
         Body::List(sizing, element) => {
             let each = node_bounds(element.get());
             plus(
-                exactly(size_width(sizing)),
+                exactly(list_width(sizing)),
                 times(sizes(&sizing.sizes), each),
             )
         }

@@ -84,6 +84,7 @@ pub fn component(
         node,
         presence,
         default: None,
+        slot: None,
     })
 }
 

@@ -16,6 +16,9 @@ returns-in-Ok-clause-lengths c =
     let root = grammar_of c.args.tree.root in
     lengths root c.args.tree.formed c.widths_are_lengths.ensures c.no_fault_without_a_first.ensures (sound root c.args.tree.formed c.widths_are_lengths.ensures c.in-Ok.ensures) c.bounds_hold.ensures
 
+pub returns-in-Ok-clause-nodes : goal.returns-in-Ok-clause-nodes
+returns-in-Ok-clause-nodes c = c.accepted_is_sound.ensures (grammar_of c.args.tree.root) (accepted (grammar_of c.args.tree.root) c.args.tree.formed c.widths_are_lengths.ensures c.in-Ok.ensures)
+
 pub returns-in-Ok-clause-known : goal.returns-in-Ok-clause-known
 returns-in-Ok-clause-known c = c.accepted_is_scoped.ensures (grammar_of c.args.tree.root) (accepted (grammar_of c.args.tree.root) c.args.tree.formed c.widths_are_lengths.ensures c.in-Ok.ensures)
 

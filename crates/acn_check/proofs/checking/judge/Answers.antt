@@ -3,11 +3,12 @@ use Rattle.std.specs.List.{list_all}
 use Rattle.std.proofs.lemmas.Result.{err_from_is_err_and}
 use Rattle.acn_grammar.specs.Leaves.{num_fine}
 use Rattle.acn_grammar.specs.View.{grammar_of}
-use Rattle.acn_check.specs.Facts.{facts_of, Fit}
-use Rattle.acn_check.specs.First.{Det, dets}
+use Rattle.acn_check.specs.Facts.{Facts, facts_of, Fit}
+use Rattle.acn_check.specs.First.{Det, dets, leads_fine}
 use Rattle.acn_check.specs.Program.{det_of, tally_of, FewCases}
 use Rattle.acn_check.proofs.Answering.{told_unreadable, told_dubious, told_beyond}
 use Rattle.acn_check.proofs.Flat.{length-map}
+use Rattle.acn_check.proofs.KindEnds.{leads_are_fine}
 use Rattle.acn_check.proofs.TreeFits.{lines_fit, few_cases, leaves_fine}
 use Rattle.acn_check.proofs.checking.judge.Goals as goal
 
@@ -34,8 +35,11 @@ returns-in_err-is_clear c =
     (told_dubious (grammar_of c.args.tree.now.root) (map facts_of c.args.lines.now) c.requires.lines (map det_of c.args.dets.now) c.requires.dets (map tally_of c.args.tallies.now) (length c.args.dets.now) (sym (length-map det_of c.args.dets.now)) c.requires.tallies
     c.in_err-is_clear.field-0.0 c.in_ok-can_be_read.ensures c.in_err-is_clear.ensures)
 
-pub is_within_limits-requires : goal.is_within_limits-requires
-is_within_limits-requires c = subst Fit (sym c.requires.lines) (lines_fit (grammar_of c.args.tree.now.root) c.requires.formed)
+pub is_within_limits-requires-clause-leads : goal.is_within_limits-requires-clause-leads
+is_within_limits-requires-clause-leads c = subst (λ (l : Rattle.std.proofs.Common.List Facts). list_all leads_fine l ≡ true) (sym c.requires.lines) (leads_are_fine (grammar_of c.args.tree.now.root) c.requires.formed)
+
+pub is_within_limits-requires-clause-fit : goal.is_within_limits-requires-clause-fit
+is_within_limits-requires-clause-fit c = subst Fit (sym c.requires.lines) (lines_fit (grammar_of c.args.tree.now.root) c.requires.formed)
 
 pub returns : goal.returns
 returns c =

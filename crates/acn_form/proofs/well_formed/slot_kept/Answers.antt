@@ -1,4 +1,4 @@
-use Rattle.std.proofs.Common.{ap, ◌∙◌, ℕ, false}
+use Rattle.std.proofs.Common.{ap, ◌∙◌, ℕ, true, false}
 use Rattle.acn_form.specs.Seen.{seen, slot_kept}
 use Rattle.acn_grammar.specs.View.{grammar_of}
 use Rattle.acn_form.specs.declared.homes.Seen.{Seen}
@@ -9,4 +9,4 @@ unfolding slot_kept
 returns c =
     let g = grammar_of c.args.root.now in
     let e = ap (λ (r : Seen). r.about) c.look-all.ensures in
-    ap (λ (r : Seen). r.fine) c.look-seen.ensures ∙ ap (λ (n : ℕ). (seen c.args.slot n false false false g).fine) e
+    ap (λ (r : Seen). r.fine) c.look-seen.ensures ∙ ap (λ (n : ℕ). (seen c.args.slot n false false false true g).fine) e

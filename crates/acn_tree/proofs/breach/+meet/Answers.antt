@@ -42,7 +42,7 @@ pub fields_meet-returns-in_err-place_meets-in-Component-clause-answer :
     goal.fields_meet-returns-in_err-place_meets-in-Component-clause-answer
 fields_meet-returns-in_err-place_meets-in-Component-clause-answer t c =
     let l = c.loop-field in
-    let there = component-here c.args.path.now l.path c.args.fields.now c.args.places.now l.step l.field-index l.at c.field-item.result _ c.in-Component.node _ _ c.index-places-at.result _ c.loop-field-test.true (omega arith) c.field-item.is c.index-places-at.is c.in-Component.is l.invariant.path l.invariant.step c.in_err-place_meets-in-Component.ensures.answer ∙ l.invariant.same in
+    let there = component-here c.args.path.now l.path c.args.fields.now c.args.places.now l.step l.field-index l.at c.field-item.result _ c.in-Component.node _ _ _ c.index-places-at.result _ c.loop-field-test.true (omega arith) c.field-item.is c.index-places-at.is c.in-Component.is l.invariant.path l.invariant.step c.in_err-place_meets-in-Component.ensures.answer ∙ l.invariant.same in
     grind (arith, common_steps)
 
 pub fields_meet-loop-field-preserved : goal.fields_meet-loop-field-preserved
@@ -55,7 +55,7 @@ fields_meet-loop-field-preserved t c =
         path = w.path-is ∙ (w.in_ok-place_meets-in-Component.ensures.back ∙ l.invariant.path);
         within = omega arith;
         room = rest;
-        same = rw w.at-is (component-later c.args.path.now l.path c.args.fields.now c.args.places.now l.step l.field-index l.at c.field-item.result _ w.in-Component.node _ _ w.index-places-at.result c.loop-field-test.true (omega arith) c.field-item.is w.index-places-at.is w.in-Component.is l.invariant.path l.invariant.step w.in_ok-place_meets-in-Component.ensures.answer ∙ l.invariant.same);
+        same = rw w.at-is (component-later c.args.path.now l.path c.args.fields.now c.args.places.now l.step l.field-index l.at c.field-item.result _ w.in-Component.node _ _ _ w.index-places-at.result c.loop-field-test.true (omega arith) c.field-item.is w.index-places-at.is w.in-Component.is l.invariant.path l.invariant.step w.in_ok-place_meets-in-Component.ensures.answer ∙ l.invariant.same);
       }
       | fields_meet-in-Inserted w ↦ record {
         step = omega arith;

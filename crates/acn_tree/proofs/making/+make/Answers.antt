@@ -94,13 +94,13 @@ make_places-loop-field-preserved t c =
     elim c.match-field.branch [
       | make_places-in-Component+in_ok-make_place-in-Component+in_ok-push-in-Component w ↦
           let v = w.in_ok-make_place-in-Component in
-          let is = from ∙ ap (λ one. with_field one rest) (ap field_of w.in-Component.is ∙ view_component _ _ _ _) in
+          let is = from ∙ ap (λ one. with_field one rest) (ap field_of w.in-Component.is ∙ view_component _ _ _ _ _) in
           record {
             can = can_turn (field_of f) _ rest from l.invariant.can;
             named = named_turn (field_of f) _ rest from l.invariant.named;
             value = ap (λ ds. ds ++ (places_made rest c.match-field.draw).value) (ap (map (option_map data_of)) (w.places-is ∙ w.in_ok-push-in-Component.ensures.ok) ∙ map-append (option_map data_of) l.places (v.field-0 ∷ []))
-                ∙ component_turn _ rest _ _ _ _ l.draw c.match-field.draw (option_map data_of v.field-0) (map (option_map data_of) l.places) _ is v.ensures.value (w.draw-is ∙ v.ensures.draw) l.invariant.value;
-            state = component_goes_on _ rest _ _ _ _ l.draw c.match-field.draw _ is (w.draw-is ∙ v.ensures.draw) l.invariant.state;
+                ∙ component_turn _ rest _ _ _ _ _ l.draw c.match-field.draw (option_map data_of v.field-0) (map (option_map data_of) l.places) _ is v.ensures.value (w.draw-is ∙ v.ensures.draw) l.invariant.value;
+            state = component_goes_on _ rest _ _ _ _ _ l.draw c.match-field.draw _ is (w.draw-is ∙ v.ensures.draw) l.invariant.state;
           }
       | make_places-in-Inserted w ↦
           let is = from ∙ ap (λ one. with_field one rest) (ap field_of w.in-Inserted.is ∙ view_inserted _ _ _) in

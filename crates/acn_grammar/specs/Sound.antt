@@ -1,0 +1,82 @@
+-- What an accepted tree keeps at each of its nodes: all that a reader, a writer or a compiled plan needs of it, by recursion. (This profile's own.)
+use Rattle.std.specs.Prelude.{◌≡◌, ℕ, zero, suc, ◌+◌, ◌≤◌, true, List, ◌++◌, length, map, Contains, Option, Some, None, IsTrue}
+use Rattle.acn_grammar.specs.Check.{HasWidth, conditions_of}
+use Rattle.acn_grammar.specs.Grammar.{Grammar, Form, Fields, Alternatives, node, num, octets, bits, text, seq, list, choice, contained, no_fields, component, inserted, no_alternatives, alternative}
+use Rattle.acn_grammar.specs.Leaves.{num_fine, text_fine, sizing_fine, list_fine}
+use Rattle.acn_grammar.specs.Length.{ending}
+use Rattle.acn_grammar.specs.Scoped.{Known, with_slot, with_own, TestsIn, RuleIn, EndTold, Apart, after, choose_known, tests_at, NoOverlap}
+use Rattle.acn_grammar.specs.Slots.{items_of, slot_leaf}
+use Rattle.acn_grammar.specs.Tree.{is_align, choice_fine, holds}
+use Rattle.acn_grammar.specs.declared.node.Presence.{Presence}
+use Rattle.acn_grammar.specs.declared.node.Presence.TheVariants.{Always, Bit, When}
+use Rattle.acn_grammar.specs.declared.node.ChoiceRule.{ChoiceRule}
+use Rattle.acn_grammar.specs.declared.node.ChoiceRule.TheVariants.{Index, Tests, Item}
+
+abbrev pub field_count : Fields → ℕ
+field_count no_fields = zero
+field_count (component name g presence default own fs) = suc (field_count fs)
+field_count (inserted name g slot fs) = suc (field_count fs)
+
+-- a component has at most one condition, on a slot that is known
+abbrev pub PresenceSound : Known → Presence → Type 0
+PresenceSound ks Always = Unit {0}
+PresenceSound ks Bit = Unit {0}
+PresenceSound ks (When ts) = (length ts ≡ 1) × TestsIn ks ts
+
+-- behind the node the same slots are known as before it: it holds the field of no slot of an outer home
+abbrev pub NothingLeaves : Known → Grammar → Type 0
+NothingLeaves ks g = (s : ℕ) → after ks g s ≡ ks s
+
+-- nothing leaves a component that may be absent
+abbrev pub NothingLeavesIt : Presence → Known → Grammar → Type 0
+NothingLeavesIt Always ks g = Unit {0}
+NothingLeavesIt Bit ks g = NothingLeaves ks g
+NothingLeavesIt (When ts) ks g = NothingLeaves ks g
+
+-- all codes of the number have one length of at most 64 bits
+abbrev pub OneWidth : Grammar → Type 0
+OneWidth (node align (num leaf)) = (w : ℕ) × HasWidth leaf w × (w ≤ 64)
+OneWidth _ = ⊥
+
+module _ (root : Grammar) where
+  -- the node is the number whose set permits the slot's numbers, and the slot is at home round it
+  abbrev pub SaysSlot : (around : List ℕ) → ℕ → Grammar → Type 0
+  SaysSlot around s (node align (num leaf)) = (holds around s ≡ true) × (slot_leaf root s ≡ Some leaf)
+  SaysSlot around s _ = ⊥
+
+  -- a component whose number is a slot's is always there
+  abbrev pub OwnSound : (around : List ℕ) → Option ℕ → Presence → Grammar → Type 0
+  OwnSound around None presence g = Unit {0}
+  OwnSound around (Some s) presence g = (presence ≡ Always) × SaysSlot around s g
+
+  -- what chooses is known and chooses one alternative, and each has an item
+  abbrev pub RuleSound : Known → Alternatives → ChoiceRule → Type 0
+  RuleSound ks cases (Index width) = Unit {0}
+  RuleSound ks cases Tests = ((i : ℕ) → TestsIn ks (tests_at cases i)) × NoOverlap root cases
+  RuleSound ks cases (Item s) = (ks s ≡ true) × ((name : List ℕ) → Contains (map (λ c. c.0) (conditions_of cases)) name → Contains (map (λ e. e.0) (items_of root s)) name)
+
+  -- A node at a path of k steps, round which the slots of a list are at home, and some of them known.
+  abbrev mutual
+    pub Sound : (k : ℕ) → (around : List ℕ) → Known → Grammar → Type 0
+    Sound k around ks (node align form) = IsTrue (is_align align) × (k ≤ 64) × FormSound k around ks form
+
+    pub FormSound : (k : ℕ) → (around : List ℕ) → Known → Form → Type 0
+    FormSound k around ks (num leaf) = IsTrue (num_fine leaf)
+    FormSound k around ks (octets sizing) = IsTrue (sizing_fine sizing) × RuleIn ks sizing.rule
+    FormSound k around ks (bits sizing) = IsTrue (sizing_fine sizing) × RuleIn ks sizing.rule
+    FormSound k around ks (text leaf) = IsTrue (text_fine leaf) × RuleIn ks leaf.sized.rule
+    FormSound k around ks (seq fields home) = (field_count fields ≤ 65536) × (length home + length around ≤ 256) × Apart ks home × FieldsSound (suc k) (home ++ around) ks fields
+    FormSound k around ks (list sizing g) = IsTrue (list_fine sizing) × RuleIn ks sizing.rule × EndTold (ending sizing.rule) sizing.sizes g × NothingLeaves ks g × Sound (suc k) around ks g
+    FormSound k around ks (choice cases rule) = IsTrue (choice_fine (conditions_of cases) rule) × RuleSound ks cases rule × AlternativesSound (suc k) around ks cases
+    FormSound k around ks (contained sizing g) = IsTrue (sizing_fine sizing) × RuleIn ks sizing.rule × NothingLeaves ks g × Sound (suc k) around ks g
+
+    pub FieldsSound : (k : ℕ) → (around : List ℕ) → Known → Fields → Type 0
+    FieldsSound k around ks no_fields = Unit {0}
+    FieldsSound k around ks (component name g presence default own fs) =
+        PresenceSound ks presence × OwnSound around own presence g × NothingLeavesIt presence ks g × Sound k around ks g × FieldsSound k around (choose_known presence ks (with_own own (after ks g))) fs
+    FieldsSound k around ks (inserted name g (Some s) fs) = SaysSlot around s g × OneWidth g × Sound k around ks g × FieldsSound k around (with_slot s ks) fs
+    FieldsSound k around ks (inserted name g None fs) = Sound k around ks g × FieldsSound k around ks fs
+
+    pub AlternativesSound : (k : ℕ) → (around : List ℕ) → Known → Alternatives → Type 0
+    AlternativesSound k around ks no_alternatives = Unit {0}
+    AlternativesSound k around ks (alternative name g tests more) = NothingLeaves ks g × Sound k around ks g × AlternativesSound k around ks more
