@@ -1,25 +1,26 @@
 ghost use Rattle.std.specs.Prelude.{◌≡◌, ◌<◌, [], ◌∷◌, ◌++◌, length, MatchOption};
+ghost use Rattle.acn_num.specs.declared.limits.TheConstants.{MOST_STEPS};
 
+use crate::limits::MOST_STEPS;
 use arrayvec::ArrayVec;
 use std::marker::Model;
 
-/// The greatest number of steps of a path.
-pub const MOST_STEPS: usize = 64;
-
-/// A path of child numbers from the root of a tree, which contracts see as the list of its steps, at most 64.
+/// A path of child numbers from the root of a tree, which contracts see as the list of its steps, at most
+/// `MOST_STEPS`.
 #[derive(Debug, Drop)]
 pub struct Path {
-    steps: ArrayVec<u32, 64>,
+    steps: ArrayVec<u32, MOST_STEPS>,
 }
 
 impl Model for Path {
     ghost use Rattle.std.specs.Prelude.{List, ℕ, length, ◌≤◌};
+    ghost use Rattle.acn_num.specs.declared.limits.TheConstants.{MOST_STEPS};
 
     ghost Value = { List ℕ };
 
     ghost view = { λ path. path.steps.items };
 
-    ghost invariant = { λ path. length path.steps.items ≤ 64 };
+    ghost invariant = { λ path. length path.steps.items ≤ MOST_STEPS };
 }
 
 impl Path {
@@ -34,7 +35,7 @@ impl Path {
 
     /// Adds a step at the end.
     pub fn push(&mut self, step: u32)
-        requires { length self.old < 64 }
+        requires { length self.old < MOST_STEPS }
         ensures { self.new ≡ self.old ++ step ∷ [] }
     {
         self.steps.push(step);

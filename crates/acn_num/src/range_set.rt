@@ -6,12 +6,10 @@ ghost use Rattle.acn_num.specs.Meeting.{reaching_from, clip_until};
 ghost use Rattle.acn_num.specs.Ranges.{has, AreRanges, IsRange, some_range, outside_from, size_of, count, nth, among, IsUnion, IsMeet, IsExcept, IsLeastExcept, SameNumbersSameSet, EachHasAPlace, NumbersRise, bottom, top, outside, meet, union, except, least, greatest};
 
 use crate::NoMemory;
+use crate::limits::{BOTTOM, TOP};
+use crate::whole::{greater, less};
 use std::alloc::Global;
 use std::marker::Model;
-
-const BOTTOM: i128 = -9223372036854775809;
-
-const TOP: i128 = 18446744073709551616;
 
 /// A set of whole numbers from `-2^63 - 1` to `2^64`, which contracts see as its ranges in ascending order.
 #[derive(Debug, Drop)]
@@ -71,10 +69,7 @@ impl RangeSet {
     pub fn least(&self) -> Option<i128>
         ensures { result ≡ least self.now }
     {
-        match self.ranges.first() {
-            Some(range) => Some(range.0),
-            None => None,
-        }
+        self.ranges.first().map(|range| range.0)
     }
 
     /// The greatest number, where there is one.
@@ -97,6 +92,13 @@ impl RangeSet {
             }
         }
         false
+    }
+
+    /// Whether the set holds this natural number.
+    pub fn holds_natural(&self, n: u64) -> bool
+        ensures { result ≡ has self.now (pos n) }
+    {
+        self.holds(i128::from(n))
     }
 
     // The numbers between the ends that aren't in the set.
@@ -273,18 +275,6 @@ fn add_gap(ranges: &mut Vec<(i128, i128)>, below: &i128, above: &i128) -> Result
     ensures { OnOk result (ranges.new.items ≡ ranges.old.items ++ spec.gap below.now above.now) }
 {
     add(ranges, &(*below + 1), &(*above - 1))
-}
-
-fn greater<'a>(a: &'a i128, b: &'a i128) -> &'a i128
-    ensures { result.now ≡ int_max a.now b.now }
-{
-    if *b < *a { a } else { b }
-}
-
-fn less<'a>(a: &'a i128, b: &'a i128) -> &'a i128
-    ensures { result.now ≡ int_min a.now b.now }
-{
-    if *b < *a { b } else { a }
 }
 
 // Whether the first range begins behind the second.
