@@ -29,8 +29,8 @@ use Rattle.acn_grammar.proofs.FineLeaves.{rules_of, no_values}
 use Rattle.acn_grammar.proofs.LeafLengths.{le_fact, lt_fact, eq_fact}
 use Rattle.acn_grammar.proofs.Texts.{either}
 use Rattle.acn_grammar.proofs.Within.{image_has}
-use Rattle.acn_laws.proofs.Codes.{each_number_has_a_code, set_ordered}
-use Rattle.acn_laws.proofs.HasImage.{Ordered}
+use Rattle.acn_packet_laws.proofs.Codes.{each_number_has_a_code, set_ordered}
+use Rattle.acn_packet_laws.proofs.HasImage.{Ordered}
 use Rattle.acn_check.specs.First.{hits, turned, begins, begins_by, can_begin}
 use Rattle.acn_check.proofs.Assembly.{some_inj}
 

@@ -10,7 +10,7 @@ use Rattle.acn_grammar.specs.declared.node.Body.{Body, Choice as Choice_body, th
 use Rattle.acn_grammar.specs.declared.node.Test.{Test}
 use Rattle.acn_grammar.specs.declared.node.Choice.{Choice, out-Choice}
 use Rattle.acn_grammar.specs.Grammar.{choice}
-use Rattle.acn_form.proofs.AlternativeRows.{alternatives_counted}
+use Rattle.acn_well_formed.proofs.AlternativeRows.{alternatives_counted}
 use Rattle.acn_check.specs.First.{Det, Told, against, pairs}
 use Rattle.acn_check.specs.Program.{cases_of, few_in}
 use Rattle.acn_check.proofs.Telling.{told_first}

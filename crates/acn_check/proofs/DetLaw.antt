@@ -12,7 +12,7 @@ use Rattle.acn_grammar.specs.Walk.{Stand, Role, a_component, an_inserted, an_alt
 use Rattle.acn_grammar.specs.declared.node.NumLeaf.{NumLeaf}
 use Rattle.acn_grammar.specs.declared.node.Presence.{Presence}
 use Rattle.acn_grammar.proofs.Codings.{both_are, equal_numbers}
-use Rattle.acn_laws.proofs.Placed.{field_number, is_number, tree_numbered, tree_rules}
+use Rattle.acn_packet_laws.proofs.Placed.{field_number, is_number, tree_numbered, tree_rules}
 use Rattle.acn_grammar.proofs.TreeRules.{stand_fine}
 use Rattle.acn_check.specs.Facts.{seen}
 use Rattle.acn_check.specs.First.{Det, leaf_in, dets}

@@ -11,7 +11,7 @@ use Rattle.acn_grammar.specs.declared.node.ChoiceRule.{ChoiceRule}
 use Rattle.acn_grammar.specs.declared.node.ChoiceRule.TheVariants.{Index, Tests, Item}
 use Rattle.acn_grammar.specs.declared.node.Test.{Test}
 use Rattle.acn_grammar.proofs.Codings.{both_are}
-use Rattle.acn_laws.proofs.Placed.{or_left, or_right}
+use Rattle.acn_packet_laws.proofs.Placed.{or_left, or_right}
 use Rattle.acn_grammar.proofs.Texts.{either}
 use Rattle.acn_check.specs.Facts.{seen, is_component, tag_of}
 use Rattle.acn_check.specs.First.{unclear, mixed_in, mixed_at, by_item, much_open}

@@ -6,7 +6,7 @@ use Rattle.std.proofs.lemmas.Bool.Decides.{nat_tests}
 use Rattle.acn_grammar.specs.Check.{CheckFault, det_width, unused, too_many_conditions, Evidence, NodeAt, HasWidth, equals_on, number_of_fault}
 use Rattle.acn_grammar.specs.Grammar.{Grammar}
 use Rattle.acn_grammar.specs.Interval.{width_of}
-use Rattle.acn_laws.specs.Laws.{WidthsAreLengths}
+use Rattle.acn_packet_laws.specs.Laws.{WidthsAreLengths}
 use Rattle.acn_grammar.specs.Leaves.{num_fine}
 use Rattle.acn_grammar.specs.Slots.{slot_leaf}
 use Rattle.acn_grammar.specs.Tree.{IsTree}

@@ -6,7 +6,7 @@ use Rattle.acn_grammar.specs.Check.{CheckFault, det_width, too_long, FirstFault,
 use Rattle.acn_grammar.specs.Faults.{check_fault_of}
 use Rattle.acn_grammar.specs.Grammar.{Grammar}
 use Rattle.acn_grammar.specs.Interval.{span, width_of}
-use Rattle.acn_laws.specs.Laws.{IsAccepted, NoFaultWithoutAFirst, WidthsAreLengths, BoundsHold}
+use Rattle.acn_packet_laws.specs.Laws.{IsAccepted, NoFaultWithoutAFirst, WidthsAreLengths, BoundsHold}
 use Rattle.acn_grammar.specs.Leaves.{num_fine}
 use Rattle.acn_grammar.specs.Tree.{IsTree}
 use Rattle.acn_grammar.specs.declared.check_fault.CheckFault as program

@@ -10,7 +10,7 @@ use Rattle.acn_grammar.specs.Tree.{holds}
 use Rattle.acn_grammar.specs.Walk.{Stand, Use, condition, item_of, size_of, slot_of, uses, nodes_of}
 use Rattle.acn_grammar.specs.declared.node.Test.TheVariants.{Flag, Equals}
 use Rattle.acn_grammar.proofs.Codings.{equal_numbers}
-use Rattle.acn_laws.proofs.Placed.{or_left, or_right}
+use Rattle.acn_packet_laws.proofs.Placed.{or_left, or_right}
 use Rattle.acn_grammar.proofs.Texts.{either}
 use Rattle.acn_check.specs.Facts.{seen}
 use Rattle.acn_check.specs.First.{Det, Tally, dets, is_equals, raised, tallied_at, tallied_one, tallied, no_tallies, uses_of}

@@ -9,7 +9,7 @@ use Rattle.acn_grammar.specs.Leaves.{num_fine}
 use Rattle.acn_grammar.specs.Tree.{IsTree, form_fine, is_home, home_fine, holds, near, same_numbers, slots_of, stand_rules, all_true}
 use Rattle.acn_grammar.specs.Walk.{Stand, nodes_of, presence_tests, slot_here}
 use Rattle.acn_grammar.proofs.Codings.{both_are}
-use Rattle.acn_laws.proofs.Placed.{same_name-is, tree_rules}
+use Rattle.acn_packet_laws.proofs.Placed.{same_name-is, tree_rules}
 use Rattle.acn_grammar.proofs.TreeRules.{stand_fine}
 use Rattle.std.specs.List.{cons_option}
 use Rattle.acn_check.specs.Facts.{Facts, Tag, Fit, fits, seen, plain, facts, form_facts, field_facts, alternative_facts}

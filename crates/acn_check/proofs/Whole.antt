@@ -5,7 +5,7 @@ use Rattle.std.proofs.lemmas.Bool.Decides.{nat_tests}
 use Rattle.acn_grammar.specs.Check.{CheckFault, too_long, too_many_values, Evidence, Before, FirstFault, number_of_fault}
 use Rattle.acn_grammar.specs.Grammar.{Grammar}
 use Rattle.acn_grammar.specs.Interval.{span, value_count}
-use Rattle.acn_laws.specs.Laws.{WidthsAreLengths}
+use Rattle.acn_packet_laws.specs.Laws.{WidthsAreLengths}
 use Rattle.acn_grammar.specs.Slots.{first_of_two}
 use Rattle.acn_grammar.specs.Tree.{IsTree}
 use Rattle.acn_check.specs.Checked.{HasNoFault}

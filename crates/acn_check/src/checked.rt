@@ -1,5 +1,5 @@
 ghost use Rattle.std.specs.Prelude.{◌≡◌};
-ghost use Rattle.acn_laws.specs.Laws.{IsAccepted};
+ghost use Rattle.acn_packet_laws.specs.Laws.{IsAccepted};
 ghost use Rattle.acn_grammar.specs.View.{grammar_of};
 ghost use Rattle.acn_check.specs.Checked.{HasNoFault};
 

@@ -1,6 +1,6 @@
 ghost use Rattle.std.specs.Prelude.{◌≡◌, ◌≤◌, length, true, map, IfOk, IfErr, MatchResult};
 ghost use Rattle.std.specs.List.{list_all, flat_map};
-ghost use Rattle.acn_laws.specs.Laws.{IsAccepted};
+ghost use Rattle.acn_packet_laws.specs.Laws.{IsAccepted};
 ghost use Rattle.acn_grammar.specs.Leaves.{num_fine};
 ghost use Rattle.acn_grammar.specs.Tree.{IsTree};
 ghost use Rattle.acn_grammar.specs.View.{grammar_of};
@@ -22,7 +22,7 @@ use crate::overlaps::none_overlap;
 use crate::places::{all_clear, few_open};
 use crate::slots::{all_have_few, all_have_width, all_used};
 use crate::tallies::{Tally, count_uses};
-use acn_laws::{
+use acn_packet_laws::{
     accepted_is_scoped, accepted_is_sound, bounds_hold, no_fault_without_a_first,
     packets_are_prefix_free, widths_are_lengths,
 };

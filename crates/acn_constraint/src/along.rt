@@ -5,8 +5,8 @@ ghost use Rattle.std.specs.List.{list_any};
 ghost use Rattle.std.specs.Option.{option_to_list};
 ghost use Rattle.acn_asn_syntax.specs.View.{base_view, constraint_view, set_view};
 ghost use Rattle.acn_asn_syntax.specs.Mirror.{by_set, by_size};
-ghost use Rattle.acn_names.specs.Chained.{chain_view, constraints_view};
-ghost use Rattle.acn_names.specs.Viewed.{world_view};
+ghost use Rattle.acn_world.specs.Chained.{chain_view, constraints_view};
+ghost use Rattle.acn_world.specs.Viewed.{world_view};
 ghost use Rattle.acn_constraint.specs.Constraints as spec;
 ghost use Rattle.acn_constraint.specs.Readings.{reading_of};
 
@@ -14,7 +14,7 @@ use crate::evaluate::{Place, Reading, set_in};
 use crate::low::{Names, set_low};
 use crate::sized::says_size;
 use acn_asn_syntax::{AsnBase, Constraint, Named, Set};
-use acn_names::{Chain, World};
+use acn_world::{Chain, World};
 use acn_num::{NoMemory, RangeSet, Row};
 use std::alloc::Global;
 

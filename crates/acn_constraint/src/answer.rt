@@ -1,8 +1,8 @@
 ghost use Rattle.std.specs.Prelude.{◌≡◌, IfOk, Ok};
-ghost use Rattle.acn_names.specs.Chained.{chain_view, constraints_view};
-ghost use Rattle.acn_names.specs.Viewed.{world_view};
+ghost use Rattle.acn_world.specs.Chained.{chain_view, constraints_view};
+ghost use Rattle.acn_world.specs.Viewed.{world_view};
 ghost use Rattle.acn_constraint.specs.Constraints as spec;
-ghost use Rattle.acn_elements.specs.Stands as stands;
+ghost use Rattle.acn_set_elements.specs.Stands as stands;
 ghost use Rattle.acn_constraint.specs.Views.{Answers, opened_of};
 
 use crate::ConstraintFault;
@@ -11,8 +11,8 @@ use crate::ends::{filled, opened, sized};
 use crate::evaluate::Reading;
 use crate::span::{BOTTOM, TOP};
 use acn_asn_syntax::Constraint;
-use acn_elements::{all_stand, named_of};
-use acn_names::{Chain, World};
+use acn_set_elements::{all_stand, named_of};
+use acn_world::{Chain, World};
 use acn_num::{NoMemory, RangeSet};
 use std::alloc::Global;
 

@@ -5,7 +5,7 @@
 ghost use Rattle.std.specs.Prelude.{◌≡◌, IfOk, map};
 ghost use Rattle.acn_asn_syntax.specs.View.{element_view, set_view, meet_view, part_view, meets_of, parts_of};
 ghost use Rattle.acn_mentions.specs.Mentioned.{seen_meet, seen_part};
-ghost use Rattle.acn_names.specs.Viewed.{world_view};
+ghost use Rattle.acn_world.specs.Viewed.{world_view};
 ghost use Rattle.acn_constraint.specs.Readings.{reading_of};
 ghost use Rattle.acn_constraint.specs.Sets as sets;
 ghost use Rattle.acn_constraint.specs.Each.{each_meet};
@@ -14,8 +14,8 @@ use crate::letters::letters;
 use crate::sized::element_says_size;
 use crate::span::{between, single};
 use acn_asn_syntax::{AsnRange, AsnValue, Element, Meet, Named, Part, Set};
-use acn_elements::{character_in, number_in, text_in};
-use acn_names::World;
+use acn_set_elements::{character_in, number_in, text_in};
+use acn_world::World;
 use acn_num::{NoMemory, RangeSet};
 use std::alloc::Global;
 

@@ -1,9 +1,9 @@
 ghost use Rattle.std.specs.Prelude.{◌≡◌, IfOk, pos};
 ghost use Rattle.acn_constraint.specs.Sets as sets;
-ghost use Rattle.acn_elements.specs.Written.{unquoted};
+ghost use Rattle.acn_set_elements.specs.Written.{unquoted};
 
 use crate::span::single;
-use acn_elements::next_character;
+use acn_set_elements::next_character;
 use acn_num::{NoMemory, RangeSet};
 use std::alloc::Global;
 

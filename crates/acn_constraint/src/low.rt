@@ -3,12 +3,12 @@
 ghost use Rattle.std.specs.Prelude.{◌≡◌, map, negsuc, int_lt};
 ghost use Rattle.acn_asn_syntax.specs.View.{constraint_view, element_view, set_view, meet_view, part_view, meets_of, parts_of};
 ghost use Rattle.acn_mentions.specs.Mentioned.{seen_meet, seen_part};
-ghost use Rattle.acn_names.specs.Viewed.{world_view};
+ghost use Rattle.acn_world.specs.Viewed.{world_view};
 ghost use Rattle.acn_constraint.specs.Constraints as spec;
 
 use acn_asn_syntax::{AsnValue, Constraint, Element, Meet, Named, Part, Set};
-use acn_elements::number_in;
-use acn_names::World;
+use acn_set_elements::number_in;
+use acn_world::World;
 
 /// Where numbers are read, with the names that stand for numbers.
 #[derive(Clone, Copy, Debug)]

@@ -2,7 +2,7 @@
 
 use acn_asn_syntax::AsnValue;
 use acn_constraint::{ConstraintFault, OpenSet, alphabet_of, range_of, size_of};
-use acn_names::{Chain, World};
+use acn_world::{Chain, World};
 use acn_num::RangeSet;
 use acn_source_texts::{Trouble, world_of_module};
 use std::alloc::Global;

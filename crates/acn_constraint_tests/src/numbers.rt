@@ -2,7 +2,7 @@
 
 use crate::measuring::{chain_of_t, numbers, numbers_of_t, world_with_t};
 use acn_constraint::range_of;
-use acn_names::World;
+use acn_world::World;
 use acn_num::RangeSet;
 use acn_source_texts::{Trouble, world_of, world_of_module};
 use std::alloc::Global;

@@ -2,7 +2,7 @@
 use Rattle.std.proofs.Common.{◌≡◌, ℕ, zero, suc, ◌+◌, ◌<◌, Bool, true, false, List, [], ◌∷◌, ◌++◌, length, get_or, take, drop, map, refl, ap, arith, inl, inr, ◌⊎◌}
 use Rattle.std.specs.Prelude.{Option, Some, None, slice_get, filter_map, cond}
 use Rattle.std.specs.List.{position_from, cons_option}
-use Rattle.acn_names.specs.Cycles.{Within, here, there}
+use Rattle.acn_world.specs.Cycles.{Within, here, there}
 use Rattle.acn_graph.specs.Graph as graph
 
 pub nothing_within : {A : Type 0} {x : A} → Within x [] → ⊥

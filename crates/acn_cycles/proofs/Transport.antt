@@ -3,9 +3,9 @@ use Rattle.std.proofs.Common.{refl, ◌≡◌, ℕ, suc, ◌<◌, List, [], ◌�
 use Rattle.std.specs.Prelude.{IsSome, Option, Some, None, slice_get}
 use Rattle.std.specs.List.{cons_option}
 use Rattle.std.proofs.lemmas.List.{length-map}
-use Rattle.acn_names.specs.World.{World, places, assignment}
-use Rattle.acn_names.specs.Cycles.{Within, targets, Reaches, once, more, HasNoCycle, IsFirstCycle}
-use Rattle.acn_names.specs.declared.sources.TypeId.{TypeId}
+use Rattle.acn_world.specs.World.{World, places, assignment}
+use Rattle.acn_world.specs.Cycles.{Within, targets, Reaches, once, more, HasNoCycle, IsFirstCycle}
+use Rattle.acn_world.specs.declared.sources.TypeId.{TypeId}
 use Rattle.acn_graph.specs.Graph as graph
 use Rattle.acn_cycles.specs.Numbers.{starts, number_in, row_in, graph_of, places_at}
 use Rattle.acn_cycles.proofs.Lists.{got_row, row_got, among_map, map_among, split_at, within_front}

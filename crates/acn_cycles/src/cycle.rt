@@ -1,16 +1,16 @@
 ghost use Rattle.std.specs.Prelude.{◌≡◌, IfOk, IfSome, IsSome, MatchOption};
-ghost use Rattle.acn_names.specs.Views.{index_view};
-ghost use Rattle.acn_names.specs.World as world;
-ghost use Rattle.acn_names.specs.Cycles.{HasNoCycle, IsFirstCycle};
+ghost use Rattle.acn_world.specs.Views.{index_view};
+ghost use Rattle.acn_world.specs.World as world;
+ghost use Rattle.acn_world.specs.Cycles.{HasNoCycle, IsFirstCycle};
 ghost use Rattle.acn_graph.specs.Graph.{HasNoRing, IsFirstRing};
 ghost use Rattle.acn_cycles.specs.Numbers.{graph_of};
 
 use crate::numbers::{places_at, starts_of};
 use crate::rows::rows_in;
 use acn_graph::{Ring, first_ring};
-use acn_names::TypeId;
-use acn_names::index::Index;
-use acn_names::roots::places;
+use acn_world::TypeId;
+use acn_world::index::Index;
+use acn_world::roots::places;
 use acn_num::{NoMemory, Row};
 use std::alloc::Global;
 

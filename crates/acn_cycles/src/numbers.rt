@@ -3,7 +3,7 @@ ghost use Rattle.acn_asn_syntax.specs.View.{module_view};
 ghost use Rattle.acn_cycles.specs.Numbers as spec;
 
 use acn_asn_syntax::AsnModule;
-use acn_names::TypeId;
+use acn_world::TypeId;
 use acn_num::{NoMemory, Row};
 use std::alloc::Global;
 

@@ -1,11 +1,11 @@
 ghost use Rattle.std.specs.Prelude.{◌≡◌, IfOk};
-ghost use Rattle.acn_names.specs.Views.{index_view};
+ghost use Rattle.acn_world.specs.Views.{index_view};
 ghost use Rattle.acn_cycles.specs.Numbers as spec;
 
 use crate::numbers::numbers_in;
 use crate::targets::push_targets;
-use acn_names::TypeId;
-use acn_names::index::Index;
+use acn_world::TypeId;
+use acn_world::index::Index;
 use acn_num::{NoMemory, Row};
 use std::alloc::Global;
 

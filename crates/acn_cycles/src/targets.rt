@@ -1,15 +1,15 @@
 ghost use Rattle.std.specs.Prelude.{◌≡◌, ◌++◌, filter_map, OnOk};
 ghost use Rattle.acn_asn_syntax.specs.View.{assign_view};
-ghost use Rattle.acn_names.specs.Views.{index_view};
+ghost use Rattle.acn_world.specs.Views.{index_view};
 ghost use Rattle.acn_mentions.specs.Mentioned.{mention_view, mentions_view};
 ghost use Rattle.acn_mentions.specs.Mentions.{value_mentions};
-ghost use Rattle.acn_names.specs.Cycles as spec;
+ghost use Rattle.acn_world.specs.Cycles as spec;
 
 use acn_asn_syntax::{AsnValue, Assign};
 use acn_mentions::{Mention, push_type};
-use acn_names::TypeId;
-use acn_names::index::Index;
-use acn_names::references::{assignment, type_named, value_named};
+use acn_world::TypeId;
+use acn_world::index::Index;
+use acn_world::references::{assignment, type_named, value_named};
 use acn_num::NoMemory;
 use std::alloc::Global;
 
@@ -71,7 +71,7 @@ fn push_value_target(
 }
 
 // Adds those to which an assignment refers.
-#[tactic(auto, unfolding(acn_names::specs::Cycles::targets_of))]
+#[tactic(auto, unfolding(acn_world::specs::Cycles::targets_of))]
 fn push_item_targets(
     alloc: Global,
     index: &Index,
@@ -92,7 +92,7 @@ fn push_item_targets(
 }
 
 /// Adds those to which the assignment at a place refers.
-#[tactic(auto, unfolding(acn_names::specs::Cycles::targets))]
+#[tactic(auto, unfolding(acn_world::specs::Cycles::targets))]
 pub fn push_targets(
     alloc: Global,
     index: &Index,

@@ -1,15 +1,10 @@
--- Laws about the faults of names.
-use Rattle.acn_names.specs.World.{World}
-use Rattle.acn_names.specs.Cycles.{Within, targets, HasNoCycle}
-use Rattle.acn_names.specs.Faults.{IsFault, IsSound}
-use Rattle.acn_names.specs.declared.sources.TypeId.{TypeId}
-use Rattle.acn_names.specs.declared.fault.NameFault.{NameFault}
-use Rattle.std.specs.Prelude.{ℕ, ◌<◌}
+-- Laws about the values of a sound world.
+use Rattle.std.specs.Prelude.{◌≡◌, ℕ, is_some}
+use Rattle.acn_world.specs.World.{Name, World}
+use Rattle.acn_world.specs.Lookup.{value_named}
+use Rattle.acn_world.specs.Values.{value_of}
+use Rattle.acn_world.specs.Faults.{IsSound}
 
--- a world with a fault isn't sound
-abbrev pub NoFaultInASoundWorld : Type 0
-NoFaultInASoundWorld = (w : World) (f : NameFault) → IsFault w f → IsSound w → ⊥
-
--- where each assignment can be given a rank above those to which it refers, none reaches itself
-abbrev pub NoCycleAmongRanks : Type 0
-NoCycleAmongRanks = (w : World) (rank : TypeId → ℕ) → ((p q : TypeId) → Within q (targets w p) → rank q < rank p) → HasNoCycle w
+-- in a sound world an identifier leads to a value exactly where it names one
+abbrev pub EachNamedValueIsFound : Type 0
+EachNamedValueIsFound = (w : World) (k : ℕ) (name : Name) → IsSound w → is_some (value_of w k name) ≡ is_some (value_named w k name)

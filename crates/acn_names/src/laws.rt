@@ -1,11 +1,7 @@
-ghost use Rattle.acn_names.specs.Laws.{NoFaultInASoundWorld, NoCycleAmongRanks};
+ghost use Rattle.acn_names.specs.Laws.{EachNamedValueIsFound};
 
-/// A world with a fault isn't sound, so the answers of `resolve` exclude each other.
-pub fn no_fault_in_a_sound_world()
-    ensures { NoFaultInASoundWorld }
-{}
-
-/// Ranks that fall along each reference exclude cycles.
-pub fn no_cycle_among_ranks()
-    ensures { NoCycleAmongRanks }
+/// In a sound world references of values end, and at a value: an identifier leads to one exactly where it names one
+/// (X.680 clause 14).
+pub fn each_named_value_is_found()
+    ensures { EachNamedValueIsFound }
 {}

@@ -1,22 +1,19 @@
-//! What the names of ASN.1 modules, ACN modules and mapping tables lead to, and which name is at fault.
+//! Resolves the names of the sources: the index of what they say, and the first fault of a name.
 #![tactic(auto)]
 
-pub mod chain;
-mod chains;
-mod fault;
-pub mod index;
+mod early;
+mod few;
+mod gathering;
 mod laws;
-pub mod lookup;
-pub mod maps;
-pub mod references;
-pub mod referring;
-pub mod roots;
-mod sources;
-pub mod values;
-mod world;
+mod missing;
+mod resolving;
+mod unknown;
+mod unknown_acn;
+mod wrong;
 
-pub use chains::Chain;
-pub use fault::NameFault;
-pub use laws::{no_cycle_among_ranks, no_fault_in_a_sound_world};
-pub use sources::{Sources, TypeId};
-pub use world::World;
+pub use early::early_fault;
+pub use few::are_few;
+pub use gathering::gather;
+pub use laws::each_named_value_is_found;
+pub use resolving::resolve;
+pub use wrong::late_fault;

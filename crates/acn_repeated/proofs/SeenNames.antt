@@ -2,9 +2,9 @@
 use Rattle.std.proofs.Common.{◌≡◌, ℕ, List, [], ◌∷◌, ◌++◌, is_some, true, false, refl, ap, ◌∙◌, cond, Bool, Option, Some, None}
 use Rattle.std.specs.Prelude.{map, ◌||◌}
 use Rattle.std.specs.Str.{bytes_eq}
-use Rattle.acn_maps.specs.Placed.{place_of, noted, noted_all, noted_at}
-use Rattle.acn_names.specs.World.{Name}
-use Rattle.acn_names.specs.Repeated.{is_among}
+use Rattle.acn_firsts.specs.Placed.{place_of, noted, noted_all, noted_at}
+use Rattle.acn_world.specs.World.{Name}
+use Rattle.acn_world.specs.Repeated.{is_among}
 
 -- one name more
 pub noted_more : (es : List (Name × ℕ)) (names : List Name) (name : Name) → noted_at es (names ++ name ∷ []) 0 ≡ noted (noted_at es names 0) name 0

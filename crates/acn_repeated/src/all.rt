@@ -1,7 +1,7 @@
 ghost use Rattle.std.specs.Prelude.{◌≡◌, ◌++◌, map, OnOk};
-ghost use Rattle.acn_names.specs.Views.{index_view};
-ghost use Rattle.acn_names.specs.Repeated as repeated;
-ghost use Rattle.acn_names.specs.declared.fault.NameFault.TheVariants as fault;
+ghost use Rattle.acn_world.specs.Views.{index_view};
+ghost use Rattle.acn_world.specs.Repeated as repeated;
+ghost use Rattle.acn_world.specs.declared.fault.NameFault.TheVariants as fault;
 ghost use Rattle.acn_repeated.specs.Named.{names_view};
 ghost use Rattle.acn_repeated.specs.Blamed.{blames_view};
 
@@ -10,7 +10,7 @@ use crate::lists::push_twice_tables;
 use crate::seen::nothing_seen;
 use crate::{repeated, repeated_acn};
 use acn_acn_syntax::MapTable;
-use acn_names::index::Index;
+use acn_world::index::Index;
 use acn_num::{Name, NoMemory};
 use std::alloc::Global;
 
@@ -43,7 +43,7 @@ fn push_tables<'t>(
 }
 
 /// Adds the names that are given twice: those of ASN.1 files, of ACN files and of tables, each in the order of the text.
-#[tactic(auto, unfolding(acn_names::specs::Repeated::repeats))]
+#[tactic(auto, unfolding(acn_world::specs::Repeated::repeats))]
 pub fn push_repeats<'w>(
     alloc: Global,
     index: &'w Index,

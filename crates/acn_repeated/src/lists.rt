@@ -1,5 +1,5 @@
 ghost use Rattle.std.specs.Prelude.{◌≡◌, [], ◌∷◌, ◌++◌, map, flat_map, OnOk, IfOk};
-ghost use Rattle.acn_names.specs.Repeated as spec;
+ghost use Rattle.acn_world.specs.Repeated as spec;
 ghost use Rattle.acn_repeated.specs.Named.{names_view};
 
 use crate::seen::push_repeated;

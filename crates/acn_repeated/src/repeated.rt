@@ -1,7 +1,7 @@
 ghost use Rattle.std.specs.Prelude.{◌≡◌, [], ◌∷◌, ◌++◌, map, OnOk, IfOk};
 ghost use Rattle.acn_asn_syntax.specs.View.{assign_view, module_view, type_view};
-ghost use Rattle.acn_names.specs.World as world;
-ghost use Rattle.acn_names.specs.Repeated as spec;
+ghost use Rattle.acn_world.specs.World as world;
+ghost use Rattle.acn_world.specs.Repeated as spec;
 ghost use Rattle.acn_repeated.specs.Named.{names_view};
 ghost use Rattle.acn_repeated.specs.Blamed.{blames_view};
 
@@ -10,8 +10,8 @@ use crate::lists::push_imports;
 use crate::seen::{Seen, nothing_seen, push_again, push_repeated_behind, see};
 use crate::twice_types::push_twice;
 use acn_asn_syntax::{AsnModule, AsnType, Assign};
-use acn_names::lookup::imports_of;
-use acn_names::references::name_of;
+use acn_world::lookup::imports_of;
+use acn_world::references::name_of;
 use acn_num::{Name, NoMemory};
 use std::alloc::Global;
 
@@ -42,7 +42,7 @@ fn push_twice_assign<'t>(
 }
 
 // Adds what assignments give twice, behind the names that were seen.
-#[tactic(auto, unfolding(acn_names::specs::Repeated::twice_items))]
+#[tactic(auto, unfolding(acn_world::specs::Repeated::twice_items))]
 fn push_twice_assigns<'t>(
     alloc: Global,
     items: &'t [Assign],
@@ -58,7 +58,7 @@ fn push_twice_assigns<'t>(
 }
 
 // Adds what a module gives twice.
-#[tactic(auto, unfolding(acn_names::specs::Repeated::twice_module))]
+#[tactic(auto, unfolding(acn_world::specs::Repeated::twice_module))]
 fn push_twice_module<'t>(
     alloc: Global,
     owner: &'t AsnModule,
@@ -93,7 +93,7 @@ fn push_module<'t>(
 }
 
 /// Adds the faults of ASN.1 modules, behind the modules that were seen.
-#[tactic(auto, unfolding(acn_names::specs::Repeated::asn_repeats))]
+#[tactic(auto, unfolding(acn_world::specs::Repeated::asn_repeats))]
 pub fn push_modules<'t>(
     alloc: Global,
     modules: &'t [AsnModule],

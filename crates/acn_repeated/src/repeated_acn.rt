@@ -1,6 +1,6 @@
 ghost use Rattle.std.specs.Prelude.{◌≡◌, [], ◌∷◌, ◌++◌, map, OnOk, IfOk};
 ghost use Rattle.acn_acn_syntax.specs.View.{field_of, fields_view, braces_view, entry_of, module_of};
-ghost use Rattle.acn_names.specs.Repeated as spec;
+ghost use Rattle.acn_world.specs.Repeated as spec;
 ghost use Rattle.acn_repeated.specs.Named.{names_view};
 ghost use Rattle.acn_repeated.specs.Blamed.{blames_view};
 
@@ -13,7 +13,7 @@ use std::alloc::Global;
 
 // Adds what a field gives twice, and sees its name.
 #[cycle(fields)]
-#[tactic(auto, unfolding(acn_names::specs::Repeated::twice_field, acn_names::specs::Repeated::twice_braces, acn_names::specs::Repeated::twice_fields), using(acn_mentions::proofs::FieldViews::field_views))]
+#[tactic(auto, unfolding(acn_world::specs::Repeated::twice_field, acn_world::specs::Repeated::twice_braces, acn_world::specs::Repeated::twice_fields), using(acn_mentions::proofs::FieldViews::field_views))]
 fn push_twice_field<'t>(
     alloc: Global,
     field: &'t AcnField,
@@ -51,7 +51,7 @@ fn push_twice_field<'t>(
 
 // Adds what fields give twice, behind the names that were seen.
 #[cycle(fields)]
-#[tactic(auto, unfolding(acn_names::specs::Repeated::twice_field, acn_names::specs::Repeated::twice_braces, acn_names::specs::Repeated::twice_fields), using(acn_mentions::proofs::FieldViews::field_views))]
+#[tactic(auto, unfolding(acn_world::specs::Repeated::twice_field, acn_world::specs::Repeated::twice_braces, acn_world::specs::Repeated::twice_fields), using(acn_mentions::proofs::FieldViews::field_views))]
 fn push_twice_fields<'t>(
     alloc: Global,
     fields: &'t [AcnField],
@@ -67,7 +67,7 @@ fn push_twice_fields<'t>(
 }
 
 // Adds what braces give twice.
-#[tactic(auto, unfolding(acn_names::specs::Repeated::twice_braces))]
+#[tactic(auto, unfolding(acn_world::specs::Repeated::twice_braces))]
 fn push_twice_braces<'t>(
     alloc: Global,
     fields: &'t Option<Row<AcnField>>,
@@ -86,7 +86,7 @@ fn push_twice_braces<'t>(
 }
 
 // Adds what an entry gives twice, and sees its name.
-#[tactic(auto, unfolding(acn_names::specs::Repeated::twice_entry))]
+#[tactic(auto, unfolding(acn_world::specs::Repeated::twice_entry))]
 fn push_twice_entry<'t>(
     alloc: Global,
     entry: &'t AcnEntry,
@@ -104,7 +104,7 @@ fn push_twice_entry<'t>(
 }
 
 // Adds what entries give twice, behind the names that were seen.
-#[tactic(auto, unfolding(acn_names::specs::Repeated::twice_entries))]
+#[tactic(auto, unfolding(acn_world::specs::Repeated::twice_entries))]
 fn push_twice_entries<'t>(
     alloc: Global,
     entries: &'t [AcnEntry],
@@ -139,7 +139,7 @@ fn push_acn_module<'t>(
 }
 
 /// Adds the faults of ACN modules, behind the modules that were seen.
-#[tactic(auto, unfolding(acn_names::specs::Repeated::acn_repeats))]
+#[tactic(auto, unfolding(acn_world::specs::Repeated::acn_repeats))]
 pub fn push_acn_modules<'t>(
     alloc: Global,
     modules: &'t [AcnModule],

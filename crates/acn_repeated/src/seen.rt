@@ -1,8 +1,8 @@
 ghost use Rattle.std.specs.Prelude.{◌≡◌, [], ◌∷◌, ◌++◌, OnOk, OnErr};
-ghost use Rattle.acn_names.specs.Repeated as spec;
+ghost use Rattle.acn_world.specs.Repeated as spec;
 ghost use Rattle.acn_repeated.specs.Named.{names_view};
 
-use acn_maps::Firsts;
+use acn_firsts::Firsts;
 use acn_num::{Name, NoMemory};
 use std::alloc::Global;
 use std::marker::Model;
@@ -18,7 +18,7 @@ pub struct Seen<'t> {
 
 impl<'t> Model for Seen<'t> {
     ghost use Rattle.std.specs.Prelude.{◌≡◌, List, ℕ, []};
-    ghost use Rattle.acn_maps.specs.Placed.{noted_at};
+    ghost use Rattle.acn_firsts.specs.Placed.{noted_at};
     ghost use Rattle.acn_repeated.specs.Named.{names_view};
 
     ghost Value = { List (List ℕ) };
@@ -36,7 +36,7 @@ fn is_among(name: &[u8], seen: &Seen<'_>) -> bool
 }
 
 /// No names.
-#[tactic(auto, unfolding(acn_maps::specs::Placed::noted_all))]
+#[tactic(auto, unfolding(acn_firsts::specs::Placed::noted_all))]
 pub fn nothing_seen<'t>(alloc: Global) -> Seen<'t>
     ensures { result ≡ [] }
 {
@@ -77,7 +77,7 @@ pub fn push_again<'t>(
 }
 
 /// Adds the names that repeat one before them or one that was seen, and sees them.
-#[tactic(auto, unfolding(acn_names::specs::Repeated::repeated))]
+#[tactic(auto, unfolding(acn_world::specs::Repeated::repeated))]
 pub fn push_repeated_behind<'t>(
     names: &[&'t Name],
     seen: &mut Seen<'t>,

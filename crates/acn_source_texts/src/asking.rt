@@ -1,13 +1,13 @@
 //! The answers of `resolve` in words.
 
 ghost use Rattle.std.specs.Prelude.{IfOk, IsSome};
-ghost use Rattle.acn_names.specs.Viewed.{world_view};
-ghost use Rattle.acn_names.specs.World.{type_at};
+ghost use Rattle.acn_world.specs.Viewed.{world_view};
+ghost use Rattle.acn_world.specs.World.{type_at};
 
 use crate::reading::{Trouble, files, module};
-use acn_names::{NameFault, Sources, TypeId, World};
+use acn_world::{NameFault, Sources, TypeId, World};
 use acn_num::Name;
-use acn_resolve::resolve;
+use acn_names::resolve;
 use std::alloc::Global;
 
 // Adds a space and the bytes of a name.

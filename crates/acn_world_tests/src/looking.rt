@@ -1,7 +1,7 @@
 //! What a world answers about names.
 
 use acn_asn_syntax::{AsnBase, AsnType, AsnValue, Constraint, Element, Set};
-use acn_names::{TypeId, World};
+use acn_world::{TypeId, World};
 use acn_source_texts::{Trouble, place_of, world_of};
 use std::alloc::Global;
 

@@ -1,10 +1,10 @@
 //! Which types are roots.
 
 ghost use Rattle.std.specs.List.{All};
-ghost use Rattle.acn_names.specs.Viewed.{world_view};
-ghost use Rattle.acn_names.specs.World.{IsType};
+ghost use Rattle.acn_world.specs.Viewed.{world_view};
+ghost use Rattle.acn_world.specs.World.{IsType};
 
-use acn_names::{TypeId, World};
+use acn_world::{TypeId, World};
 use acn_source_texts::{Trouble, module, push_full_name, world_of};
 use std::alloc::Global;
 

@@ -1,7 +1,7 @@
 use Rattle.std.proofs.Common.{◌≡◌, drop}
 use Rattle.std.specs.Prelude.{flat_map}
-use Rattle.acn_names.specs.Chained.{constraints_view}
-use Rattle.acn_names.specs.Viewed.{world_view}
+use Rattle.acn_world.specs.Chained.{constraints_view}
+use Rattle.acn_world.specs.Viewed.{world_view}
 use Rattle.acn_constraint.specs.Constraints.{first, low_numbers}
 use Rattle.acn_constraint.proofs.along.first_low.Given as goal
 

@@ -1,6 +1,6 @@
 use Rattle.std.proofs.Common.{◌≡◌, drop}
 use Rattle.std.specs.List.{list_any}
-use Rattle.acn_names.specs.Chained.{constraints_view}
+use Rattle.acn_world.specs.Chained.{constraints_view}
 use Rattle.acn_constraint.specs.Constraints.{gives_size}
 use Rattle.acn_constraint.proofs.along.has_size.Given as goal
 

@@ -1,6 +1,6 @@
 use Rattle.std.proofs.Common.{◌≡◌, drop}
-use Rattle.acn_names.specs.Chained.{constraints_view}
-use Rattle.acn_names.specs.Viewed.{world_view}
+use Rattle.acn_world.specs.Chained.{constraints_view}
+use Rattle.acn_world.specs.Viewed.{world_view}
 use Rattle.acn_constraint.specs.Constraints.{met}
 use Rattle.acn_constraint.specs.Readings.{reading_of}
 use Rattle.acn_constraint.proofs.along.met.Given as goal

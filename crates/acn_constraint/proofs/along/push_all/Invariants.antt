@@ -1,5 +1,5 @@
 use Rattle.std.proofs.Common.{◌≡◌, drop, ◌++◌}
-use Rattle.acn_names.specs.Chained.{constraints_view}
+use Rattle.acn_world.specs.Chained.{constraints_view}
 use Rattle.acn_constraint.proofs.along.push_all.Given as goal
 
 abbrev pub invariant-loop-constraint : goal.invariant-loop-constraint

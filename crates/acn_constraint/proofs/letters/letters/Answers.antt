@@ -1,6 +1,6 @@
 use Rattle.std.proofs.Common.{sym, ap, ◌∙◌, arith}
 use Rattle.acn_constraint.specs.Sets.{letters_behind}
-use Rattle.acn_elements.proofs.Texts.{after_end}
+use Rattle.acn_set_elements.proofs.Texts.{after_end}
 use Rattle.acn_constraint.proofs.letters.letters.Goals as goal
 
 pub returns : goal.returns

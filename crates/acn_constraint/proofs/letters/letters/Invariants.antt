@@ -1,6 +1,6 @@
 use Rattle.std.proofs.Common.{◌≡◌, ◌-◌, drop, length}
 use Rattle.acn_constraint.specs.Sets.{letters, letters_behind}
-use Rattle.acn_elements.specs.Written.{unquoted, unquoted_rest}
+use Rattle.acn_set_elements.specs.Written.{unquoted, unquoted_rest}
 use Rattle.acn_constraint.proofs.letters.letters.Given as goal
 
 abbrev pub invariant-loop-at : goal.invariant-loop-at

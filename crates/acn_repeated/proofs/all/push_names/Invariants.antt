@@ -1,6 +1,6 @@
 use Rattle.std.proofs.Common.{◌≡◌, drop, ◌++◌}
 use Rattle.std.specs.Prelude.{map}
-use Rattle.acn_names.specs.declared.fault.NameFault.TheVariants as fault
+use Rattle.acn_world.specs.declared.fault.NameFault.TheVariants as fault
 use Rattle.acn_repeated.specs.Named.{names_view}
 use Rattle.acn_repeated.specs.Blamed.{blames_view}
 use Rattle.acn_repeated.proofs.all.push_names.Given as goal

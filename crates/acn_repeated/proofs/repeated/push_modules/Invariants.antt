@@ -1,7 +1,7 @@
 use Rattle.std.proofs.Common.{◌≡◌, drop, ◌++◌}
 use Rattle.std.specs.Prelude.{map}
 use Rattle.acn_asn_syntax.specs.View.{module_view}
-use Rattle.acn_names.specs.Repeated.{asn_repeats}
+use Rattle.acn_world.specs.Repeated.{asn_repeats}
 use Rattle.acn_repeated.specs.Blamed.{blames_view}
 use Rattle.acn_repeated.proofs.repeated.push_modules.Given as goal
 

@@ -1,7 +1,7 @@
 use Rattle.std.proofs.Common.{◌≡◌, drop, ◌++◌}
 use Rattle.std.specs.Prelude.{map}
 use Rattle.acn_asn_syntax.specs.View.{assign_view}
-use Rattle.acn_names.specs.Repeated.{twice_items}
+use Rattle.acn_world.specs.Repeated.{twice_items}
 use Rattle.acn_repeated.specs.Named.{names_view}
 use Rattle.acn_repeated.proofs.repeated.push_twice_assigns.Given as goal
 

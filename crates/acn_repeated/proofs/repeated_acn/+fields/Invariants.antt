@@ -1,6 +1,6 @@
 use Rattle.std.proofs.Common.{◌≡◌, drop, ◌++◌}
 use Rattle.acn_acn_syntax.specs.View.{fields_view}
-use Rattle.acn_names.specs.Repeated.{twice_fields}
+use Rattle.acn_world.specs.Repeated.{twice_fields}
 use Rattle.acn_repeated.specs.Named.{names_view}
 use Rattle.acn_repeated.proofs.repeated_acn.+fields.Given as goal
 

@@ -1,7 +1,7 @@
 use Rattle.std.proofs.Common.{◌≡◌, drop, ◌++◌}
 use Rattle.std.specs.Prelude.{map}
 use Rattle.acn_acn_syntax.specs.View.{module_of}
-use Rattle.acn_names.specs.Repeated.{acn_repeats}
+use Rattle.acn_world.specs.Repeated.{acn_repeats}
 use Rattle.acn_repeated.specs.Blamed.{blames_view}
 use Rattle.acn_repeated.proofs.repeated_acn.push_acn_modules.Given as goal
 

@@ -1,7 +1,7 @@
 use Rattle.std.proofs.Common.{◌≡◌, drop, ◌++◌}
 use Rattle.std.specs.Prelude.{map}
 use Rattle.acn_acn_syntax.specs.View.{entry_of}
-use Rattle.acn_names.specs.Repeated.{twice_entries}
+use Rattle.acn_world.specs.Repeated.{twice_entries}
 use Rattle.acn_repeated.specs.Named.{names_view}
 use Rattle.acn_repeated.proofs.repeated_acn.push_twice_entries.Given as goal
 

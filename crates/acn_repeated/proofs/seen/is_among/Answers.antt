@@ -1,7 +1,7 @@
 use Rattle.std.proofs.Common.{ℕ, is_some, ap, ◌∙◌}
 use Rattle.std.specs.Prelude.{map}
-use Rattle.acn_names.specs.World.{Name}
-use Rattle.acn_names.specs.Repeated as spec
+use Rattle.acn_world.specs.World.{Name}
+use Rattle.acn_world.specs.Repeated as spec
 use Rattle.acn_repeated.specs.Named.{names_view}
 use Rattle.acn_repeated.proofs.SeenNames.{found}
 use Rattle.acn_repeated.proofs.seen.is_among.Goals as goal

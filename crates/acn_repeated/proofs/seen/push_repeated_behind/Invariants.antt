@@ -1,5 +1,5 @@
 use Rattle.std.proofs.Common.{◌≡◌, drop, ◌++◌}
-use Rattle.acn_names.specs.Repeated.{repeated}
+use Rattle.acn_world.specs.Repeated.{repeated}
 use Rattle.acn_repeated.specs.Named.{names_view}
 use Rattle.acn_repeated.proofs.seen.push_repeated_behind.Given as goal
 

@@ -1,7 +1,7 @@
 use Rattle.std.proofs.Common.{◌≡◌, drop, ◌++◌}
 use Rattle.std.specs.Prelude.{map}
 use Rattle.acn_asn_syntax.specs.View.{components_of, alternatives_of, constraints_of, component_view, alternative_view, constraint_view}
-use Rattle.acn_names.specs.Repeated.{twice_components, twice_alternatives, twice_constraints}
+use Rattle.acn_world.specs.Repeated.{twice_components, twice_alternatives, twice_constraints}
 use Rattle.acn_repeated.specs.Named.{names_view}
 use Rattle.acn_repeated.proofs.twice_types.+types.Given as goal
 

@@ -1,6 +1,0 @@
-use Rattle.std.proofs.Common.{◌≡◌, drop}
-use Rattle.acn_grammar.specs.Tree.{holds}
-use Rattle.acn_form.proofs.homes.holds.Given as goal
-
-abbrev pub invariant-loop-other : goal.invariant-loop-other
-invariant-loop-other l = holds (drop l.other-index l.home) l.slot ≡ holds l.home l.slot

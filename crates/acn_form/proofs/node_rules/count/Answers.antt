@@ -1,5 +1,0 @@
-use Rattle.acn_form.proofs.AlternativeRows.{alternatives_counted}
-use Rattle.acn_form.proofs.node_rules.count.Goals as goal
-
-pub returns : goal.returns
-returns c = alternatives_counted c.args.alternatives.now

@@ -1,5 +1,0 @@
-use Rattle.acn_laws.proofs.NodeLaws.{accepted_scoped}
-use Rattle.acn_laws.proofs.laws.accepted_is_scoped.Goals as goal
-
-pub returns : goal.returns
-returns c = accepted_scoped

@@ -1,5 +1,0 @@
-use Rattle.acn_laws.proofs.OneFault.{one_first_fault}
-use Rattle.acn_laws.proofs.laws.one_first_fault.Goals as goal
-
-pub returns : goal.returns
-returns c = one_first_fault

@@ -1,5 +1,0 @@
-use Rattle.acn_laws.proofs.ExclusionLaws.{one_front}
-use Rattle.acn_laws.proofs.laws.one_front.Goals as goal
-
-pub returns : goal.returns
-returns c = one_front

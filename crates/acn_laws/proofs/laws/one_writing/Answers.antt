@@ -1,5 +1,0 @@
-use Rattle.acn_laws.proofs.OneWriting.{one_writing}
-use Rattle.acn_laws.proofs.laws.one_writing.Goals as goal
-
-pub returns : goal.returns
-returns c = one_writing

@@ -1,5 +1,0 @@
-use Rattle.acn_laws.proofs.SpelledMeets.{spelled_values_meet}
-use Rattle.acn_laws.proofs.laws.spelled_values_meet.Goals as goal
-
-pub returns : goal.returns
-returns c = spelled_values_meet

@@ -1,5 +1,0 @@
-use Rattle.acn_laws.proofs.UseKinds.{uses_fit}
-use Rattle.acn_laws.proofs.laws.uses_fit_their_slots.Goals as goal
-
-pub returns : goal.returns
-returns c = uses_fit

@@ -1,7 +1,0 @@
-use Rattle.std.proofs.Common.{◌≡◌, drop}
-use Rattle.acn_maps.specs.Placed.{noted_all}
-use Rattle.acn_names.specs.Keyed.{keyed, firsts, table_name}
-use Rattle.acn_names.proofs.maps.tables_of.Given as goal
-
-abbrev pub invariant-loop-i : goal.invariant-loop-i
-invariant-loop-i l = noted_all l.all (keyed table_name l.i (drop l.i l.tables)) ≡ firsts table_name l.tables

@@ -1,9 +1,0 @@
-use Rattle.std.proofs.Common.{◌≡◌, drop, ◌||◌}
-use Rattle.std.specs.List.{list_any}
-use Rattle.std.specs.HashSet.{contains}
-use Rattle.acn_names.specs.World.{is_same}
-use Rattle.acn_names.specs.declared.sources.TypeId.{TypeId}
-use Rattle.acn_names.proofs.roots.set_of.Given as goal
-
-abbrev pub invariant-loop-place : goal.invariant-loop-place
-invariant-loop-place l = (q : TypeId) → (contains is_same l.set q || list_any (is_same q) (drop l.place-index l.places)) ≡ list_any (is_same q) l.places

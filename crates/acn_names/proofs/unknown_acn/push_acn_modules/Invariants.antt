@@ -1,0 +1,10 @@
+use Rattle.std.proofs.Common.{◌≡◌, drop, ◌++◌}
+use Rattle.acn_world.specs.Views.{index_view}
+use Rattle.std.specs.Prelude.{map, flat_map}
+use Rattle.acn_repeated.specs.Blamed.{blames_view}
+use Rattle.acn_world.specs.Unknown.{unknown_of, acn_unknown_in}
+use Rattle.acn_acn_syntax.specs.View.{module_of}
+use Rattle.acn_names.proofs.unknown_acn.push_acn_modules.Given as goal
+
+abbrev pub invariant-loop-owner : goal.invariant-loop-owner
+invariant-loop-owner l = blames_view l.all.items ++ flat_map (λ a. unknown_of a.name (acn_unknown_in (index_view l.index) a)) (map module_of (drop l.owner-index l.modules)) ≡ blames_view l.fn.all.items ++ flat_map (λ a. unknown_of a.name (acn_unknown_in (index_view l.index) a)) (map module_of l.modules)

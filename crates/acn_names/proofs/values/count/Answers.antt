@@ -1,7 +1,0 @@
-use Rattle.std.proofs.Common.{arith}
-use Rattle.acn_names.specs.World.{count}
-use Rattle.acn_names.proofs.values.count.Goals as goal
-
-pub loop-owner-init : goal.loop-owner-init
-unfolding count
-loop-owner-init c = omega arith

@@ -1,0 +1,12 @@
+use Rattle.std.proofs.Common.{◌≡◌, drop, ◌++◌}
+use Rattle.acn_world.specs.Views.{index_view}
+use Rattle.std.specs.Prelude.{flat_map}
+use Rattle.acn_world.specs.Repeated.{when}
+use Rattle.acn_mentions.specs.AcnMentioned.{acn_mentions_view}
+use Rattle.acn_repeated.specs.Named.{names_view}
+use Rattle.acn_world.specs.Unknown.{acn_mention_name}
+use Rattle.acn_world.specs.Cycles.{is_acn_wrong}
+use Rattle.acn_names.proofs.wrong.push_acn_mentions.Given as goal
+
+abbrev pub invariant-loop-mention : goal.invariant-loop-mention
+invariant-loop-mention l = names_view l.all.items ++ flat_map (λ m. when (is_acn_wrong (index_view l.index) l.owner m) (acn_mention_name m)) (acn_mentions_view (drop l.mention-index l.mentions)) ≡ names_view l.fn.all.items ++ flat_map (λ m. when (is_acn_wrong (index_view l.index) l.owner m) (acn_mention_name m)) (acn_mentions_view l.mentions)

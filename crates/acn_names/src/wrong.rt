@@ -1,0 +1,357 @@
+ghost use Rattle.std.specs.Prelude.{◌≡◌, [], ◌∷◌, ◌++◌, not, ◌&&◌, map, flat_map, option_map, OnOk, IfOk, ◌+◌, ◌<◌, length};
+ghost use Rattle.std.specs.List.{enumerate_from};
+ghost use Rattle.acn_asn_syntax.specs.View.{assign_view, module_view, base_view, type_view};
+ghost use Rattle.acn_acn_syntax.specs.View.{entry_of, module_of};
+ghost use Rattle.acn_world.specs.Views.{index_view};
+ghost use Rattle.acn_mentions.specs.Mentioned.{mention_view, mentions_view, governor_view};
+ghost use Rattle.acn_mentions.specs.AcnMentioned.{acn_mention_view, acn_mentions_view};
+ghost use Rattle.acn_world.specs.Repeated.{when};
+ghost use Rattle.acn_world.specs.Unknown.{mention_name, acn_mention_name};
+ghost use Rattle.acn_world.specs.Cycles as spec;
+ghost use Rattle.acn_world.specs.Faults.{first};
+ghost use Rattle.acn_repeated.specs.Named.{names_view};
+ghost use Rattle.acn_repeated.specs.Blamed.{blames_view};
+
+use crate::early::first_fault;
+use crate::unknown::{is_governed, mention_name, push_assign};
+use crate::unknown_acn::{acn_mention_name, acn_type_named};
+use acn_acn_syntax::{AcnEntry, AcnModule};
+use acn_asn_syntax::{AsnBase, AsnModule, AsnType, Assign};
+use acn_mentions::{AcnMention, Mention, Role, push_entry};
+use acn_world::NameFault;
+use acn_world::chain::{Link, assigned_link, base_of};
+use acn_world::index::Index;
+use acn_world::values::leads_to_number;
+use acn_num::{Name, NoMemory};
+use acn_repeated::{Blame, Kind, push_blames};
+use std::alloc::Global;
+
+// Whether the type is INTEGER.
+#[tactic(auto, using(acn_mentions::proofs::TypeViews::type_views))]
+fn is_integer(base: &AsnBase) -> bool
+    ensures { result ≡ spec.is_integer (base_view base.now) }
+{
+    match base {
+        AsnBase::Integer(_) => true,
+        AsnBase::Enumerated(_) => false,
+        AsnBase::Ref(_, _) => false,
+        AsnBase::Boolean => false,
+        AsnBase::Null => false,
+        AsnBase::OctetString => false,
+        AsnBase::BitString => false,
+        AsnBase::Ia5String => false,
+        AsnBase::Sequence(_) => false,
+        AsnBase::SequenceOf(_, _) => false,
+        AsnBase::Choice(_) => false,
+    }
+}
+
+// Whether the type may be that of a parameter.
+#[tactic(auto, using(acn_mentions::proofs::TypeViews::type_views))]
+fn fits_parameter(base: &AsnBase) -> bool
+    ensures { result ≡ spec.fits_parameter (base_view base.now) }
+{
+    match base {
+        AsnBase::Integer(_) => true,
+        AsnBase::Enumerated(_) => true,
+        AsnBase::Boolean => true,
+        AsnBase::Ref(_, _) => false,
+        AsnBase::Null => false,
+        AsnBase::OctetString => false,
+        AsnBase::BitString => false,
+        AsnBase::Ia5String => false,
+        AsnBase::Sequence(_) => false,
+        AsnBase::SequenceOf(_, _) => false,
+        AsnBase::Choice(_) => false,
+    }
+}
+
+// Whether the type may be that of an inserted field.
+#[tactic(auto, using(acn_mentions::proofs::TypeViews::type_views))]
+fn fits_field(base: &AsnBase) -> bool
+    ensures { result ≡ spec.fits_field (base_view base.now) }
+{
+    match base {
+        AsnBase::Integer(_) => true,
+        AsnBase::Enumerated(_) => true,
+        AsnBase::Boolean => true,
+        AsnBase::Null => true,
+        AsnBase::Ref(_, _) => false,
+        AsnBase::OctetString => false,
+        AsnBase::BitString => false,
+        AsnBase::Ia5String => false,
+        AsnBase::Sequence(_) => false,
+        AsnBase::SequenceOf(_, _) => false,
+        AsnBase::Choice(_) => false,
+    }
+}
+
+// Whether a constraint is of an INTEGER.
+fn is_integer_type(index: &Index, k: u32, governor: Option<&AsnType>) -> bool
+    ensures { result ≡ spec.is_integer_type (index_view index.now) k (governor_view governor.entry) }
+{
+    match governor {
+        None => false,
+        Some(of) => {
+            let link = Link {
+                owner: k,
+                of,
+                assigned: None,
+            };
+            is_integer(base_of(index, link))
+        }
+    }
+}
+
+// Whether a value in a constraint is used as a number by its role.
+fn is_number_role(index: &Index, k: u32, governor: Option<&AsnType>, role: Role) -> bool
+    ensures { result ≡ spec.is_number_role (index_view index.now) k (governor_view governor.entry) role }
+{
+    match role {
+        Role::Element => is_integer_type(index, k, governor),
+        Role::Size => true,
+        Role::Letters => false,
+    }
+}
+
+// Whether what is mentioned is used as a number.
+#[tactic(auto, unfolding(acn_world::specs::Cycles::is_as_number))]
+fn is_as_number(index: &Index, k: u32, mention: Mention<'_>) -> bool
+    ensures { result ≡ spec.is_as_number (index_view index.now) k (mention_view mention.entry) }
+{
+    match mention {
+        Mention::Constraint {
+            governor,
+            role,
+            name,
+        } => {
+            is_number_role(index, k, governor, role)
+                && !is_governed(index, k, governor, name.bytes())
+        }
+        Mention::Type { .. } => false,
+        Mention::Default { .. } => false,
+        Mention::Assignment { .. } => false,
+    }
+}
+
+// Whether what is mentioned is used as a number and leads to none.
+fn is_wrong(index: &Index, k: u32, mention: Mention<'_>) -> bool
+    ensures { result ≡ spec.is_wrong (index_view index.now) k (mention_view mention.entry) }
+{
+    is_as_number(index, k, mention) && !leads_to_number(index, k, mention_name(mention).bytes())
+}
+
+// Adds the names that are mentioned and are of the wrong kind.
+fn push_mentions<'t>(
+    index: &Index,
+    k: u32,
+    mentions: &[Mention<'t>],
+    all: &mut Vec<&'t Name>,
+) -> Result<(), NoMemory>
+    ensures { OnOk result (names_view all.new.items ≡ names_view all.old.items ++ flat_map (λ m. when (spec.is_wrong (index_view index.now) k m) (mention_name m)) (mentions_view mentions.now)) }
+{
+    for mention in mentions {
+        if is_wrong(index, k, *mention) {
+            all.push(mention_name(*mention))?;
+        }
+    }
+    Ok(())
+}
+
+// Adds those in an assignment.
+fn push_item<'t>(
+    alloc: Global,
+    index: &Index,
+    k: u32,
+    item: &'t Assign,
+    all: &mut Vec<&'t Name>,
+) -> Result<(), NoMemory>
+    ensures { OnOk result (names_view all.new.items ≡ names_view all.old.items ++ spec.wrong_in (index_view index.now) k (assign_view item.now)) }
+{
+    let mut mentions = Vec::new(alloc);
+    push_assign(item, &mut mentions)?;
+    push_mentions(index, k, mentions.as_slice(), all)?;
+    Ok(())
+}
+
+// Adds those in assignments.
+fn push_items<'t>(
+    alloc: Global,
+    index: &Index,
+    k: u32,
+    items: &'t [Assign],
+    all: &mut Vec<&'t Name>,
+) -> Result<(), NoMemory>
+    ensures { OnOk result (names_view all.new.items ≡ names_view all.old.items ++ flat_map (spec.wrong_in (index_view index.now) k) (map assign_view items.now)) }
+{
+    for item in items {
+        push_item(alloc, index, k, item, all)?;
+    }
+    Ok(())
+}
+
+// Adds the faults of a module.
+fn push_module<'t>(
+    alloc: Global,
+    index: &Index,
+    k: u32,
+    owner: &'t AsnModule,
+    all: &mut Vec<Blame<'t>>,
+) -> Result<(), NoMemory>
+    ensures { OnOk result (blames_view all.new.items ≡ blames_view all.old.items ++ spec.wrong_of owner.now.name (flat_map (spec.wrong_in (index_view index.now) k) (module_view owner.now).items)) }
+{
+    let mut names = Vec::new(alloc);
+    push_items(alloc, index, k, owner.items.items(), &mut names)?;
+    push_blames(Kind::WrongKind, &owner.name, names.as_slice(), all)?;
+    Ok(())
+}
+
+// Adds the faults of the modules.
+fn push_modules<'t>(
+    alloc: Global,
+    index: &Index,
+    modules: &'t [AsnModule],
+    all: &mut Vec<Blame<'t>>,
+) -> Result<(), NoMemory>
+    requires { length modules.now < 4294967296 }
+    ensures { OnOk result (blames_view all.new.items ≡ blames_view all.old.items ++ flat_map (λ m. spec.wrong_of m.1.name (flat_map (spec.wrong_in (index_view index.now) m.0) m.1.items)) (enumerate_from 0 (map module_view modules.now))) }
+{
+    for (k, owner) in modules.iter().enumerate() {
+        push_module(alloc, index, k as u32, owner, all)?;
+    }
+    Ok(())
+}
+
+// Whether the type of a parameter is one that it may have.
+fn parameter_fits(index: &Index, owner: &[u8], name: &[u8]) -> bool
+    ensures { result ≡ spec.kind_fits (index_view index.now) spec.fits_parameter owner.now name.now }
+{
+    match acn_type_named(index, owner, name) {
+        None => false,
+        Some(place) => match assigned_link(index, place) {
+            None => false,
+            Some(link) => fits_parameter(base_of(index, link)),
+        },
+    }
+}
+
+// Whether the type of an inserted field is one that it may have.
+fn field_fits(index: &Index, owner: &[u8], name: &[u8]) -> bool
+    ensures { result ≡ spec.kind_fits (index_view index.now) spec.fits_field owner.now name.now }
+{
+    match acn_type_named(index, owner, name) {
+        None => false,
+        Some(place) => match assigned_link(index, place) {
+            None => false,
+            Some(link) => fits_field(base_of(index, link)),
+        },
+    }
+}
+
+// Whether what is mentioned in an ACN module is of the wrong kind.
+#[tactic(auto, unfolding(acn_world::specs::Cycles::is_acn_wrong))]
+fn is_acn_wrong(index: &Index, owner: &[u8], mention: AcnMention<'_>) -> bool
+    ensures { result ≡ spec.is_acn_wrong (index_view index.now) owner.now (acn_mention_view mention.entry) }
+{
+    match mention {
+        AcnMention::Parameter { name } => !parameter_fits(index, owner, name.bytes()),
+        AcnMention::Field { name } => !field_fits(index, owner, name.bytes()),
+        AcnMention::Table { .. } => false,
+    }
+}
+
+// Adds the names that are mentioned in an ACN module and are of the wrong kind.
+fn push_acn_mentions<'t>(
+    index: &Index,
+    owner: &[u8],
+    mentions: &[AcnMention<'t>],
+    all: &mut Vec<&'t Name>,
+) -> Result<(), NoMemory>
+    ensures { OnOk result (names_view all.new.items ≡ names_view all.old.items ++ flat_map (λ m. when (spec.is_acn_wrong (index_view index.now) owner.now m) (acn_mention_name m)) (acn_mentions_view mentions.now)) }
+{
+    for mention in mentions {
+        if is_acn_wrong(index, owner, *mention) {
+            all.push(acn_mention_name(*mention))?;
+        }
+    }
+    Ok(())
+}
+
+// Adds those in an entry.
+fn push_wrong_entry<'t>(
+    alloc: Global,
+    index: &Index,
+    owner: &[u8],
+    entry: &'t AcnEntry,
+    all: &mut Vec<&'t Name>,
+) -> Result<(), NoMemory>
+    ensures { OnOk result (names_view all.new.items ≡ names_view all.old.items ++ spec.acn_wrong_in (index_view index.now) owner.now (entry_of entry.now)) }
+{
+    let mut mentions = Vec::new(alloc);
+    push_entry(entry, &mut mentions)?;
+    push_acn_mentions(index, owner, mentions.as_slice(), all)?;
+    Ok(())
+}
+
+// Adds those in entries.
+fn push_entries<'t>(
+    alloc: Global,
+    index: &Index,
+    owner: &[u8],
+    entries: &'t [AcnEntry],
+    all: &mut Vec<&'t Name>,
+) -> Result<(), NoMemory>
+    ensures { OnOk result (names_view all.new.items ≡ names_view all.old.items ++ flat_map (spec.acn_wrong_in (index_view index.now) owner.now) (map entry_of entries.now)) }
+{
+    for entry in entries {
+        push_wrong_entry(alloc, index, owner, entry, all)?;
+    }
+    Ok(())
+}
+
+// Adds the faults of an ACN module.
+fn push_acn_module<'t>(
+    alloc: Global,
+    index: &Index,
+    owner: &'t AcnModule,
+    all: &mut Vec<Blame<'t>>,
+) -> Result<(), NoMemory>
+    ensures { OnOk result (blames_view all.new.items ≡ blames_view all.old.items ++ spec.wrong_of owner.now.name (flat_map (spec.acn_wrong_in (index_view index.now) owner.now.name) (module_of owner.now).entries)) }
+{
+    let mut names = Vec::new(alloc);
+    push_entries(
+        alloc,
+        index,
+        owner.name.bytes(),
+        owner.entries.items(),
+        &mut names,
+    )?;
+    push_blames(Kind::WrongKind, &owner.name, names.as_slice(), all)?;
+    Ok(())
+}
+
+// Adds the faults of the ACN modules.
+fn push_acn_modules<'t>(
+    alloc: Global,
+    index: &Index,
+    modules: &'t [AcnModule],
+    all: &mut Vec<Blame<'t>>,
+) -> Result<(), NoMemory>
+    ensures { OnOk result (blames_view all.new.items ≡ blames_view all.old.items ++ flat_map (λ a. spec.wrong_of a.name (flat_map (spec.acn_wrong_in (index_view index.now) a.name) a.entries)) (map module_of modules.now)) }
+{
+    for owner in modules {
+        push_acn_module(alloc, index, owner, all)?;
+    }
+    Ok(())
+}
+
+/// The fault behind the cycles: the first reference in the text that is of the wrong kind.
+#[tactic(auto, unfolding(acn_world::specs::Cycles::wrong_kinds))]
+pub fn late_fault(alloc: Global, index: &Index) -> Result<Option<NameFault>, NoMemory>
+    ensures { IfOk result (λ f. f ≡ first (spec.wrong_kinds (index_view index.now))) }
+{
+    let mut all = Vec::new(alloc);
+    push_modules(alloc, index, index.modules.items(), &mut all)?;
+    push_acn_modules(alloc, index, index.acn.items(), &mut all)?;
+    first_fault(alloc, all.as_slice())
+}

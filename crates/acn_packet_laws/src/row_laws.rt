@@ -1,0 +1,88 @@
+//! Packets that are worked by hand, as laws of the definitions.
+
+ghost use Rattle.acn_packet_laws.specs.WorkedRows.{FieldsFollowEachOther, AnEndOfBitsIsShort, ASizeStandsInItsField, SizesInOneFieldAgree, WhatNothingAsksAboutIsLeast, EachDigitIsBelowTen, ATerminatorEndsTheText, ConditionsThatAreMissedAreAvoided, PaddingIsReadInAnyWay, ACountIsTheLeast, APatternHasAComplement, ZeroHasNoMinus, DigitsWithAnEndAreLeast, CharactersStandByTheirPlaces, PresenceBitsStandInFront, ASizeStandsInFront, ContentsFillTheirOctets};
+
+/// The fields of a SEQUENCE follow each other, and a number that isn't permitted is never written.
+pub fn fields_follow_each_other()
+    ensures { FieldsFollowEachOther }
+{}
+
+/// Bits that end inside a field are Short at the field, and no value stands at their front.
+pub fn an_end_of_bits_is_short()
+    ensures { AnEndOfBitsIsShort }
+{}
+
+/// The size of a string stands in the field that determines it, and one that isn't permitted is never written.
+pub fn a_size_stands_in_its_field()
+    ensures { ASizeStandsInItsField }
+{}
+
+/// Two sizes that one field determines are the same, or the value is refused and never written.
+pub fn sizes_in_one_field_agree()
+    ensures { SizesInOneFieldAgree }
+{}
+
+/// A determinant that nothing asks about is written as its least number and read as any.
+pub fn what_nothing_asks_about_is_least()
+    ensures { WhatNothingAsksAboutIsLeast }
+{}
+
+/// Decimal digits in 4 bits each are below ten.
+pub fn each_digit_is_below_ten()
+    ensures { EachDigitIsBelowTen }
+{}
+
+/// A terminator stands behind a text, and never inside it.
+pub fn a_terminator_ends_the_text()
+    ensures { ATerminatorEndsTheText }
+{}
+
+/// A component that is absent asks for a number that doesn't meet its condition, or the value is refused.
+pub fn conditions_that_are_missed_are_avoided()
+    ensures { ConditionsThatAreMissedAreAvoided }
+{}
+
+/// Padding up to an alignment is written as zeros and read in any way, and never left out.
+pub fn padding_is_read_in_any_way()
+    ensures { PaddingIsReadInAnyWay }
+{}
+
+/// A number behind a count of octets has as few of them as hold it.
+pub fn a_count_is_the_least()
+    ensures { ACountIsTheLeast }
+{}
+
+/// A BOOLEAN with one pattern has its complement for the other value, and is read as that from anything else.
+pub fn a_pattern_has_a_complement()
+    ensures { APatternHasAComplement }
+{}
+
+/// Zero in characters has no minus sign.
+pub fn zero_has_no_minus()
+    ensures { ZeroHasNoMinus }
+{}
+
+/// Decimal digits with an end have no zero in front.
+pub fn digits_with_an_end_are_least()
+    ensures { DigitsWithAnEndAreLeast }
+{}
+
+/// Characters of a small alphabet stand by their places in it.
+pub fn characters_stand_by_their_places()
+    ensures { CharactersStandByTheirPlaces }
+{}
+
+/// The presence bits of a SEQUENCE stand in front of its fields, one for each optional component.
+pub fn presence_bits_stand_in_front()
+    ensures { PresenceBitsStandInFront }
+{}
+
+/// The size of a list stands in front of its elements, and one that isn't permitted is refused.
+pub fn a_size_stands_in_front()
+    ensures { ASizeStandsInFront }
+{}
+
+/// Contained octets are as many as their contents fill: with more of them, or fewer, the packet is refused.
+pub fn contents_fill_their_octets()
+    ensures { ContentsFillTheirOctets }
+{}

@@ -1,6 +1,0 @@
-use Rattle.std.proofs.Common.{◌≡◌}
-use Rattle.acn_names.specs.World.{map_tables}
-use Rattle.acn_resolve.proofs.gathering.gather_tables.Given as goal
-
-abbrev pub invariant-loop-file : goal.invariant-loop-file
-invariant-loop-file l = l.all.items ≡ map_tables l.yielded

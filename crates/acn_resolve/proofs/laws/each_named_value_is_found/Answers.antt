@@ -1,5 +1,0 @@
-use Rattle.acn_resolve.proofs.Ended.{each_found}
-use Rattle.acn_resolve.proofs.laws.each_named_value_is_found.Goals as goal
-
-pub returns : goal.returns
-returns c = each_found

@@ -1,3 +1,0 @@
-pub mod Few
-pub mod Rounds
-pub mod Laws

@@ -1,0 +1,23 @@
+-- A chain as plain data.
+use Rattle.std.specs.Prelude.{ℕ, List, map}
+use Rattle.std.specs.Borrow.{Bor}
+use Rattle.acn_asn_syntax.specs.Mirror as plain
+use Rattle.acn_asn_syntax.specs.View.{type_view, constraint_view}
+use Rattle.acn_asn_syntax.specs.declared.types.Constraint.{Constraint}
+use Rattle.acn_acn_syntax.specs.Mirror.{Entry}
+use Rattle.acn_acn_syntax.specs.View.{entry_of}
+use Rattle.acn_acn_syntax.specs.declared.modules.AcnEntry.{AcnEntry}
+use Rattle.acn_world.specs.Chains.{ChainOf}
+use Rattle.acn_world.specs.declared.chains.Chain.{Chain}
+
+abbrev pub constraints_view : List (ℕ × Bor Constraint) → List (ℕ × plain.Constraint)
+constraints_view cs = map (λ (c : ℕ × Bor Constraint). (c.0, constraint_view c.1.now)) cs
+
+abbrev pub entry_view : ℕ × Bor AcnEntry → ℕ × Entry
+entry_view e = (e.0, entry_of e.1.now)
+
+abbrev pub entries_view : List (ℕ × Bor AcnEntry) → List (ℕ × Entry)
+entries_view es = map entry_view es
+
+abbrev pub chain_view : Chain → ChainOf
+chain_view c = record { base = type_view c.base.now; owner = c.module; constraints = constraints_view c.constraints; entries = entries_view c.entries }

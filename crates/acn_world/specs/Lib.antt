@@ -1,0 +1,16 @@
+pub mod World
+pub mod Lookup
+pub mod Values
+pub mod Chains
+pub mod Repeated
+pub mod Unknown
+pub mod Cycles
+pub mod Faults
+pub mod Views
+pub mod Sorts
+pub mod Keyed
+pub mod Found
+pub mod Linked
+pub mod Chained
+pub mod Viewed
+pub mod Laws

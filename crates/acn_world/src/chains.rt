@@ -1,0 +1,131 @@
+ghost use Rattle.std.specs.Prelude.{◌≡◌, ◌++◌, map, flat_map, filter_map, reverse, option_map, option_to_list, OnOk, IfOk};
+ghost use Rattle.acn_asn_syntax.specs.View.{constraint_view, type_view};
+ghost use Rattle.acn_acn_syntax.specs.View.{entry_of};
+ghost use Rattle.acn_world.specs.Views.{index_view};
+ghost use Rattle.acn_world.specs.Linked.{link_view};
+ghost use Rattle.acn_world.specs.Chained.{chain_view, constraints_view, entries_view, entry_view};
+ghost use Rattle.acn_world.specs.Chains as spec;
+
+use crate::chain::{Link, last_link, links};
+use crate::index::Index;
+use crate::references::entry_at;
+use acn_acn_syntax::AcnEntry;
+use acn_asn_syntax::{AsnType, Constraint};
+use acn_num::{NoMemory, Row};
+use std::alloc::Global;
+
+/// What stands along the chain of a type. Both rows go from the base outward, each item with the number of
+/// its module.
+#[derive(Debug, Drop)]
+pub struct Chain<'w> {
+    /// The type behind all references.
+    pub base: &'w AsnType,
+    /// The module in which it stands.
+    pub module: u32,
+    /// The constraints.
+    pub constraints: Row<(u32, &'w Constraint)>,
+    /// The ACN entries of the types that the chain names.
+    pub entries: Row<(u32, &'w AcnEntry)>,
+}
+
+// Adds the constraints of a type.
+fn push_constraints<'w>(
+    owner: u32,
+    constraints: &'w [Constraint],
+    all: &mut Row<(u32, &'w Constraint)>,
+) -> Result<(), NoMemory>
+    ensures { OnOk result (constraints_view all.new ≡ constraints_view all.old ++ map (λ c. (owner, c)) (map constraint_view constraints.now)) }
+{
+    for constraint in constraints {
+        all.push((owner, constraint))?;
+    }
+    Ok(())
+}
+
+// Adds the constraints of a link.
+#[tactic(auto, using(acn_mentions::proofs::TypeViews::open_type, acn_mentions::proofs::TypeViews::constraints_back))]
+fn push_link<'w>(link: Link<'w>, all: &mut Row<(u32, &'w Constraint)>) -> Result<(), NoMemory>
+    ensures { OnOk result (constraints_view all.new ≡ constraints_view all.old ++ spec.link_constraints (link_view link.entry)) }
+{
+    push_constraints(link.owner, link.of.constraints.items(), all)
+}
+
+// The constraints of the links, in order.
+fn constraints_along<'w>(
+    alloc: Global,
+    along: &[Link<'w>],
+) -> Result<Row<(u32, &'w Constraint)>, NoMemory>
+    ensures { IfOk result (λ all. constraints_view all ≡ flat_map spec.link_constraints (map link_view along.now)) }
+{
+    let mut all = Row::new(alloc);
+    for link in along {
+        push_link(*link, &mut all)?;
+    }
+    Ok(all)
+}
+
+/// The entry of a link's assignment, with the number of its module.
+pub fn link_entry<'w>(index: &'w Index, link: Link<'w>) -> Option<(u32, &'w AcnEntry)>
+    ensures { option_map entry_view result ≡ spec.link_entry (index_view index.now) (link_view link.entry) }
+{
+    let place = link.assigned?;
+    let entry = entry_at(index, place)?;
+    Some((place.module, entry))
+}
+
+// Adds the entry of a link, where there is one.
+fn push_entry<'w>(
+    index: &'w Index,
+    link: Link<'w>,
+    all: &mut Row<(u32, &'w AcnEntry)>,
+) -> Result<(), NoMemory>
+    ensures { OnOk result (entries_view all.new ≡ entries_view all.old ++ option_to_list (spec.link_entry (index_view index.now) (link_view link.entry))) }
+{
+    match link_entry(index, link) {
+        None => Ok(()),
+        Some(entry) => all.push(entry),
+    }
+}
+
+// The entries of the links, in order.
+fn entries_along<'w>(
+    alloc: Global,
+    index: &'w Index,
+    along: &[Link<'w>],
+) -> Result<Row<(u32, &'w AcnEntry)>, NoMemory>
+    ensures { IfOk result (λ all. entries_view all ≡ filter_map (spec.link_entry (index_view index.now)) (map link_view along.now)) }
+{
+    let mut all = Row::new(alloc);
+    for link in along {
+        push_entry(index, *link, &mut all)?;
+    }
+    Ok(all)
+}
+
+/// What stands along the chain of a type in a module's text.
+#[tactic(auto, unfolding(crate::specs::Chains::chain_of))]
+pub fn chain_of<'w>(
+    alloc: Global,
+    index: &'w Index,
+    owner: u32,
+    of: &'w AsnType,
+) -> Result<Chain<'w>, NoMemory>
+    ensures { IfOk result (λ chain. chain_view chain ≡ spec.chain_of (index_view index.now) (spec.written owner (type_view of.now))) }
+{
+    let first = Link {
+        owner,
+        of,
+        assigned: None,
+    };
+    let mut along = links(alloc, index, first)?;
+    let base = last_link(first, along.as_slice());
+    along.reverse();
+    let constraints = constraints_along(alloc, along.as_slice())?;
+    let entries = entries_along(alloc, index, along.as_slice())?;
+    Ok(Chain {
+        base: base.of,
+        module: base.owner,
+        constraints,
+        entries,
+    })
+}

@@ -1,0 +1,44 @@
+ghost use Rattle.std.specs.Prelude.{◌≡◌};
+ghost use Rattle.acn_world.specs.World.{IsSmall, world_from};
+ghost use Rattle.acn_world.specs.Keyed as keyed;
+
+use crate::maps::{Maps, maps_of};
+use acn_acn_syntax::{AcnModule, MapTable};
+use acn_asn_syntax::AsnModule;
+use acn_num::{NoMemory, Row};
+use std::alloc::Global;
+
+/// The modules and the tables of all files, with the first places of their names.
+#[derive(Debug, Drop)]
+pub struct Index {
+    pub modules: Row<AsnModule>,
+    pub acn: Row<AcnModule>,
+    pub tables: Row<MapTable>,
+    pub maps: Maps,
+    ghost small: { IsSmall (world_from modules acn tables) },
+    ghost mapped: { maps ≡ keyed.maps_of (world_from modules acn tables) },
+}
+
+impl Index {
+    ghost use Rattle.std.specs.Prelude.{IfOk};
+    ghost use Rattle.acn_world.specs.Views.{index_view};
+
+    /// The index of these modules and tables.
+    pub fn new(
+        alloc: Global,
+        modules: Row<AsnModule>,
+        acn: Row<AcnModule>,
+        tables: Row<MapTable>,
+    ) -> Result<Index, NoMemory>
+        requires { IsSmall (world_from modules acn tables) }
+        ensures { IfOk result (λ index. index_view index ≡ world_from modules acn tables) }
+    {
+        let maps = maps_of(alloc, modules.items(), acn.items(), tables.items())?;
+        Ok(Index {
+            modules,
+            acn,
+            tables,
+            maps,
+        })
+    }
+}

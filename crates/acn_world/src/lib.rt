@@ -1,0 +1,22 @@
+//! What the names of ASN.1 modules, ACN modules and mapping tables lead to, and which name is at fault.
+#![tactic(auto)]
+
+pub mod chain;
+mod chains;
+mod fault;
+pub mod index;
+mod laws;
+pub mod lookup;
+pub mod maps;
+pub mod references;
+pub mod referring;
+pub mod roots;
+mod sources;
+pub mod values;
+mod world;
+
+pub use chains::Chain;
+pub use fault::NameFault;
+pub use laws::{no_cycle_among_ranks, no_fault_in_a_sound_world};
+pub use sources::{Sources, TypeId};
+pub use world::World;

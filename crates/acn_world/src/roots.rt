@@ -1,0 +1,146 @@
+ghost use Rattle.std.specs.Prelude.{◌≡◌, ◌<◌, ◌++◌, length, map, filter, flat_map, option_to_list, OnOk, IfOk};
+ghost use Rattle.std.specs.List.{enumerate_from, list_any};
+ghost use Rattle.std.specs.HashSet.{contains};
+ghost use Rattle.acn_asn_syntax.specs.Mirror as plain;
+ghost use Rattle.acn_asn_syntax.specs.View.{module_view, assign_view};
+ghost use Rattle.acn_world.specs.Views.{index_view};
+ghost use Rattle.acn_world.specs.Linked.{link_view};
+ghost use Rattle.acn_world.specs.World as world;
+ghost use Rattle.acn_world.specs.Chains as chains;
+ghost use Rattle.acn_world.specs.Faults as spec;
+
+use crate::TypeId;
+use crate::chain::{Link, assigned_link, next_link};
+use crate::chains::link_entry;
+use crate::index::Index;
+use crate::referring::push_referred;
+use crate::values::count;
+use acn_asn_syntax::{AsnModule, Assign};
+use acn_num::{NoMemory, Row};
+use std::alloc::Global;
+use std::collections::HashSet;
+
+// Adds the places of a module's assignments.
+fn push_module_places(k: u32, items: &[Assign], all: &mut Vec<TypeId>) -> Result<(), NoMemory>
+    requires { length items.now < 4294967296 }
+    ensures { OnOk result (all.new.items ≡ all.old.items ++ map (λ a. world.place k a.0) (enumerate_from 0 (map assign_view items.now))) }
+{
+    for (i, _item) in items.iter().enumerate() {
+        all.push(TypeId {
+            module: k,
+            item: i as u32,
+        })?;
+    }
+    Ok(())
+}
+
+// Adds the places of the modules' assignments.
+fn push_places(modules: &[AsnModule], all: &mut Vec<TypeId>) -> Result<(), NoMemory>
+    requires modules { length modules.now < 4294967296 }
+    requires items { length (flat_map (λ (m : plain.AsnModule). m.items) (map module_view modules.now)) < 4294967296 }
+    ensures { OnOk result (all.new.items ≡ all.old.items ++ flat_map world.module_places (enumerate_from 0 (map module_view modules.now))) }
+{
+    for (k, owner) in modules.iter().enumerate() {
+        push_module_places(k as u32, owner.items.items(), all)?;
+    }
+    Ok(())
+}
+
+/// The places of all assignments, in the order of the text.
+#[tactic(auto, unfolding(crate::specs::World::places, crate::specs::World::count))]
+pub fn places(alloc: Global, index: &Index) -> Result<Vec<TypeId>, NoMemory>
+    ensures { IfOk result (λ all. all.items ≡ world.places (index_view index.now)) }
+{
+    let mut all = Vec::new(alloc);
+    push_places(index.modules.items(), &mut all)?;
+    Ok(all)
+}
+
+// The places as a set.
+fn set_of(alloc: Global, places: &[TypeId]) -> Result<HashSet<TypeId>, NoMemory>
+    ensures { IfOk result (λ set. (q : TypeId) → contains world.is_same set q ≡ list_any (world.is_same q) places.now) }
+{
+    let mut set = HashSet::new(alloc);
+    for place in places {
+        set.insert(*place)?;
+    }
+    Ok(set)
+}
+
+// Whether the entry of a link's assignment has parameters.
+fn gives_parameters(index: &Index, link: Link<'_>) -> bool
+    ensures { result ≡ list_any chains.gives_parameters (option_to_list (chains.link_entry (index_view index.now) (link_view link.entry))) }
+{
+    match link_entry(index, link) {
+        None => false,
+        Some(entry) => !entry.1.parameters.items().is_empty(),
+    }
+}
+
+/// Whether a type has parameters, by an entry along its chain.
+#[tactic(auto, unfolding(crate::specs::Chains::has_parameters, crate::specs::Chains::links))]
+pub fn has_parameters(index: &Index, first: Link<'_>) -> bool
+    ensures { result ≡ chains.has_parameters (index_view index.now) (link_view first.entry) }
+{
+    let mut link = first;
+    for step in 0..count(index) + 1 {
+        if gives_parameters(index, link) {
+            return true;
+        }
+        match next_link(index, link) {
+            None => return false,
+            Some(next) => link = next,
+        }
+    }
+    false
+}
+
+// Whether the assignment is a type without parameters.
+fn is_without_parameters(index: &Index, place: TypeId) -> bool
+    ensures { result ≡ spec.is_without_parameters (index_view index.now) (chains.assigned_link (index_view index.now) place) }
+{
+    match assigned_link(index, place) {
+        None => false,
+        Some(link) => !has_parameters(index, link),
+    }
+}
+
+// Whether the type is a root, where these are the types to which others refer.
+#[tactic(auto, unfolding(crate::specs::Faults::is_root))]
+fn is_root(index: &Index, referred: &HashSet<TypeId>, place: TypeId) -> bool
+    requires { contains world.is_same referred.now place ≡ list_any (world.is_same place) (spec.referred (index_view index.now)) }
+    ensures { result ≡ spec.is_root (index_view index.now) place }
+{
+    !referred.contains(&place) && is_without_parameters(index, place)
+}
+
+// The roots among the places.
+fn roots_among(
+    alloc: Global,
+    index: &Index,
+    referred: &HashSet<TypeId>,
+    places: &[TypeId],
+) -> Result<Row<TypeId>, NoMemory>
+    requires { (q : TypeId) → contains world.is_same referred.now q ≡ list_any (world.is_same q) (spec.referred (index_view index.now)) }
+    ensures { IfOk result (λ all. all ≡ filter (spec.is_root (index_view index.now)) places.now) }
+{
+    let mut all = Row::new(alloc);
+    for place in places {
+        if is_root(index, referred, *place) {
+            all.push(*place)?;
+        }
+    }
+    Ok(all)
+}
+
+/// The types without parameters to which no other type refers, in the order of the text.
+#[tactic(auto, unfolding(crate::specs::Faults::roots, crate::specs::Faults::referred))]
+pub fn roots_of(alloc: Global, index: &Index) -> Result<Row<TypeId>, NoMemory>
+    ensures { IfOk result (λ all. all ≡ spec.roots (index_view index.now)) }
+{
+    let places = places(alloc, index)?;
+    let mut references = Vec::new(alloc);
+    push_referred(alloc, index, places.as_slice(), &mut references)?;
+    let referred = set_of(alloc, references.as_slice())?;
+    roots_among(alloc, index, &referred, places.as_slice())
+}

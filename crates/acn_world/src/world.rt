@@ -1,0 +1,128 @@
+ghost use Rattle.acn_world.specs.World.{world_from};
+ghost use Rattle.acn_world.specs.Faults.{IsSound};
+
+use crate::chains::{Chain, chain_of};
+use crate::index::Index;
+use crate::lookup::{item_at, module_at};
+use crate::references::{entry_at, name_of, table_named, type_at, type_in, type_named};
+use crate::roots::roots_of;
+use crate::sources::TypeId;
+use crate::values::value_of;
+use acn_acn_syntax::{AcnEntry, MapTable};
+use acn_asn_syntax::{AsnType, AsnValue};
+use acn_num::{Name, NoMemory, Row};
+use std::alloc::Global;
+
+/// The modules and tables of all files, in which each name leads somewhere, none to itself, and each to what
+/// it must be.
+#[derive(Debug, Drop)]
+pub struct World {
+    index: Index,
+    pub ghost sound: { IsSound (world_from index.modules index.acn index.tables) },
+}
+
+impl World {
+    ghost use Rattle.std.specs.Prelude.{◌≡◌, option_map, option_copied, Some, None, IfOk, IfSome};
+    ghost use Rattle.std.specs.List.{All};
+    ghost use Rattle.acn_asn_syntax.specs.View.{type_view};
+    ghost use Rattle.acn_acn_syntax.specs.View.{entry_of};
+    ghost use Rattle.acn_world.specs.Viewed.{world_view, valued_view};
+    ghost use Rattle.acn_world.specs.Views.{index_view};
+    ghost use Rattle.acn_world.specs.Chained.{chain_view};
+    ghost use Rattle.acn_world.specs.World as world;
+    ghost use Rattle.acn_world.specs.Lookup as lookup;
+    ghost use Rattle.acn_world.specs.Values as values;
+    ghost use Rattle.acn_world.specs.Chains as chains;
+    ghost use Rattle.acn_world.specs.Faults as faults;
+
+    /// The world of an index whose names have no fault.
+    pub fn from_index(index: Index) -> World
+        requires { faults.IsSound (index_view index) }
+        ensures { world_view result ≡ index_view index }
+    {
+        World { index }
+    }
+
+    /// The types without parameters to which no other type refers, in the order of the text.
+    pub fn roots(&self, alloc: Global) -> Result<Row<TypeId>, NoMemory>
+        ensures roots { IfOk result (λ all. all ≡ faults.roots (world_view self.now)) }
+        ensures of_types { IfOk result (λ all. All (world.IsType (world_view self.now)) all) }
+    {
+        roots_of(alloc, &self.index)
+    }
+
+    /// The type with this name in the module with that name, by an assignment of that module itself. None comes
+    /// exactly where there is none. It takes no memory.
+    #[tactic(auto, using(crate::proofs::FoundTypes::found_is_type))]
+    pub fn find(&self, module: &[u8], name: &[u8]) -> Option<TypeId>
+        ensures found { result ≡ lookup.type_in (world_view self.now) «module».now name.now }
+        ensures of_type { IfSome result (world.IsType (world_view self.now)) }
+    {
+        type_in(&self.index, module, name)
+    }
+
+    /// What stands along the chain of a type that stands in the module with this number.
+    pub fn chain<'w>(
+        &'w self,
+        alloc: Global,
+        module: u32,
+        of: &'w AsnType,
+    ) -> Result<Chain<'w>, NoMemory>
+        ensures { IfOk result (λ chain. chain_view chain ≡ chains.chain_of (world_view self.now) (chains.written «module» (type_view of.now))) }
+    {
+        chain_of(alloc, &self.index, module, of)
+    }
+
+    /// The mapping table with this name. None comes exactly where there is none. It takes no memory.
+    pub fn table(&self, name: &[u8]) -> Option<&MapTable>
+        ensures { option_copied result ≡ lookup.table_named (world_view self.now) name.now }
+    {
+        table_named(&self.index, name)
+    }
+
+    /// The type that an assignment gives a name to. It takes no memory.
+    pub fn type_at(&self, of: TypeId) -> &AsnType
+        requires { world.IsType (world_view self.now) of }
+        ensures { Some (type_view result.now) ≡ world.type_at (world_view self.now) of }
+    {
+        type_at(&self.index, of).unwrap()
+    }
+
+    /// The name of an assignment's module, and its own. It takes no memory.
+    pub fn name_of(&self, of: TypeId) -> (&Name, &Name)
+        requires { world.IsType (world_view self.now) of }
+        ensures owner { Some result.0.now ≡ faults.module_name_at (world_view self.now) of }
+        ensures own { Some result.1.now ≡ faults.name_at (world_view self.now) of }
+    {
+        let owner = module_at(&self.index, of.module).unwrap();
+        let item = item_at(owner, of.item).unwrap();
+        (&owner.name, name_of(item))
+    }
+
+    /// What the ACN module of an assignment's module says of it. None comes exactly where no ACN module has an
+    /// entry for it. It takes no memory.
+    pub fn entry_at(&self, of: TypeId) -> Option<&AcnEntry>
+        ensures { option_map (λ e. entry_of e.now) result ≡ lookup.entry_at (world_view self.now) of }
+    {
+        entry_at(&self.index, of)
+    }
+
+    /// The type to which a reference in the module with this number leads: its own assignment, else one that it
+    /// imports. None comes exactly where it names nothing. It takes no memory.
+    #[tactic(auto, using(crate::proofs::FoundTypes::named_is_type))]
+    pub fn lookup(&self, module: u32, name: &[u8]) -> Option<TypeId>
+        ensures found { result ≡ lookup.type_named (world_view self.now) «module» None name.now }
+        ensures of_type { IfSome result (world.IsType (world_view self.now)) }
+    {
+        type_named(&self.index, module, &None, name)
+    }
+
+    /// What an identifier in the module with this number leads to, over references of values: the module, the
+    /// type and the value of the last assignment. It takes no memory.
+    pub fn value(&self, module: u32, name: &[u8]) -> Option<(u32, &AsnType, &AsnValue)>
+        ensures { option_map valued_view result ≡ values.value_of (world_view self.now) «module» name.now }
+    {
+        let worth = value_of(&self.index, module, name)?;
+        Some((worth.owner, worth.of, worth.is))
+    }
+}
