@@ -492,9 +492,10 @@ module _ (leaf : NumLeaf) (fine : IsTrue (num_fine leaf)) (plain : leaf.table �
   begins_law (Flag (Some a) None) e l w = ((λ h. one_pattern a e (nat_is (length p) (length a) w)), λ t. refl)
   begins_law (Flag None (Some b)) e l w = ((λ h. other_pattern b e (nat_is (length p) (length b) w)), λ t. refl)
   begins_law (Flag None None) e l w = ((λ h. one_bit e p refl (nat_is (length p) 1 w)), λ t. refl)
-  begins_law (Fixed a) e l w =
-      ((λ h. (pos 0, a, fixed_code leaf fine plain p a e, begins_is p a h)),
-      λ t. (let s = code_as leaf fine plain p (Fixed a) e l t.0 t.1 t.2 in is_begins p a (nat_is (length p) (length a) w) (ap (take (length p)) (sym s.1) ∙ t.3)))
+  begins_law (Fixed a) e l w = (
+    (λ h. (pos 0, a, fixed_code leaf fine plain p a e, begins_is p a h)),
+    λ t. (let s = code_as leaf fine plain p (Fixed a) e l t.0 t.1 t.2 in is_begins p a (nat_is (length p) (length a) w) (ap (take (length p)) (sym s.1) ∙ t.3)),
+  )
   begins_law (CountedFrom low) e l w = cc
   begins_law CountedSigned e l w = cc
   begins_law (Bcd n) e l w = cc

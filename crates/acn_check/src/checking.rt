@@ -22,11 +22,11 @@ use crate::overlaps::none_overlap;
 use crate::places::{all_clear, few_open};
 use crate::slots::{all_have_few, all_have_width, all_used};
 use crate::tallies::{Tally, count_uses};
+use acn_num::{NoMemory, Path};
 use acn_packet_laws::{
     accepted_is_scoped, accepted_is_sound, bounds_hold, no_fault_without_a_first,
     packets_are_prefix_free, widths_are_lengths,
 };
-use acn_num::{NoMemory, Path};
 use acn_tree::{CheckFault, Tree, interval, value_count};
 use std::alloc::Global;
 

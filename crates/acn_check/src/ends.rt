@@ -174,7 +174,12 @@ fn can_begin(pattern: &[bool], leaf: &NumLeaf) -> bool
         }
         NumCoding::Twos(width) => {
             let least = least_of(*width);
-            image_hit(&least, width.saturating_sub(bits), turned_number(pattern), leaf)
+            image_hit(
+                &least,
+                width.saturating_sub(bits),
+                turned_number(pattern),
+                leaf,
+            )
         }
         NumCoding::Flag { yes, no } => flag_begins(pattern, yes, no),
         NumCoding::Fixed(whole) => begins(pattern, whole),

@@ -14,8 +14,8 @@ use crate::evaluate::{Place, Reading, set_in};
 use crate::low::{Names, set_low};
 use crate::sized::says_size;
 use acn_asn_syntax::{AsnBase, Constraint, Named, Set};
-use acn_world::{Chain, World};
 use acn_num::{NoMemory, RangeSet, Row};
+use acn_world::{Chain, World};
 use std::alloc::Global;
 
 // Adds the constraint that stands between SEQUENCE and OF, where there is one.

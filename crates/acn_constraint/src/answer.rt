@@ -11,9 +11,9 @@ use crate::ends::{filled, opened, sized};
 use crate::evaluate::Reading;
 use crate::span::{BOTTOM, TOP};
 use acn_asn_syntax::Constraint;
+use acn_num::{NoMemory, RangeSet};
 use acn_set_elements::{all_stand, named_of};
 use acn_world::{Chain, World};
-use acn_num::{NoMemory, RangeSet};
 use std::alloc::Global;
 
 /// The numbers of an INTEGER, from `-2^63` to `2^64 - 1`, and whether they have no bound below or above.

@@ -14,9 +14,9 @@ use crate::letters::letters;
 use crate::sized::element_says_size;
 use crate::span::{between, single};
 use acn_asn_syntax::{AsnRange, AsnValue, Element, Meet, Named, Part, Set};
+use acn_num::{NoMemory, RangeSet};
 use acn_set_elements::{character_in, number_in, text_in};
 use acn_world::World;
-use acn_num::{NoMemory, RangeSet};
 use std::alloc::Global;
 
 /// Of what the numbers of a set are.

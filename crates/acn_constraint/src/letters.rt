@@ -3,8 +3,8 @@ ghost use Rattle.acn_constraint.specs.Sets as sets;
 ghost use Rattle.acn_set_elements.specs.Written.{unquoted};
 
 use crate::span::single;
-use acn_set_elements::next_character;
 use acn_num::{NoMemory, RangeSet};
+use acn_set_elements::next_character;
 use std::alloc::Global;
 
 // One character.

@@ -2,9 +2,9 @@
 
 use acn_asn_syntax::AsnValue;
 use acn_constraint::{ConstraintFault, OpenSet, alphabet_of, range_of, size_of};
-use acn_world::{Chain, World};
 use acn_num::RangeSet;
 use acn_source_texts::{Trouble, world_of_module};
+use acn_world::{Chain, World};
 use std::alloc::Global;
 
 /// The chain of the type of the value t in the first module.

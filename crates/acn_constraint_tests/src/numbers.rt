@@ -2,9 +2,9 @@
 
 use crate::measuring::{chain_of_t, numbers, numbers_of_t, world_with_t};
 use acn_constraint::range_of;
-use acn_world::World;
 use acn_num::RangeSet;
 use acn_source_texts::{Trouble, world_of, world_of_module};
+use acn_world::World;
 use std::alloc::Global;
 
 #[test]

@@ -3,8 +3,8 @@ ghost use Rattle.acn_asn_syntax.specs.View.{module_view};
 ghost use Rattle.acn_cycles.specs.Numbers as spec;
 
 use acn_asn_syntax::AsnModule;
-use acn_world::TypeId;
 use acn_num::{NoMemory, Row};
+use acn_world::TypeId;
 use std::alloc::Global;
 
 /// The number of the first assignment of each module.

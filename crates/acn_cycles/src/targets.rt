@@ -7,10 +7,10 @@ ghost use Rattle.acn_world.specs.Cycles as spec;
 
 use acn_asn_syntax::{AsnValue, Assign};
 use acn_mentions::{Mention, push_type};
+use acn_num::NoMemory;
 use acn_world::TypeId;
 use acn_world::index::Index;
 use acn_world::references::{assignment, type_named, value_named};
-use acn_num::NoMemory;
 use std::alloc::Global;
 
 // The type that is mentioned.

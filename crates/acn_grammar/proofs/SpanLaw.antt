@@ -304,9 +304,9 @@ list_between None sizing env e each f h es at bs t =
     (run_none each es (at + length t.front) t.back t.second))
 list_between (Some p) sizing env e each f h es at bs t =
     let first = times_between (sizes_of sizing.sizes) e (element_count es) (length t.spelled.front) (size_has sizing.sizes (element_count es) f t.given)
-          (run_least e each h es at t.spelled.front t.spelled.first)
-          (run_greatest e each h es at t.spelled.front t.spelled.first)
-          (run_none each es at t.spelled.front t.spelled.first) in
+    (run_least e each h es at t.spelled.front t.spelled.first)
+    (run_greatest e each h es at t.spelled.front t.spelled.first)
+    (run_none each es at t.spelled.front t.spelled.first) in
     let last : Between (exactly (length p)) (length t.spelled.back) = rw t.spelled.second (exactly_between (length p)) in
     let whole = then-length t.spelled in
     let swap : length bs ≡ length t.spelled.back + length t.spelled.front = omega arith in

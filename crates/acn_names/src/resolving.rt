@@ -11,11 +11,11 @@ use crate::few::are_few;
 use crate::gathering::gather;
 use crate::wrong::late_fault;
 use acn_cycles::{Round, first_cycle};
+use acn_num::{Name, NoMemory, Row};
 use acn_world::index::Index;
 use acn_world::lookup::module_at;
 use acn_world::references::{assignment, name_of};
 use acn_world::{NameFault, Sources, TypeId, World};
-use acn_num::{Name, NoMemory, Row};
 use std::alloc::Global;
 
 // The name of the module of an assignment.

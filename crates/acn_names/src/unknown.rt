@@ -11,12 +11,12 @@ ghost use Rattle.acn_repeated.specs.Blamed.{blames_view};
 
 use acn_asn_syntax::{AsnBase, AsnModule, AsnType, AsnValue, Assign, Import, Item, Named};
 use acn_mentions::{Mention, push_type};
+use acn_num::{Name, NoMemory, Row};
+use acn_repeated::{Blame, Kind, push_blames};
 use acn_world::chain::{Link, base_of};
 use acn_world::index::Index;
 use acn_world::lookup::{Sort, found, imports_of, module_named, same};
 use acn_world::references::{type_named, value_named};
-use acn_num::{Name, NoMemory, Row};
-use acn_repeated::{Blame, Kind, push_blames};
 use std::alloc::Global;
 
 // Whether one of the named numbers has this name.

@@ -18,12 +18,12 @@ use crate::unknown_acn::{acn_mention_name, acn_type_named};
 use acn_acn_syntax::{AcnEntry, AcnModule};
 use acn_asn_syntax::{AsnBase, AsnModule, AsnType, Assign};
 use acn_mentions::{AcnMention, Mention, Role, push_entry};
+use acn_num::{Name, NoMemory};
+use acn_repeated::{Blame, Kind, push_blames};
 use acn_world::NameFault;
 use acn_world::chain::{Link, assigned_link, base_of};
 use acn_world::index::Index;
 use acn_world::values::leads_to_number;
-use acn_num::{Name, NoMemory};
-use acn_repeated::{Blame, Kind, push_blames};
 use std::alloc::Global;
 
 // Whether the type is INTEGER.

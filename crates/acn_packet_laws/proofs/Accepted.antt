@@ -39,10 +39,10 @@ module _ (root : Grammar) (tree : IsTree root) (sound : (f : CheckFault) → Und
       record {
         fine = (both_are (sizes_fine sizing.sizes) (list_rule_fine (ending sizing.rule) sizing) fine).0;
         told = λ ambiguous. sound (terminator_ambiguous path) (
-              length pre,
-              0,
-              (here, ap (λ l. slice_get l (length pre)) p.whole ∙ get_here pre here (form_nodes path around (list sizing g) ++ post), refl, subst (λ (o : Option (List Bool)). EndAmbiguous o g) (sym e) ambiguous),
-            );
+          length pre,
+          0,
+          (here, ap (λ l. slice_get l (length pre)) p.whole ∙ get_here pre here (form_nodes path around (list sizing g) ++ post), refl, subst (λ (o : Option (List Bool)). EndAmbiguous o g) (sym e) ambiguous),
+        );
       }
 
   mutual

@@ -61,19 +61,31 @@ pub record CountedCoding (coding : NumCoding) (little : Bool) (number_in : List 
 pub from_low : (low : ℤ) (little : Bool) → CountedCoding (CountedFrom low) little (λ b. pos (number b)) (λ x. least_octets (nat_abs x)) (λ x. low +ℤ x)
 from_low low little = record {
   enough = λ c body p few l. least_at (number body) (small_number c body few l) c body p (record { width = l; value = refl });
-  codes = λ c front body p few l need counts. (number body, refl, record {
-    count = c; front = front; body = body; whole = refl; counts = counts;
-    spells = record { width = l; value = refl };
-    positive = p;
-    least = λ d other q s. (let m = least_at (number body) (small_number c body few l) d other q s in omega (arith, need));
-  });
+  codes = λ c front body p few l need counts. (
+    number body,
+    refl,
+    record {
+      count = c;
+      front = front;
+      body = body;
+      whole = refl;
+      counts = counts;
+      spells = record { width = l; value = refl };
+      positive = p;
+      least = λ d other q s. (let m = least_at (number body) (small_number c body few l) d other q s in omega (arith, need));
+    },
+  );
 }
 
 pub from_signed : (little : Bool) → CountedCoding CountedSigned little signed_number least_signed_octets (λ x. x)
 from_signed little = record {
   enough = λ c body p few l. signed_at (signed_number body) (eight c body p few l) c body p (record { width = l; value = refl });
   codes = λ c front body p few l need counts. record {
-    count = c; front = front; body = body; whole = refl; counts = counts;
+    count = c;
+    front = front;
+    body = body;
+    whole = refl;
+    counts = counts;
     spells = record { width = l; value = refl };
     positive = p;
     least = λ d other q s. (let m = signed_at (signed_number body) (eight c body p few l) d other q s in omega (arith, need));

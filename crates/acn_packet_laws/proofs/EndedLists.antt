@@ -46,4 +46,3 @@ module _ (p : List Bool) (each other : Data → Part) where
       let first = one.1.0 in
       let rest = one.1.1 in
       (one.0, cc)
-

@@ -151,12 +151,15 @@ module _ (here : Here) (leaf : TextLeaf) (end : List Bool) (eight : leaf.width �
             cc
 
     found_text : In leaf.sized.sizes (pos i) → (cs : List ℕ) → length cs ≡ i → CharactersPart leaf cs at (take (8 * i) rest) → (cs : List ℕ) × FrontOf (EndedPart (Some end) leaf env cs) at rest
-    found_text p cs l t = (cs, record {
-      front = take (8 * i) rest ++ end;
-      back = drop (8 * length (octet_numbers end)) (drop (8 * i) rest);
-      whole = parts;
-      spelled = record { given = (subst (λ (n : ℕ). In leaf.sized.sizes (pos n)) (sym l) p, first cs l t); spelled = record { front = take (8 * i) rest; back = end; whole = refl; first = t; second = refl } };
-    })
+    found_text p cs l t = (
+      cs,
+      record {
+        front = take (8 * i) rest ++ end;
+        back = drop (8 * length (octet_numbers end)) (drop (8 * i) rest);
+        whole = parts;
+        spelled = record { given = (subst (λ (n : ℕ). In leaf.sized.sizes (pos n)) (sym l) p, first cs l t); spelled = record { front = take (8 * i) rest; back = end; whole = refl; first = t; second = refl } };
+      },
+    )
 
   abbrev Goal : ℕ → Option ℕ → Type 0
   Goal most o = ((cs : List ℕ) × FrontOf (EndedPart (Some end) leaf env cs) at rest) ⊎ ((fault : Fault) × (reach : ℕ) × FoundFails here leaf (length end) most (length (octet_values rest)) rest o fault reach)

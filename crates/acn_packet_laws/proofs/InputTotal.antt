@@ -18,14 +18,18 @@ use Rattle.acn_packet_laws.proofs.NodeTotal.{node_total}
 pub each_input_is_read_or_fails : EachInputIsReadOrFails
 each_input_is_read_or_fails root input accepted =
     let o = node_total root text_total root (λ s. false) (λ s. false) (tree_fine root accepted.formed) (root_laid root accepted.formed (accepted_sound root accepted)) (accepted_scoped root accepted) (λ s h. h) (λ s h. cc) []
-        (record { permitted = tt; have = λ s h. cc; only = λ s h. refl }) false 0 [] 0 input in
+    (record { permitted = tt; have = λ s h. cc; only = λ s h. refl }) false 0 [] 0 input in
     by o.moved.now o.moved.same o.result
   where
     by : (now : Env) → SameKeys [] now → ((d : Data) × FrontOf (Spell root Any root now d) 0 input) ⊎ Stuck (Fails root root now false 0 []) 0 input → ((d : Data) × (n : ℕ) × Front root input d n) ⊎ ((fault : Fault) × (reach : ℕ) × Refusal root input fault reach)
     by (e ∷ now) k r = absurd k
     by [] k (inr x) = inr x
     by [] k (inl (d, f)) =
-        inl (d, length f.front, record {
-          within = omega (arith, ap length f.whole, length-append f.front f.back);
-          spelled = subst (λ (z : List Bool). Spell root Any root [] d 0 z) (sym (ap (take (length f.front)) f.whole ∙ take_front f.front f.back)) f.spelled;
-        })
+        inl (
+          d,
+          length f.front,
+          record {
+            within = omega (arith, ap length f.whole, length-append f.front f.back);
+            spelled = subst (λ (z : List Bool). Spell root Any root [] d 0 z) (sym (ap (take (length f.front)) f.whole ∙ take_front f.front f.back)) f.spelled;
+          },
+        )

@@ -215,7 +215,7 @@ module _ (root : Grammar) (tree : IsTree root) (sound : (f : CheckFault) → Und
         let here = here_at role path around align (seq fields home) in
         let stand = place_fine (nodes_of root) (numbers root tree sound) (rules root tree sound) pre role path around align (seq fields home) post p in
         let inner = laid_fields fields (pre ++ here_at role path around align (seq fields home) ∷ []) path (home ++ around) 0 post (to_fields (nodes_of root) (numbers root tree sound) (rules root tree sound) pre role path around align fields home post p)
-            (λ s h. f s (or_right (is_slot s (slot_here role)) (has_field s (field_nodes path (home ++ around) 0 fields)) h)) fine.1 (λ s. holds home s || keys s) (λ s. ap (λ b. holds home s || b) (same s) ∙ sym (holds-append home around s)) in (
+        (λ s h. f s (or_right (is_slot s (slot_here role)) (has_field s (field_nodes path (home ++ around) 0 fields)) h)) fine.1 (λ s. holds home s || keys s) (λ s. ap (λ b. holds home s || b) (same s) ∙ sym (holds-append home around s)) in (
           inner,
           (λ s h. near_some root fields (λ t. holds home t || keys t) fine.1 inner s (home_near (nodes_of root) (numbers root tree sound) (rules root tree sound) here fields home stand.home s h)),
           (λ s h. false_from (keys s) (λ k. (let o = outer_home root tree sound pre role path around align fields home post p s (sym (same s) ∙ k) in cc))),

@@ -184,12 +184,17 @@ signed_wire n k little (a ∷ b ∷ c ∷ d ∷ e ∷ f ∷ g ∷ h ∷ rest) l 
     spells : (o : ℕ) (y : ℤ) (v : ℕ) → s ≡ o → AllDigits 48 (octet_values rest) → v ≡ value_of 48 (octet_values rest) → SignOctet true y v (low_bits 8 o) → CodingCode Any (Ascii n true) little y (a ∷ b ∷ c ∷ d ∷ e ∷ f ∷ g ∷ h ∷ rest)
     spells o y v is all value sign =
         let ds = map (λ d. d - 48) (octet_values rest) in
-        let back : digit_octets (map (λ d. d - 48) (octet_values rest)) ++ [] ≡ rest = append-nil (digit_octets ds) ∙ digit_octets_whole k rest (omega arith) all in
-        (v, low_bits 8 o, sign, l', record {
-          digits = ds;
-          spell = record { digits = digits_down 48 (octet_values rest) all; value = sym value };
-          whole = sym (ap (λ z. low_bits 8 z ++ (digit_octets (map (λ d. d - 48) (octet_values rest)) ++ [])) (sym is) ∙ (ap (λ z. z ++ (digit_octets (map (λ d. d - 48) (octet_values rest)) ++ [])) (octet_back first refl) ∙ ap (λ z. first ++ z) back));
-        })
+        let back : digit_octets (map (λ d. d - 48) (octet_values rest)) ++ [] ≡ rest = append-nil (digit_octets ds) ∙ digit_octets_whole k rest (omega arith) all in (
+          v,
+          low_bits 8 o,
+          sign,
+          l',
+          record {
+            digits = ds;
+            spell = record { digits = digits_down 48 (octet_values rest) all; value = sym value };
+            whole = sym (ap (λ z. low_bits 8 z ++ (digit_octets (map (λ d. d - 48) (octet_values rest)) ++ [])) (sym is) ∙ (ap (λ z. z ++ (digit_octets (map (λ d. d - 48) (octet_values rest)) ++ [])) (octet_back first refl) ∙ ap (λ z. first ++ z) back));
+          },
+        )
 
     by : (s ≡ 43) ⊎ (s ≡ 43 → ⊥) → (s ≡ 45) ⊎ (s ≡ 45 → ⊥) → AllDigits 48 (octet_values rest) ⊎ (AllDigits 48 (octet_values rest) → ⊥) → (0 < value_of 48 (octet_values rest)) ⊎ (value_of 48 (octet_values rest) ≤ 0) → Goal
     by p m (inr other) v = record { wire = wrong bad_digit; stands = inr (inr (inr ((λ o all. other all), refl))); codes = tt }

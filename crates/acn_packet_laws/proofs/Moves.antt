@@ -247,7 +247,6 @@ module _ (root : Grammar) where
   slot_moves (node align (num leaf)) env env' s e at bs t = (t.0, sym e ∙ t.1, t.2)
   slot_moves (node align _) env env' s e at bs t = absurd t.0
 
-
   pub chosen_moves : (rule : ChoiceRule) (ks : Known) (env env' : Env) → Agree ks env env' → (name : List ℕ) (ts : List Test) → RuleKnown ks rule ts → Chosen root rule env name ts → Chosen root rule env' name ts
   chosen_moves (Index width) ks env env' a name ts known h = tt
   chosen_moves Tests ks env env' a name ts known h = all_hold_too ks env' env (agree_back ks env env' a) ts known h
@@ -309,7 +308,10 @@ module _ (root : Grammar) where
           numbers = t.numbers;
           fine = t.fine;
           spelled = record {
-            front = u.front; back = u.back; whole = u.whole; first = u.first;
+            front = u.front;
+            back = u.back;
+            whole = u.whole;
+            first = u.first;
             second = fields_move fields (λ s. holds home s || keys s) ks laid.0 fine.1 (with_home home t.numbers env) (with_home home t.numbers env') (agree_inside ks home t.numbers t.numbers env env' fine.0 a)
                 (λ s h. home_moves home t.numbers env env' s (t.fine).count (λ n. b s (both_true (fields_opens fields s) (holds home s) h n))) ps (at + length u.front) u.back u.second;
           };
@@ -326,7 +328,9 @@ module _ (root : Grammar) where
         record {
           some = t.some;
           spelled = record {
-            front = u.front; back = u.back; whole = u.whole;
+            front = u.front;
+            back = u.back;
+            whole = u.whole;
             first = size_moves sizing ks fine.0 env env' a t.some at u.front u.first;
             second = record { size = w.size; inside = record { front = v.front; back = v.back; whole = v.whole; first = spell_moves g keys ks laid.0 fine.1 env env' a (shut_agree g env env' laid.1) d 0 v.front v.first; second = v.second } };
           };
@@ -338,7 +342,9 @@ module _ (root : Grammar) where
     fields_move (component name g presence default own fs) keys ks laid fine env env' a b (filled d ps) at bs t =
         let u = t.first in
         record {
-          front = t.front; back = t.back; whole = t.whole;
+          front = t.front;
+          back = t.back;
+          whole = t.whole;
           first = record {
             given = (there_moves presence ks fine.0 env env' a u.given.0, own_moves own env env' d (λ s h. b s (or_left (is_own own s) (opens g s || fields_opens fs s) h)) u.given.1);
             spelled = spell_moves g keys ks laid.0 fine.1 env env' a (λ s h. b s (or_right (is_own own s) (opens g s || fields_opens fs s) (or_left (opens g s) (fields_opens fs s) h))) d at t.front u.spelled;
@@ -354,7 +360,9 @@ module _ (root : Grammar) where
         }
     fields_move (inserted name g (Some s) fs) keys ks laid fine env env' a b ps at bs t =
         record {
-          front = t.front; back = t.back; whole = t.whole;
+          front = t.front;
+          back = t.back;
+          whole = t.whole;
           first = slot_moves g env env' s (b s (or_left (nat_eq s s) (fields_opens fs s) (self_eq s))) at t.front t.first;
           second = fields_move fs keys (with_slot s ks) laid.2 fine.1 env env' (λ u h. either_agree (or_either (nat_eq s u) (ks u) h) u) (λ u h. b u (or_right (nat_eq s u) (fields_opens fs u) h)) ps (at + length t.front) t.back t.second;
         }
@@ -364,7 +372,9 @@ module _ (root : Grammar) where
         either_agree {u} (inr h) v = a u h
     fields_move (inserted name g None fs) keys ks laid fine env env' a b ps at bs t =
         record {
-          front = t.front; back = t.back; whole = t.whole;
+          front = t.front;
+          back = t.back;
+          whole = t.whole;
           first = spell_moves g keys ks laid.0 fine.0 env env' a (shut_agree g env env' laid.1) null at t.front t.first;
           second = fields_move fs keys ks laid.3 fine.1 env env' a b ps (at + length t.front) t.back t.second;
         }

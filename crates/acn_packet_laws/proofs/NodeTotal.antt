@@ -276,22 +276,27 @@ module _ (root : Grammar) (text_total : TextTotal) where
           inr (says here short, length s.front.front + length s.front.back, inr (record { n = s.n; behind = record { front = s.front.front; back = s.front.back; whole = s.front.whole; spelled = s.front.spelled; more = length s.front.back; fails = (h, refl, refl); reaches = refl } }))
       by (inr h) =
           let m = make s.n (take (each * s.n) s.front.back) (length-take-le (each * s.n) s.front.back h) at in
-          inl (m.0, record {
-            front = s.front.front ++ take (each * s.n) s.front.back;
-            back = drop (each * s.n) s.front.back;
-            whole = s.front.whole ∙ (ap (λ z. s.front.front ++ z) (sym (take-append-drop (each * s.n) s.front.back)) ∙ sym (append_assoc s.front.front (take (each * s.n) s.front.back) (drop (each * s.n) s.front.back)));
-            spelled = m.1 s.front.front s.front.spelled;
-          })
+          inl (
+            m.0,
+            record {
+              front = s.front.front ++ take (each * s.n) s.front.back;
+              back = drop (each * s.n) s.front.back;
+              whole = s.front.whole ∙ (ap (λ z. s.front.front ++ z) (sym (take-append-drop (each * s.n) s.front.back)) ∙ sym (append_assoc s.front.front (take (each * s.n) s.front.back) (drop (each * s.n) s.front.back)));
+              spelled = m.1 s.front.front s.front.spelled;
+            },
+          )
 
   octets_make : (sizing : Sizing) (env : Env) (at n : ℕ) (bs : List Bool) → length bs ≡ 8 * n → (at' : ℕ) → (d : Data) × ((front : List Bool) → SizePart sizing env n at front → FormPart root Any (octets sizing) env d at (front ++ bs))
-  octets_make sizing env at n bs l at' =
-      (octet_string (octet_values bs), λ front s. record {
-        front = front;
-        back = bs;
-        whole = refl;
-        first = subst (λ (m : ℕ). SizePart sizing env m at front) (sym (octets_count n bs l)) s;
-        second = record { given = octets_are n bs l; spelled = sym (octets_whole n bs l) };
-      })
+  octets_make sizing env at n bs l at' = (
+    octet_string (octet_values bs),
+    λ front s. record {
+      front = front;
+      back = bs;
+      whole = refl;
+      first = subst (λ (m : ℕ). SizePart sizing env m at front) (sym (octets_count n bs l)) s;
+      second = record { given = octets_are n bs l; spelled = sym (octets_whole n bs l) };
+    },
+  )
 
   bits_make : (sizing : Sizing) (env : Env) (at n : ℕ) (bs : List Bool) → length bs ≡ 1 * n → (at' : ℕ) → (d : Data) × ((front : List Bool) → SizePart sizing env n at front → FormPart root Any (bits sizing) env d at (front ++ bs))
   bits_make sizing env at n bs l at' =
@@ -377,18 +382,22 @@ module _ (root : Grammar) (text_total : TextTotal) where
           ended q (inl (es, i, h)) =
               let s = forward m.now q.now (λ t. q.rest t refl) d at f.front f.spelled in
               let u = h.spelled in
-              inl (element d es, subst (λ (z : ℕ). In sizing.sizes (pos z)) (omega arith) i, record {
-                front = f.front ++ h.front;
-                back = h.back;
-                whole = f.whole ∙ (ap (λ z. f.front ++ z) h.whole ∙ sym (append_assoc f.front h.front h.back));
-                spelled = record {
-                  front = f.front ++ u.front;
-                  back = u.back;
-                  whole = ap (λ z. f.front ++ z) u.whole ∙ sym (append_assoc f.front u.front u.back);
-                  first = record { front = f.front; back = u.front; whole = refl; first = s; second = u.first };
-                  second = u.second;
-                };
-              })
+              inl (
+                element d es,
+                subst (λ (z : ℕ). In sizing.sizes (pos z)) (omega arith) i,
+                record {
+                  front = f.front ++ h.front;
+                  back = h.back;
+                  whole = f.whole ∙ (ap (λ z. f.front ++ z) h.whole ∙ sym (append_assoc f.front h.front h.back));
+                  spelled = record {
+                    front = f.front ++ u.front;
+                    back = u.back;
+                    whole = ap (λ z. f.front ++ z) u.whole ∙ sym (append_assoc f.front u.front u.back);
+                    first = record { front = f.front; back = u.front; whole = refl; first = s; second = u.first };
+                    second = u.second;
+                  };
+                },
+              )
           ended q (inr x) = (let b = join_stuck {P = Spell root Any g q.now d} at rest f.front f.back f.whole (forward m.now q.now (λ s. q.rest s refl) d at f.front f.spelled) x in inr (b.0, b.1, inr (inr (d, b.2))))
 
   -- Slots whose fields stand in a node are keys.
@@ -513,10 +522,14 @@ module _ (root : Grammar) (text_total : TextTotal) where
       stuck : (n : ℕ) (f : FrontOf (SizePart sizing env n) at rest) (q : Moved root keys none env) → (fault : Fault) (reach : ℕ)
           → (Short here (8 * n) (at + length f.front) f.back fault reach ⊎ ((8 * n ≤ length f.back) × (((inner : ℕ) × Fails root g q.now true (origin + (at + length f.front)) (here.path ++ 0 ∷ []) 0 (take (8 * n) f.back) fault inner) ⊎ ((d : Data) × Overlong root here n (Spell root Any g q.now d) (take (8 * n) f.back) fault)) × (reach ≡ 8 * n)))
           → Stuck (FormFails root (contained sizing g) q.now here origin) at rest
-      stuck n f q fault reach x = (fault, length f.front + reach, inr (record {
-        n = n;
-        behind = record { front = f.front; back = f.back; whole = f.whole; spelled = size_moves root sizing ks known env q.now (λ s k. q.rest s refl) n at f.front f.spelled; more = reach; fails = x; reaches = refl };
-      }))
+      stuck n f q fault reach x = (
+        fault,
+        length f.front + reach,
+        inr (record {
+          n = n;
+          behind = record { front = f.front; back = f.back; whole = f.whole; spelled = size_moves root sizing ks known env q.now (λ s k. q.rest s refl) n at f.front f.spelled; more = reach; fails = x; reaches = refl };
+        }),
+      )
 
       filled_up : (a b n : ℕ) → a + b ≡ 8 * n → ((0 + a) + b) % 8 ≡ 0
       filled_up a b n h = omega (arith, h)
@@ -527,24 +540,27 @@ module _ (root : Grammar) (text_total : TextTotal) where
           inr (stuck n f q (says here (content_size n (length c.front))) (8 * n) (inr (h, inr (d, record { used = c.front; left = c.back; whole = c.whole; spelled = c.spelled; byte = byte; says = refl }), refl)))
       content_read n f q h d c (inl few) =
           let l = length-take-le (8 * n) f.back h in
-          inl (d, record {
-            front = f.front ++ take (8 * n) f.back;
-            back = drop (8 * n) f.back;
-            whole = f.whole ∙ (ap (λ z. f.front ++ z) (sym (take-append-drop (8 * n) f.back)) ∙ sym (append_assoc f.front (take (8 * n) f.back) (drop (8 * n) f.back)));
-            spelled = record {
-              some = n;
+          inl (
+            d,
+            record {
+              front = f.front ++ take (8 * n) f.back;
+              back = drop (8 * n) f.back;
+              whole = f.whole ∙ (ap (λ z. f.front ++ z) (sym (take-append-drop (8 * n) f.back)) ∙ sym (append_assoc f.front (take (8 * n) f.back) (drop (8 * n) f.back)));
               spelled = record {
-                front = f.front;
-                back = take (8 * n) f.back;
-                whole = refl;
-                first = size_moves root sizing ks known env q.now (λ s k. q.rest s refl) n at f.front f.spelled;
-                second = record {
-                  size = l;
-                  inside = record { front = c.front; back = c.back; whole = c.whole; first = c.spelled; second = record { aligned = filled_up (length c.front) (length c.back) n (sym (ap length c.whole ∙ length-append c.front c.back) ∙ l); few = few; zeros = λ e. cc } };
+                some = n;
+                spelled = record {
+                  front = f.front;
+                  back = take (8 * n) f.back;
+                  whole = refl;
+                  first = size_moves root sizing ks known env q.now (λ s k. q.rest s refl) n at f.front f.spelled;
+                  second = record {
+                    size = l;
+                    inside = record { front = c.front; back = c.back; whole = c.whole; first = c.spelled; second = record { aligned = filled_up (length c.front) (length c.back) n (sym (ap length c.whole ∙ length-append c.front c.back) ∙ l); few = few; zeros = λ e. cc } };
+                  };
                 };
               };
-            };
-          })
+            },
+          )
 
       ended : (n : ℕ) (f : FrontOf (SizePart sizing env n) at rest) (q : Moved root keys none env) → 8 * n ≤ length f.back → ((d : Data) × FrontOf (Spell root Any g q.now d) 0 (take (8 * n) f.back)) ⊎ Stuck (Fails root g q.now true (origin + (at + length f.front)) (here.path ++ 0 ∷ [])) 0 (take (8 * n) f.back)
           → ((d : Data) × FrontOf (FormPart root Any (contained sizing g) q.now d) at rest) ⊎ Stuck (FormFails root (contained sizing g) q.now here origin) at rest
@@ -612,8 +628,11 @@ module _ (root : Grammar) (text_total : TextTotal) where
       ended : (i : ℕ) (now : Env) → index_width rule ≤ length rest → IndexIs root rule rest i → IndexPart root rule i at (take (index_width rule) rest) → ((d : Data) × FrontOf (AlternativePart root Any cases rule now i d) (at + index_width rule) (drop (index_width rule) rest)) ⊎ Stuck (AlternativeFails root cases rule now here origin i i) (at + index_width rule) (drop (index_width rule) rest)
           → ((d : Data) × FrontOf (FormPart root Any (choice cases rule) now d) at rest) ⊎ Stuck (FormFails root (choice cases rule) now here origin) at rest
       ended i now h is p (inl (d, f)) =
-          inl (alt i d, join_front at rest (take (index_width rule) rest) (drop (index_width rule) rest) (sym (take-append-drop (index_width rule) rest)) p
-          (subst (λ (n : ℕ). FrontOf (AlternativePart root Any cases rule now i d) (at + n) (drop (index_width rule) rest)) (sym (length-take-le (index_width rule) rest h)) f))
+          inl (
+            alt i d,
+            join_front at rest (take (index_width rule) rest) (drop (index_width rule) rest) (sym (take-append-drop (index_width rule) rest)) p
+                (subst (λ (n : ℕ). FrontOf (AlternativePart root Any cases rule now i d) (at + n) (drop (index_width rule) rest)) (sym (length-take-le (index_width rule) rest h)) f),
+          )
       ended i now h is p (inr x) = inr (x.0, index_width rule + x.1, inr (i, is, (h, (x.1, x.2, refl))))
 
       go : (i : ℕ) → index_width rule ≤ length rest → IndexIs root rule rest i → IndexPart root rule i at (take (index_width rule) rest) → ChosenAt cases rule env i → Goal
@@ -659,22 +678,25 @@ module _ (root : Grammar) (text_total : TextTotal) where
           → ((d : Data) × FrontOf (FormPart root Any (seq fields home) now d) at rest) ⊎ Stuck (FormFails root (seq fields home) now here origin) at rest
       ended ys now h count permitted (inl (ps, flags, f)) =
           let l = length-take-le (presence_count fields) rest h in
-          inl (record_of ps, record {
-            front = take (presence_count fields) rest ++ f.front;
-            back = f.back;
-            whole = sym (take-append-drop (presence_count fields) rest) ∙ (ap (λ z. take (presence_count fields) rest ++ z) f.whole ∙ sym (append_assoc (take (presence_count fields) rest) f.front f.back));
-            spelled = record {
-              numbers = ys;
-              fine = record { count = count; permitted = permitted; least = λ e. cc };
+          inl (
+            record_of ps,
+            record {
+              front = take (presence_count fields) rest ++ f.front;
+              back = f.back;
+              whole = sym (take-append-drop (presence_count fields) rest) ∙ (ap (λ z. take (presence_count fields) rest ++ z) f.whole ∙ sym (append_assoc (take (presence_count fields) rest) f.front f.back));
               spelled = record {
-                front = take (presence_count fields) rest;
-                back = f.front;
-                whole = refl;
-                first = sym flags;
-                second = subst (λ (m : ℕ). FieldsPart root Any fields (with_home home ys now) ps (at + m) f.front) (sym l) f.spelled;
+                numbers = ys;
+                fine = record { count = count; permitted = permitted; least = λ e. cc };
+                spelled = record {
+                  front = take (presence_count fields) rest;
+                  back = f.front;
+                  whole = refl;
+                  first = sym flags;
+                  second = subst (λ (m : ℕ). FieldsPart root Any fields (with_home home ys now) ps (at + m) f.front) (sym l) f.spelled;
+                };
               };
-            };
-          })
+            },
+          )
       ended ys now h count permitted (inr x) = inr (x.0, presence_count fields + x.1, inr (ys, count, permitted, (h, (x.1, x.2, refl))))
 
       by : (length rest < presence_count fields) ⊎ (presence_count fields ≤ length rest) → Outcome keys (form_opens (seq fields home)) env (λ e. FormPart root Any (seq fields home) e) (λ e. FormFails root (seq fields home) e here origin) at rest
@@ -922,7 +944,7 @@ module _ (root : Grammar) (text_total : TextTotal) where
         → Outcome keys (λ s. opens g s) env (λ e. Spell root Any g e) (λ e. Fails root g e inside origin path) at rest
     node_total (node align form) keys ks fine laid scoped within apart env good inside origin path at rest =
         node_done align at fine.0 form keys env good inside origin path rest
-            (form_total form keys ks fine.1 laid scoped within apart env good (record { path = path; place = origin + at; inside = inside }) origin (at + length (take (padding align at) rest)) (drop (padding align at) rest))
+        (form_total form keys ks fine.1 laid scoped within apart env good (record { path = path; place = origin + at; inside = inside }) origin (at + length (take (padding align at) rest)) (drop (padding align at) rest))
 
     form_total : (form : Form) (keys ks : Known) → FormFine form → FormLaid root keys form → FormScoped root ks form → ((s : ℕ) → ks s ≡ true → keys s ≡ true) → ((s : ℕ) → ks s ≡ true → form_opens form s ≡ false) → (env : Env) → Good root keys env → (here : Here) (origin at : ℕ) (rest : List Bool)
         → Outcome keys (λ s. form_opens form s) env (λ e. FormPart root Any form e) (λ e. FormFails root form e here origin) at rest

@@ -47,9 +47,9 @@ split_other front back other more e =
 behind_steady : (P : Part) (F : Failing) → Steady F → Steady (Behind P F)
 behind_steady P F h at rest fault reach t r =
     λ other e.
-        let wide : take (length t.front + t.more) other ≡ take (length t.front + t.more) (t.front ++ t.back) = rw (← t.reaches, ← t.whole) e in
-        let p = split_other t.front t.back other t.more wide in
-        record { front = t.front; back = drop (length t.front) other; whole = p.0; spelled = t.spelled; more = t.more; fails = h (at + length t.front) t.back fault t.more t.fails r (drop (length t.front) other) p.1; reaches = t.reaches }
+    let wide : take (length t.front + t.more) other ≡ take (length t.front + t.more) (t.front ++ t.back) = rw (← t.reaches, ← t.whole) e in
+    let p = split_other t.front t.back other t.more wide in
+    record { front = t.front; back = drop (length t.front) other; whole = p.0; spelled = t.spelled; more = t.more; fails = h (at + length t.front) t.back fault t.more t.fails r (drop (length t.front) other) p.1; reaches = t.reaches }
 
 -- a node that no window is round
 abbrev pub out : List ℕ → ℕ → Here
@@ -72,10 +72,10 @@ pub rule_steady : (path : List ℕ) (place : ℕ) (sizing : Sizing) (rule : Size
 rule_steady path place sizing (Prefix low width) env at rest fault reach (inl t) r = absurd (r (ap (λ f. f.reason) t.1))
 rule_steady path place sizing (Prefix low width) env at rest fault reach (inr t) r =
     λ other e.
-        let is = t.3 in
-        let same = same_within reach width other rest (omega arith) e in
-        let far = long_enough width other rest t.0 same in
-        inr (far, rw same t.1, rw same t.2, t.3)
+    let is = t.3 in
+    let same = same_within reach width other rest (omega arith) e in
+    let far = long_enough width other rest t.0 same in
+    inr (far, rw same t.1, rw same t.2, t.3)
 rule_steady path place sizing (Slot s) env at rest fault reach t r = λ other e. t
 rule_steady path place sizing (Ended end) env at rest fault reach t r = absurd t
 
@@ -90,16 +90,16 @@ after_steady : (n : ℕ) (F : List Bool → Failing) → ((flags : List Bool) �
 after_steady n F h at rest fault reach t r =
     let s = h (take n rest) (at + n) (drop n rest) fault t.1.0 t.1.1 r in
     λ other e.
-        let is = t.1.2 in
-        let low = t.0 in
-        let same = same_within reach n other rest (omega arith) e in
-        let far = long_enough n other rest low same in
-        let front : length (take n rest) ≡ n = omega (arith, length-take n rest) in
-        let whole = sym (take-append-drop n rest) in
-        let wide : take (length (take n rest) + t.1.0) other ≡ take (length (take n rest) + t.1.0) (take n rest ++ drop n rest) = rw (front, ← t.1.2, ← whole) e in
-        let p = split_other (take n rest) (drop n rest) other t.1.0 wide in
-        let rest_is : take t.1.0 (drop n other) ≡ take t.1.0 (drop n rest) = ap (λ k. take t.1.0 (drop k other)) (sym front) ∙ p.1 in
-        (far, (t.1.0, rw same (s (drop n other) rest_is), t.1.2))
+    let is = t.1.2 in
+    let low = t.0 in
+    let same = same_within reach n other rest (omega arith) e in
+    let far = long_enough n other rest low same in
+    let front : length (take n rest) ≡ n = omega (arith, length-take n rest) in
+    let whole = sym (take-append-drop n rest) in
+    let wide : take (length (take n rest) + t.1.0) other ≡ take (length (take n rest) + t.1.0) (take n rest ++ drop n rest) = rw (front, ← t.1.2, ← whole) e in
+    let p = split_other (take n rest) (drop n rest) other t.1.0 wide in
+    let rest_is : take t.1.0 (drop n other) ≡ take t.1.0 (drop n rest) = ap (λ k. take t.1.0 (drop k other)) (sym front) ∙ p.1 in
+    (far, (t.1.0, rw same (s (drop n other) rest_is), t.1.2))
 
 run_steady : (each : Data → Part) (fails : ℕ → Failing) → ((k : ℕ) → Steady (fails k)) → (n k : ℕ) → Steady (RunFails each fails n k)
 run_steady each fails h zero k at rest fault reach t r = absurd t
@@ -111,22 +111,22 @@ run_steady each fails h (suc n) k at rest fault reach (inr t) r =
 end_steady : (path : List ℕ) (place : ℕ) (p : List Bool) (sizing : Sizing) (k : ℕ) → Steady (EndFails (out path place) p sizing k)
 end_steady path place p sizing k at rest fault reach t r =
     λ other e.
-        let same = same_within reach (length p) other rest (omega (arith, t.3)) e in
-        (same ∙ t.0, t.1, t.2, t.3)
+    let same = same_within reach (length p) other rest (omega (arith, t.3)) e in
+    (same ∙ t.0, t.1, t.2, t.3)
 
 no_end_steady : (path : List ℕ) (place : ℕ) (p : List Bool) → Steady (NoEnd (out path place) p)
 no_end_steady path place p at rest fault reach (inl t) r = absurd (r (ap (λ f. f.reason) t.1))
 no_end_steady path place p at rest fault reach (inr t) r =
     λ other e.
-        let same = same_within reach (length p) other rest (omega (arith, t.3)) e in
-        inr (long_enough (length p) other rest t.0 same, (λ h. t.1 (sym same ∙ h)), t.2, t.3)
+    let same = same_within reach (length p) other rest (omega (arith, t.3)) e in
+    inr (long_enough (length p) other rest t.0 same, (λ h. t.1 (sym same ∙ h)), t.2, t.3)
 
 next_steady : (p : List Bool) (F : Failing) → Steady F → Steady (NextFails p F)
 next_steady p F h at rest fault reach t r =
     λ other e.
-        let same = same_within reach (length p) other rest (omega (arith, t.1.2)) e in
-        let inner = same_within reach t.1.0 other rest (omega (arith, t.1.2)) e in
-        ((λ x. t.0 (sym same ∙ x)), (t.1.0, h at rest fault t.1.0 t.1.1 r other inner, t.1.2))
+    let same = same_within reach (length p) other rest (omega (arith, t.1.2)) e in
+    let inner = same_within reach t.1.0 other rest (omega (arith, t.1.2)) e in
+    ((λ x. t.0 (sym same ∙ x)), (t.1.0, h at rest fault t.1.0 t.1.1 r other inner, t.1.2))
 
 ended_steady : (path : List ℕ) (place : ℕ) (p : List Bool) (sizing : Sizing) (each : Data → Part) (fails : ℕ → Failing) → ((k : ℕ) → Steady (fails k)) → (n k : ℕ) → Steady (EndedFails (out path place) p sizing each fails n k)
 ended_steady path place p sizing each fails h zero k at rest fault reach (inl t) r = λ other e. inl (end_steady path place p sizing k at rest fault reach t r other e)
@@ -156,10 +156,10 @@ module _ (root : Grammar) (leaves : (leaf : NumLeaf) → LeafSteady leaf) (texts
   index_steady path place (Index width) cases env at rest fault reach (inl t) r = absurd (r (ap (λ f. f.reason) t.1))
   index_steady path place (Index width) cases env at rest fault reach (inr t) r =
       λ other e.
-          let is = t.3 in
-          let same = same_within reach width other rest (omega arith) e in
-          let far = long_enough width other rest t.0 same in
-          inr (far, rw same t.1, t.2, t.3)
+      let is = t.3 in
+      let same = same_within reach width other rest (omega arith) e in
+      let far = long_enough width other rest t.0 same in
+      inr (far, rw same t.1, t.2, t.3)
   index_steady path place Tests cases env at rest fault reach t r = λ other e. t
   index_steady path place (Item s) cases env at rest fault reach t r = λ other e. t
 
@@ -180,10 +180,10 @@ module _ (root : Grammar) (leaves : (leaf : NumLeaf) → LeafSteady leaf) (texts
   window_steady path place n F at rest fault reach (inl t) r = absurd (r (ap (λ f. f.reason) t.1))
   window_steady path place n F at rest fault reach (inr t) r =
       λ other e.
-          let is = t.2 in
-          let same = same_within reach (8 * n) other rest (omega arith) e in
-          let far = long_enough (8 * n) other rest t.0 same in
-          inr (far, rw same t.1, t.2)
+      let is = t.2 in
+      let same = same_within reach (8 * n) other rest (omega arith) e in
+      let far = long_enough (8 * n) other rest t.0 same in
+      inr (far, rw same t.1, t.2)
 
   list_steady : (end : Option (List Bool)) (path : List ℕ) (place : ℕ) (sizing : Sizing) (env : Env) (each : Data → Part) (fails : ℕ → Failing) → ((k : ℕ) → Steady (fails k)) → Steady (ListFails end (out path place) sizing env each fails)
   list_steady None path place sizing env each fails h =

@@ -146,10 +146,19 @@ too_many = inr (record {
   whole = refl;
   spelled = nothing Any 0;
   more = 32;
-  fails = inr (inr (int (pos 1), behind 0 1 (bits_of (2 ∷ 3 ∷ 4 ∷ [])) 24 (byte 0 1 (record { permitted = refl; image = pos 1; maps = refl; spelled = (1, refl, record { width = refl; value = refl }) }))
-      (inr (inr (int (pos 2), behind 8 2 (bits_of (3 ∷ 4 ∷ [])) 16 (byte 8 2 (record { permitted = refl; image = pos 2; maps = refl; spelled = (2, refl, record { width = refl; value = refl }) }))
-      (inr (inr (int (pos 3), behind 16 3 (bits_of (4 ∷ [])) 8 (byte 16 3 (record { permitted = refl; image = pos 3; maps = refl; spelled = (3, refl, record { width = refl; value = refl }) }))
-      (inr (inr (omega arith, (λ e. cc), refl, refl)))))))))));
+  fails = inr (inr (
+    int (pos 1),
+    behind 0 1 (bits_of (2 ∷ 3 ∷ 4 ∷ [])) 24 (byte 0 1 (record { permitted = refl; image = pos 1; maps = refl; spelled = (1, refl, record { width = refl; value = refl }) }))
+        (inr (inr (
+          int (pos 2),
+          behind 8 2 (bits_of (3 ∷ 4 ∷ [])) 16 (byte 8 2 (record { permitted = refl; image = pos 2; maps = refl; spelled = (2, refl, record { width = refl; value = refl }) }))
+              (inr (inr (
+                int (pos 3),
+                behind 16 3 (bits_of (4 ∷ [])) 8 (byte 16 3 (record { permitted = refl; image = pos 3; maps = refl; spelled = (3, refl, record { width = refl; value = refl }) }))
+                    (inr (inr (omega arith, (λ e. cc), refl, refl))),
+              ))),
+        ))),
+  ));
   reaches = refl;
 })
   where

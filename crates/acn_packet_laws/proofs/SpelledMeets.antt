@@ -170,9 +170,10 @@ module _ (root : Grammar) (mode : Mode) where
     node_meets (node align form) f env d at bs t = form_meets form f.1 env d (at + length t.front) t.back t.second
 
     form_meets : (form : Form) → FormFine form → (env : Env) (d : Data) (at : ℕ) (bs : List Bool) → FormPart root mode form env d at bs → (form_fits form d ≡ true) × ((path : List ℕ) → form_breaches path form d ≡ [])
-    form_meets (num leaf) f env d at bs t =
-        (shaped_number leaf leaf.kind d t.0 (rules_of leaf f).set t.1 t.2.permitted,
-        λ path. unless_none path (has leaf.set (number_of d)) (out_of_range (number_of d)) (ap (has leaf.set) (number_is leaf.kind d t.0 t.1) ∙ t.2.permitted))
+    form_meets (num leaf) f env d at bs t = (
+      shaped_number leaf leaf.kind d t.0 (rules_of leaf f).set t.1 t.2.permitted,
+      λ path. unless_none path (has leaf.set (number_of d)) (out_of_range (number_of d)) (ap (has leaf.set) (number_is leaf.kind d t.0 t.1) ∙ t.2.permitted),
+    )
     form_meets (octets sizing) f env (octet_string os) at bs t = (t.second.given, λ path. unless_none path (has sizing.sizes (pos (length os))) (size_out_of_range (length os)) t.first.given)
     form_meets (bits sizing) f env (bit_string cs) at bs t = (refl, λ path. unless_none path (has sizing.sizes (pos (length cs))) (size_out_of_range (length cs)) t.first.given)
     form_meets (text leaf) f env (characters cs) at bs t =

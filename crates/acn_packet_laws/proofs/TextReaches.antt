@@ -112,13 +112,13 @@ module _ (path : List ℕ) (place : ℕ) (leaf : TextLeaf) (end : List Bool) (wh
       let all = t.0 in
       let n = t.2 in
       let l = octets-short rest in
-        λ other e.
-            let bits : take (8 * most) other ≡ take (8 * most) rest = rw (← n) e in
-            let same = octets_same most other rest bits in
-            let far = long_enough (8 * most) other rest (omega arith) bits in
-            let long = octets-long other in
-            let none : found_end (octet_numbers end) (front other) ≡ None = ap (found_end (octet_numbers end)) same ∙ is in
-            rw none (inr (omega arith, t.1, t.2))
+      λ other e.
+      let bits : take (8 * most) other ≡ take (8 * most) rest = rw (← n) e in
+      let same = octets_same most other rest bits in
+      let far = long_enough (8 * most) other rest (omega arith) bits in
+      let long = octets-long other in
+      let none : found_end (octet_numbers end) (front other) ≡ None = ap (found_end (octet_numbers end)) same ∙ is in
+      rw none (inr (omega arith, t.1, t.2))
   found_steady rest fault reach (Some i) is t r =
       let f = find_from (λ j. same_name (take (length (octet_numbers end)) (drop j (front rest))) (octet_numbers end)) 0 (length (front rest)) i is in
       let stands = ap length (same_names (take (length (octet_numbers end)) (drop i (front rest))) (octet_numbers end) f.2) in
@@ -128,19 +128,19 @@ module _ (path : List ℕ) (place : ℕ) (leaf : TextLeaf) (end : List Bool) (wh
       let kept = length-take most (octet_values rest) in
       let l = octets-short rest in
       let place_in : i + length (octet_numbers end) ≤ length (front rest) = omega arith in
-        λ other e.
-            let k = i + length (octet_numbers end) in
-            let bits : take (8 * (i + length (octet_numbers end))) other ≡ take (8 * (i + length (octet_numbers end))) rest = same_within reach (8 * (i + length (octet_numbers end))) other rest (omega arith) e in
-            let octets = octets_same (i + length (octet_numbers end)) other rest bits in
-            let few : i + length (octet_numbers end) ≤ most = omega arith in
-            let same : take (i + length (octet_numbers end)) (front other) ≡ take (i + length (octet_numbers end)) (front rest) =
-            take-take (i + length (octet_numbers end)) most (octet_values other) few ∙ (octets ∙ sym (take-take (i + length (octet_numbers end)) most (octet_values rest) few)) in
-            let far = far_enough (i + length (octet_numbers end)) (front other) (front rest) place_in same in
-            let found : found_end (octet_numbers end) (front other) ≡ Some i =
-            find_too (λ j. same_name (take (length (octet_numbers end)) (drop j (front rest))) (octet_numbers end)) (λ j. same_name (take (length (octet_numbers end)) (drop j (front other))) (octet_numbers end)) 0 (length (front rest)) (length (front other)) i
-            (λ j h. ap (λ w. same_name w (octet_numbers end)) (window_same j (length (octet_numbers end)) (i + length (octet_numbers end)) (front other) (front rest) (omega arith) same)) (omega arith) is in
-            let text : take (8 * i) other ≡ take (8 * i) rest = same_within reach (8 * i) other rest (omega arith) e in
-            rw found (moved other t text)
+      λ other e.
+      let k = i + length (octet_numbers end) in
+      let bits : take (8 * (i + length (octet_numbers end))) other ≡ take (8 * (i + length (octet_numbers end))) rest = same_within reach (8 * (i + length (octet_numbers end))) other rest (omega arith) e in
+      let octets = octets_same (i + length (octet_numbers end)) other rest bits in
+      let few : i + length (octet_numbers end) ≤ most = omega arith in
+      let same : take (i + length (octet_numbers end)) (front other) ≡ take (i + length (octet_numbers end)) (front rest) =
+      take-take (i + length (octet_numbers end)) most (octet_values other) few ∙ (octets ∙ sym (take-take (i + length (octet_numbers end)) most (octet_values rest) few)) in
+      let far = far_enough (i + length (octet_numbers end)) (front other) (front rest) place_in same in
+      let found : found_end (octet_numbers end) (front other) ≡ Some i =
+      find_too (λ j. same_name (take (length (octet_numbers end)) (drop j (front rest))) (octet_numbers end)) (λ j. same_name (take (length (octet_numbers end)) (drop j (front other))) (octet_numbers end)) 0 (length (front rest)) (length (front other)) i
+      (λ j h. ap (λ w. same_name w (octet_numbers end)) (window_same j (length (octet_numbers end)) (i + length (octet_numbers end)) (front other) (front rest) (omega arith) same)) (omega arith) is in
+      let text : take (8 * i) other ≡ take (8 * i) rest = same_within reach (8 * i) other rest (omega arith) e in
+      rw found (moved other t text)
     where
       reach_is : FoundIn rest rest (Some i) fault reach → reach ≡ 8 * i + length end
       reach_is (inl t) = t.2
@@ -157,10 +157,10 @@ characters_steady : (path : List ℕ) (place : ℕ) (leaf : TextLeaf) (n : ℕ) 
 characters_steady path place leaf n at rest fault reach (inl t) r = absurd (r (ap (λ f. f.reason) t.1))
 characters_steady path place leaf n at rest fault reach (inr t) r =
     λ other e.
-        let is = t.3 in
-        let same = same_within reach (leaf.width * n) other rest (omega arith) e in
-        let far = long_enough (leaf.width * n) other rest t.0 same in
-        inr (far, rw same t.1, t.2, t.3)
+    let is = t.3 in
+    let same = same_within reach (leaf.width * n) other rest (omega arith) e in
+    let far = long_enough (leaf.width * n) other rest t.0 same in
+    inr (far, rw same t.1, t.2, t.3)
 
 by_end : (end : Option (List Bool)) (leaf : TextLeaf) → end_fine end leaf ≡ true → (path : List ℕ) (place : ℕ) (env : Env) → Steady (TextFails (out path place) end leaf env)
 by_end None leaf f path place env at rest fault reach t r =

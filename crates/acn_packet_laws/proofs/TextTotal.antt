@@ -92,13 +92,17 @@ chars_total leaf within some (suc n) bs l = by (char_or_not leaf within (number 
     by : ((c : ℕ) × IsChar leaf (number (take leaf.width bs)) c) ⊎ ((c : ℕ) → IsChar leaf (number (take leaf.width bs)) c → ⊥) → ((cs : List ℕ) × (length cs ≡ n) × ((at : ℕ) → CharactersPart leaf cs at (drop leaf.width bs))) ⊎ NoText leaf (drop leaf.width bs)
         → ((cs : List ℕ) × (length cs ≡ suc n) × ((at : ℕ) → CharactersPart leaf cs at bs)) ⊎ NoText leaf bs
     by (inl c) (inl r) =
-        inl (c.0 ∷ r.0, ap suc r.1, λ at. record {
-          front = take leaf.width bs;
-          back = drop leaf.width bs;
-          whole = sym (take-append-drop leaf.width bs);
-          first = record { given = c.1.0; spelled = record { width = length-take-le leaf.width bs long; value = sym c.1.1 } };
-          second = r.2 (at + length (take leaf.width bs));
-        })
+        inl (
+          c.0 ∷ r.0,
+          ap suc r.1,
+          λ at. record {
+            front = take leaf.width bs;
+            back = drop leaf.width bs;
+            whole = sym (take-append-drop leaf.width bs);
+            first = record { given = c.1.0; spelled = record { width = length-take-le leaf.width bs long; value = sym c.1.1 } };
+            second = r.2 (at + length (take leaf.width bs));
+          },
+        )
     by (inl c) (inr other) = inr gone
       where
         gone : (cs : List ℕ) (at : ℕ) → CharactersPart leaf cs at bs → ⊥
@@ -198,18 +202,21 @@ sized_total here leaf within some env at rest (inl s) = by (less_or_not (length 
 
     read : leaf.width * s.n ≤ length s.front.back → ((cs : List ℕ) × (length cs ≡ s.n) × ((at' : ℕ) → CharactersPart leaf cs at' (take (leaf.width * s.n) s.front.back))) ⊎ NoText leaf (take (leaf.width * s.n) s.front.back) → Result here None leaf env at rest
     read h (inr n) = stuck (says here bad_character) (leaf.width * s.n) (inr (h, n, refl, refl))
-    read h (inl c) = inl (c.0, record {
-      front = s.front.front ++ take (leaf.width * s.n) s.front.back;
-      back = drop (leaf.width * s.n) s.front.back;
-      whole = s.front.whole ∙ (ap (λ z. s.front.front ++ z) (sym (take-append-drop (leaf.width * s.n) s.front.back)) ∙ sym (append_assoc s.front.front (take (leaf.width * s.n) s.front.back) (drop (leaf.width * s.n) s.front.back)));
-      spelled = record {
-        front = s.front.front;
-        back = take (leaf.width * s.n) s.front.back;
-        whole = refl;
-        first = subst (λ (m : ℕ). SizePart leaf.sized env m at s.front.front) (sym c.1) s.front.spelled;
-        second = c.2 (at + length s.front.front);
-      };
-    })
+    read h (inl c) = inl (
+      c.0,
+      record {
+        front = s.front.front ++ take (leaf.width * s.n) s.front.back;
+        back = drop (leaf.width * s.n) s.front.back;
+        whole = s.front.whole ∙ (ap (λ z. s.front.front ++ z) (sym (take-append-drop (leaf.width * s.n) s.front.back)) ∙ sym (append_assoc s.front.front (take (leaf.width * s.n) s.front.back) (drop (leaf.width * s.n) s.front.back)));
+        spelled = record {
+          front = s.front.front;
+          back = take (leaf.width * s.n) s.front.back;
+          whole = refl;
+          first = subst (λ (m : ℕ). SizePart leaf.sized env m at s.front.front) (sym c.1) s.front.spelled;
+          second = c.2 (at + length s.front.front);
+        };
+      },
+    )
 
     by : (length s.front.back < leaf.width * s.n) ⊎ (leaf.width * s.n ≤ length s.front.back) → Result here None leaf env at rest
     by (inl h) = stuck (says here short) (length s.front.back) (inl (h, refl, refl))

@@ -119,7 +119,10 @@ module _ (root : Grammar) where
         record {
           some = t.some;
           spelled = record {
-            front = u.front; back = u.back; whole = u.whole; first = u.first;
+            front = u.front;
+            back = u.back;
+            whole = u.whole;
+            first = u.first;
             second = window_read (Spell root Written g env d) (Spell root Any g env d) t.some (at + length u.front) u.back (λ cs h. node_read g f.1 env d 0 cs h) u.second;
           };
         }
@@ -130,7 +133,9 @@ module _ (root : Grammar) where
     fields_read (component name g presence default own fs) f env (filled d ps) at bs t =
         let u = t.first in
         record {
-          front = t.front; back = t.back; whole = t.whole;
+          front = t.front;
+          back = t.back;
+          whole = t.whole;
           first = record { given = u.given; spelled = node_read g f.0 env d at t.front u.spelled };
           second = fields_read fs f.1 env ps (at + length t.front) t.back t.second;
         }

@@ -183,6 +183,7 @@ WrittenIsRead = (root : Grammar) (d : Data) (bs : List Bool) → IsTree root →
 -- a value that has a spelling has the form of the tree, and no breach
 abbrev pub SpelledValuesMeet : Type 0
 SpelledValuesMeet = (root : Grammar) (mode : Mode) (d : Data) (bs : List Bool) → IsTree root → Spell root mode root [] d 0 bs → Meets root d
+
 -- what the whole walk asks of the field of a slot at home in one occurrence of a SEQUENCE is, in order, what that occurrence asks of the slot
 abbrev pub EachOccurrenceAsks : Type 0
 EachOccurrenceAsks =

@@ -14,8 +14,8 @@ ghost use Rattle.acn_set_elements.specs.Written.{named_of as names_of, listed as
 
 use crate::written::{character_in, number_in, text_in};
 use acn_asn_syntax::{AsnBase, AsnRange, AsnValue, Constraint, Element, Meet, Named, Part, Set};
-use acn_world::World;
 use acn_num::Row;
+use acn_world::World;
 
 /// What a set is built of.
 #[derive(Clone, Copy, Debug)]

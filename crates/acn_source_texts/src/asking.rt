@@ -5,9 +5,9 @@ ghost use Rattle.acn_world.specs.Viewed.{world_view};
 ghost use Rattle.acn_world.specs.World.{type_at};
 
 use crate::reading::{Trouble, files, module};
-use acn_world::{NameFault, Sources, TypeId, World};
-use acn_num::Name;
 use acn_names::resolve;
+use acn_num::Name;
+use acn_world::{NameFault, Sources, TypeId, World};
 use std::alloc::Global;
 
 // Adds a space and the bytes of a name.

@@ -4,8 +4,8 @@ use acn_acn_parse::{parse_acn, parse_map};
 use acn_asn_parse::parse_asn;
 use acn_cursor::ParseFault;
 use acn_lex::{LexFault, Tokens, lex};
-use acn_world::{NameFault, Sources};
 use acn_num::{NoMemory, Row};
+use acn_world::{NameFault, Sources};
 use std::alloc::{AllocError, AllocFailed, Global};
 
 /// Why a test has no answer.

@@ -14,7 +14,11 @@ use acn_bits::ReadCursor;
 use acn_grammar::{ReadFault, SizeRule, Sizing, TextLeaf};
 
 /// The size that stands in front, or the given one.
-fn said_size(cur: &mut ReadCursor<'_>, rule: &SizeRule, given: Option<u64>) -> Result<u64, ReadFault>
+fn said_size(
+    cur: &mut ReadCursor<'_>,
+    rule: &SizeRule,
+    given: Option<u64>,
+) -> Result<u64, ReadFault>
     requires fits { RuleFits rule.now }
     requires given { IsGiven rule.now given }
     ensures taken { IfOk result (SizeTaken rule.now given cur.old cur.new) }

@@ -289,7 +289,11 @@ fn look_at_field(field: &Field, sought: &Sought, in_home: bool) -> Seen
         }
         Field::Inserted { node, slot, .. } => {
             let found = is_slot(slot, sought.slot);
-            inserted_near(sought, slot, &look(node, sought, in_home, found, false, true))
+            inserted_near(
+                sought,
+                slot,
+                &look(node, sought, in_home, found, false, true),
+            )
         }
     }
 }

@@ -9,7 +9,7 @@ ghost use Rattle.acn_grammar.specs.View.{grammar_of, form_of, field_of, alternat
 ghost use Rattle.acn_grammar.specs.Walk.{presence_tests, slot_of, rule_uses, choice_uses};
 
 use acn_grammar::{Alternative, Body, ChoiceRule, Field, Node, NumKind, Presence, SizeRule, Test};
-use acn_leaf::{is_least, num_fine, same_text, list_fine, sizing_fine, text_fine};
+use acn_leaf::{is_least, list_fine, num_fine, same_text, sizing_fine, text_fine};
 
 fn is_align(align: u32) -> bool
     ensures { result ≡ tree.is_align align }

@@ -1,8 +1,8 @@
 //! What a world answers about names.
 
 use acn_asn_syntax::{AsnBase, AsnType, AsnValue, Constraint, Element, Set};
-use acn_world::{TypeId, World};
 use acn_source_texts::{Trouble, place_of, world_of};
+use acn_world::{TypeId, World};
 use std::alloc::Global;
 
 const ASN: &str =

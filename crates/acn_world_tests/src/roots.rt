@@ -4,8 +4,8 @@ ghost use Rattle.std.specs.List.{All};
 ghost use Rattle.acn_world.specs.Viewed.{world_view};
 ghost use Rattle.acn_world.specs.World.{IsType};
 
-use acn_world::{TypeId, World};
 use acn_source_texts::{Trouble, module, push_full_name, world_of};
+use acn_world::{TypeId, World};
 use std::alloc::Global;
 
 // The roots in words, each by the number of its module and its own among the assignments.
