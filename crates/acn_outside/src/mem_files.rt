@@ -1,4 +1,5 @@
 ghost use Rattle.std.specs.Prelude.{◌≡◌, ◌≤◌, ◌<◌, ◌||◌, List, ℕ, [], length, take, position, Option, Some, None, IfOk, IfSome, OnOk, OnErr, is_err, option_map, unwrap_or, if◌then◌else◌, bytes_eq};
+ghost use Rattle.acn_num.specs.declared.limits.TheConstants.{MOST_FILE_BYTES};
 ghost use Rattle.acn_outside.specs.Counts.{Rose};
 ghost use Rattle.acn_outside.specs.Moves.{AreAt, EndsBy};
 ghost use Rattle.acn_outside.specs.Memory.{fails, one_more};
@@ -121,7 +122,7 @@ impl Files for MemFiles {
     ghost faults = { λ f name. faults_of f.entries.items f.others name };
 
     fn read_at(&mut self, name: &str, at: u64, into: &mut [u8]) -> Result<usize, Failed>
-        requires { at ≤ 16777216 }
+        requires { at ≤ MOST_FILE_BYTES }
         ensures within { IfOk result (λ n. n ≤ length into.old) }
         ensures bytes { IfOk result (λ n. AreAt (contents_of self.old.entries.items name.now) at (take n into.new)) }
         ensures end { IfOk result (λ n. n ≡ 0 → 0 < length into.old → EndsBy (contents_of self.old.entries.items name.now) at) }

@@ -4,8 +4,9 @@ use crate::{
     Failed, Files, MemFiles, MemSink, MemSource, Sink, Source, StdError, StdFiles, StdInput,
     StdOutput, SureFiles, SureSink, SureSource, WholeFault, read_whole, write_all,
 };
-use acn_num::Name;
+use acn_num::{MOST_FILE_BYTES, Name};
 use std::alloc::{AllocError, Global};
+use std::cell::Cell;
 use std::test::Fail;
 
 fn named(alloc: Global, text: &str) -> Result<Name, Fail> {
@@ -114,12 +115,56 @@ fn an_output_tells_its_bytes_while_they_fit(rt: HostRuntime) -> Result<(), Fail>
 #[test]
 fn a_file_of_the_system_is_read_whole_and_an_absent_one_fails(rt: HostRuntime) -> Result<(), Fail> {
     std::fs::write(&rt, "three.txt", "abc")?;
-    let mut files = StdFiles::new(&rt);
+    let mut files = StdFiles::new(rt.alloc(), &rt);
     let text = read_whole(rt.alloc(), &mut files, "three.txt")?;
     std::fs::remove_file(&rt, "three.txt")?;
     assert_eq!(rt; text.as_slice(), b"abc".as_slice());
     let absent = read_whole(rt.alloc(), &mut files, "absent.txt");
     assert!(rt; matches!(absent, Err(WholeFault::Failed)));
+    Ok(())
+}
+
+// This many bytes that repeat after 251, a prime, so that no two pieces of a file are alike.
+fn many_bytes(alloc: Global, count: usize) -> Result<Vec<u8>, AllocError> {
+    let mut bytes = Vec::new(alloc);
+    for i in 0..count {
+        bytes.push((i % 251) as u8)?;
+    }
+    Ok(bytes)
+}
+
+#[test]
+fn a_file_of_the_system_is_read_in_several_pieces(rt: HostRuntime) -> Result<(), Fail> {
+    let bytes = many_bytes(rt.alloc(), 150_000)?;
+    std::fs::write(&rt, "pieces.bin", bytes.as_slice())?;
+    std::fs::write(&rt, "other.bin", "other")?;
+    let mut files = StdFiles::new(rt.alloc(), &rt);
+    let first = read_whole(rt.alloc(), &mut files, "pieces.bin")?;
+    let other = read_whole(rt.alloc(), &mut files, "other.bin")?;
+    let again = read_whole(rt.alloc(), &mut files, "pieces.bin")?;
+    std::fs::remove_file(&rt, "pieces.bin")?;
+    std::fs::remove_file(&rt, "other.bin")?;
+    assert!(rt; first.as_slice() == bytes.as_slice());
+    assert_eq!(rt; other.as_slice(), b"other".as_slice());
+    assert!(rt; again.as_slice() == bytes.as_slice());
+    Ok(())
+}
+
+#[test]
+fn the_longest_file_is_read_and_one_byte_more_is_refused(rt: HostRuntime) -> Result<(), Fail> {
+    let mut files = SureFiles::new(rt.alloc());
+    files.add(
+        named(rt.alloc(), "most")?,
+        vec![in rt.alloc(); 7u8; MOST_FILE_BYTES]?,
+    )?;
+    files.add(
+        named(rt.alloc(), "more")?,
+        vec![in rt.alloc(); 7u8; MOST_FILE_BYTES + 1]?,
+    )?;
+    let most = read_whole(rt.alloc(), &mut files, "most")?;
+    assert_eq!(rt; most.len(), MOST_FILE_BYTES);
+    let more = read_whole(rt.alloc(), &mut files, "more");
+    assert!(rt; matches!(more, Err(WholeFault::TooLong)));
     Ok(())
 }
 
@@ -153,6 +198,44 @@ impl Print for Full {
     fn write_some(&self, _: &[u8]) -> std::io::Result<usize> {
         Ok(0)
     }
+}
+
+// An output that takes three bytes at a time, and counts them.
+#[derive(Drop)]
+struct Slow {
+    taken: Cell<usize>,
+}
+
+impl Print for Slow {
+    fn print<D: std::fmt::Display + Drop>(&self, _: D) -> std::io::Result<()> {
+        Ok(())
+    }
+
+    fn println<D: std::fmt::Display + Drop>(&self, _: D) -> std::io::Result<()> {
+        Ok(())
+    }
+
+    fn write_all(&self, _: &[u8]) -> std::io::Result<()> {
+        Ok(())
+    }
+
+    fn write_some(&self, from: &[u8]) -> std::io::Result<usize> {
+        let count = from.len().min(3);
+        self.taken.set(self.taken.get().saturating_add(count));
+        Ok(count)
+    }
+}
+
+#[test]
+fn an_output_of_the_system_that_takes_a_part_is_given_the_rest(
+    rt: HostRuntime,
+) -> Result<(), Fail> {
+    let slow = Slow {
+        taken: Cell::new(0),
+    };
+    write_all(&mut StdOutput::new(&slow), b"ten octets")?;
+    assert_eq!(rt; slow.taken.get(), 10);
+    Ok(())
 }
 
 #[test]

@@ -1,4 +1,5 @@
 ghost use Rattle.std.specs.Prelude.{◌≡◌, ◌<◌, ◌≤◌, List, ℕ, Option, length, take, IfOk, OnErr};
+ghost use Rattle.acn_num.specs.declared.limits.TheConstants.{MOST_FILE_BYTES};
 ghost use Rattle.acn_outside.specs.Counts.{Rose};
 ghost use Rattle.acn_outside.specs.Moves.{Takes, Gains, IsUsedUp, AreAt, EndsBy};
 
@@ -18,7 +19,7 @@ pub trait Files {
     /// 0 for a piece that isn't empty says that the file ends at or before `at`.
     /// `Failed` comes only where the count of this name rose. No read changes a file.
     fn read_at(&mut self, name: &str, at: u64, into: &mut [u8]) -> Result<usize, Failed>
-        requires { at ≤ 16777216 }
+        requires { at ≤ MOST_FILE_BYTES }
         ensures within { IfOk result (λ n. n ≤ length into.old) }
         ensures bytes { IfOk result (λ n. AreAt (contents self.old name.now) at (take n into.new)) }
         ensures end { IfOk result (λ n. n ≡ 0 → 0 < length into.old → EndsBy (contents self.old name.now) at) }

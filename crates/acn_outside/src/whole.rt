@@ -1,21 +1,22 @@
 ghost use Rattle.std.specs.Prelude.{◌≡◌, ◌≤◌, List, ℕ, length, IfOk, OnOk, OnErr, IsErrOf};
 ghost use Rattle.acn_outside.specs.Counts.{Rose};
 ghost use Rattle.acn_outside.specs.Moves.{Gains};
+ghost use Rattle.acn_num.specs.declared.limits.TheConstants.{MOST_FILE_BYTES};
 ghost use Rattle.acn_outside.specs.Whole.{GainsFront, IsWhole, IsTooLong};
 
 use crate::{Failed, Files, Sink};
-use acn_num::NoMemory;
+use acn_num::{MOST_FILE_BYTES, NoMemory};
 use std::alloc::{AllocError, Global};
 
-// The greatest number of bytes of a file.
-const MOST: usize = 16_777_216;
+// So many bytes are read at once.
+const PIECE: usize = 65_536;
 
 /// Why a file wasn't read whole.
 #[derive(Clone, Copy, Debug, PartialEq, Eq)]
 pub enum WholeFault {
     /// A read failed, and the count of the file's name rose.
     Failed,
-    /// The file has more than 16,777,216 bytes.
+    /// The file has more than `MOST_FILE_BYTES` bytes.
     TooLong,
     /// Memory was refused.
     NoMemory,
@@ -51,21 +52,21 @@ impl From<Failed> for WholeFault {
     }
 }
 
-/// All bytes of a file, of which there are 16,777,216 at most.
+/// All bytes of a file, of which there are `MOST_FILE_BYTES` at most.
 ///
 /// `Failed` comes only where the count of this name rose in this call, and `TooLong` exactly where
-/// 16,777,217 bytes of the file came. The files stay as they are.
+/// one byte more than these came. The files stay as they are.
 pub fn read_whole<F: Files>(alloc: Global, files: &mut F, name: &str) -> Result<Vec<u8>, WholeFault>
     ensures whole { IfOk result (λ v. IsWhole (F.contents files.old name.now) v.items) }
-    ensures fits { IfOk result (λ v. length v.items ≤ 16777216) }
+    ensures fits { IfOk result (λ v. length v.items ≤ MOST_FILE_BYTES) }
     ensures failed { IsErrOf result WholeFault.Failed → Rose (F.faults files.old name.now) (F.faults files.new name.now) }
     ensures too_long { IsErrOf result WholeFault.TooLong → IsTooLong (F.contents files.old name.now) }
     ensures same { (m : List ℕ) → F.contents files.new m ≡ F.contents files.old m }
     ensures count { (m : List ℕ) → F.faults files.old m ≤ F.faults files.new m }
 {
     let mut all = Vec::new(alloc);
-    let mut piece = [0u8; 4096];
-    while all.len() <= MOST {
+    let mut piece = [0u8; PIECE];
+    while all.len() <= MOST_FILE_BYTES {
         let n = files.read_at(name, all.len() as u64, &mut piece)?;
         if n == 0 {
             return Ok(all);
