@@ -9,23 +9,44 @@ use acn_outside::{StdError, StdFiles, StdInput, StdOutput};
 use acn_run::run;
 use questions::question_in;
 use std::process::ExitCode;
-use std::{env, io};
+use std::env;
+use std::io::ErrorKind;
+
+/// Why the words behind the program's name can't be taken.
+enum WordsFault {
+    /// One of them isn't UTF-8.
+    NotText,
+    /// Memory ran out.
+    NoMemory,
+}
 
 /// The words behind the program's name.
-fn words(rt: &HostRuntime) -> io::Result<Vec<String>> {
+fn words(rt: &HostRuntime) -> Result<Vec<String>, WordsFault> {
     let mut words = Vec::new(rt.alloc());
-    for (i, word) in env::args(rt)?.enumerate() {
-        if i > 0 {
-            words.push(word)?;
+    let all = match env::args(rt) {
+        Ok(all) => all,
+        Err(e) if e.kind() == ErrorKind::OutOfMemory => return Err(WordsFault::NoMemory),
+        Err(_) => return Err(WordsFault::NotText),
+    };
+    for (i, word) in all.enumerate() {
+        if i > 0 && words.push(word).is_err() {
+            return Err(WordsFault::NoMemory);
         }
     }
     Ok(words)
 }
 
+/// Says that memory ran out, and answers the status for it.
+fn out_of_memory(rt: &HostRuntime) -> ExitCode {
+    let _ = eprint!(rt; "acn: out of memory\n");
+    ExitCode::from(7)
+}
+
 fn main(rt: HostRuntime) -> ExitCode {
     let words = match words(&rt) {
         Ok(words) => words,
-        Err(_) => Vec::new(rt.alloc()),
+        Err(WordsFault::NotText) => Vec::new(rt.alloc()),
+        Err(WordsFault::NoMemory) => return out_of_memory(&rt),
     };
     if let Some(question) = question_in(&words) {
         let text = question.text();
@@ -34,7 +55,7 @@ fn main(rt: HostRuntime) -> ExitCode {
             Err(_) => ExitCode::from(6),
         };
     }
-    let mut files = StdFiles::new(&rt);
+    let mut files = StdFiles::new(rt.alloc(), &rt);
     let mut input = StdInput::new(rt.reader());
     let stdout = rt.stdout();
     let stderr = rt.stderr();

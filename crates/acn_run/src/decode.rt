@@ -10,6 +10,7 @@ ghost use Rattle.acn_run.specs.Order.{labels_of, in_name_order};
 ghost use Rattle.acn_run.specs.Packet.{grammar_of, IsRefused};
 ghost use Rattle.acn_run.specs.Recording.{Packet, Decoded, IsStuck};
 ghost use Rattle.acn_run.specs.Decoding as spec;
+ghost use Rattle.acn_run.specs.declared.input.TheConstants.{MOST_INPUT_BYTES};
 
 use crate::components::Component;
 use crate::line::put_line;
@@ -51,7 +52,7 @@ fn decode_one(
     requires fine { AllByRecursion IsComponent components.now }
     requires bits { has_bits components.now ≡ true }
     requires order { labels_of labels.now ≡ in_name_order components.now }
-    requires limit { length bytes.now ≤ 16777216 }
+    requires limit { length bytes.now ≤ MOST_INPUT_BYTES }
     ensures found { IfOk result (λ used. Packet (grammar_of components.now) bytes.now used lines.old.items lines.new.items) }
     ensures refused { IsRefused result → (d : Data) (n : ℕ) → Front (grammar_of components.now) (bits bytes.now) d n → ⊥ }
     ensures kept { OnErr result (lines.new.items ≡ lines.old.items) }
@@ -99,7 +100,7 @@ fn decode_block<'a>(
     requires fine { AllByRecursion IsComponent components.now }
     requires bits { has_bits components.now ≡ true }
     requires order { labels_of labels.now ≡ in_name_order components.now }
-    requires limit { length bytes.now ≤ 16777216 }
+    requires limit { length bytes.now ≤ MOST_INPUT_BYTES }
     requires empty { lines.old.items ≡ [] }
     ensures decoded { Decoded (grammar_of components.now) bytes.now result.rest.now lines.new.items }
     ensures end { spec.EndsBlock (grammar_of components.now) result.end bytes.now result.rest.now }
@@ -155,7 +156,7 @@ pub fn decode_all<O: Sink>(
     requires fine { AllByRecursion IsComponent components.now }
     requires bits { has_bits components.now ≡ true }
     requires order { labels_of labels.now ≡ in_name_order components.now }
-    requires limit { length bytes.now ≤ 16777216 }
+    requires limit { length bytes.now ≤ MOST_INPUT_BYTES }
     ensures outcome { spec.Ends (grammar_of components.now) bytes.now result (O.taken out.old) (O.taken out.new) }
     ensures count { O.faults out.old ≤ O.faults out.new }
     ensures output { IsErrOf result DecodeFault.Output → Rose (O.faults out.old) (O.faults out.new) }

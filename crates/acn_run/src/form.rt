@@ -2,6 +2,7 @@ ghost use Rattle.std.specs.Prelude.{◌≡◌, ◌≤◌, List, length, true, fa
 ghost use Rattle.acn_lex.specs.Lexeme.{lexemes};
 ghost use Rattle.acn_run.specs.Form as spec;
 ghost use Rattle.acn_run.specs.declared.components.Component.{Component};
+ghost use Rattle.acn_num.specs.declared.limits.TheConstants.{MOST_FILE_BYTES};
 
 use crate::components::{Component, read_components};
 use acn_cursor::ParseFault;
@@ -117,7 +118,7 @@ fn written(
     owner: &[u8],
     name: &[u8],
 ) -> Result<Row<Component>, FormFault>
-    requires { length bytes.now ≤ 16777216 }
+    requires { length bytes.now ≤ MOST_FILE_BYTES }
     ensures found { IfOk result (λ cs. spec.Written bytes.now owner.now name.now cs) }
     ensures once { IfOk result (λ cs. (other : List Component) → spec.Written bytes.now owner.now name.now other → other ≡ cs) }
     ensures other { IsErrOf result FormFault.OtherForm → (cs : List Component) → spec.Written bytes.now owner.now name.now cs → ⊥ }
@@ -141,7 +142,7 @@ pub fn read_form(
     owner: &[u8],
     name: &[u8],
 ) -> Result<Row<Component>, FormFault>
-    requires { length bytes.now ≤ 16777216 }
+    requires { length bytes.now ≤ MOST_FILE_BYTES }
     ensures found { IfOk result (λ cs. spec.IsForm bytes.now owner.now name.now cs) }
     ensures other { IsErrOf result FormFault.OtherForm → (cs : List Component) → spec.IsForm bytes.now owner.now name.now cs → ⊥ }
 {

@@ -2,6 +2,7 @@ ghost use Rattle.std.specs.Prelude.{◌≡◌, ◌<◌, ◌≤◌, ℕ, List, le
 ghost use Rattle.acn_outside.specs.Counts.{Rose};
 ghost use Rattle.acn_outside.specs.Moves.{Takes, IsUsedUp};
 ghost use Rattle.acn_run.specs.Input as spec;
+ghost use Rattle.acn_run.specs.declared.input.TheConstants.{MOST_INPUT_BYTES};
 
 use acn_outside::{Failed, Source};
 use std::alloc::{AllocError, Global};
@@ -37,8 +38,11 @@ impl From<Failed> for InputFault {
     }
 }
 
-// The greatest number of bytes of an input that is read whole.
-const MOST: usize = 16_777_216;
+/// The greatest number of bytes of an input that is read whole.
+pub const MOST_INPUT_BYTES: usize = 16_777_216;
+
+// So many bytes are read at once.
+const PIECE: usize = 65_536;
 
 /// The whole input, to its end.
 ///
@@ -46,14 +50,14 @@ const MOST: usize = 16_777_216;
 pub fn read_input<S: Source>(alloc: Global, input: &mut S) -> Result<Vec<u8>, InputFault>
     ensures given { IfOk result (λ v. Takes (S.rest input.old) (S.rest input.new) v.items) }
     ensures end { IfOk result (λ _. IsUsedUp (S.rest input.new)) }
-    ensures limit { IfOk result (λ v. length v.items ≤ 16777216) }
+    ensures limit { IfOk result (λ v. length v.items ≤ MOST_INPUT_BYTES) }
     ensures failed { IsErrOf result InputFault.Failed → Rose (S.faults input.old) (S.faults input.new) }
     ensures too_long { IsErrOf result InputFault.TooLong → spec.GivesTooMuch (S.rest input.old) (S.rest input.new) }
     ensures count { S.faults input.old ≤ S.faults input.new }
 {
     let mut all = Vec::new(alloc);
-    let mut piece = [0u8; 4096];
-    while all.len() <= MOST {
+    let mut piece = [0u8; PIECE];
+    while all.len() <= MOST_INPUT_BYTES {
         let n = input.read(&mut piece)?;
         if n == 0 {
             return Ok(all);

@@ -4,6 +4,7 @@ ghost use Rattle.acn_bits.specs.Reading.{passed};
 ghost use Rattle.acn_num.specs.Bits.{bits, octets};
 ghost use Rattle.acn_run.specs.Packet as spec;
 ghost use Rattle.acn_run.specs.Form.{IsComponent};
+ghost use Rattle.acn_run.specs.declared.input.TheConstants.{MOST_INPUT_BYTES};
 
 use crate::components::Component;
 use acn_bits::ReadCursor;
@@ -127,7 +128,7 @@ pub fn read_packet(
     numbers: &mut Vec<u64>,
 ) -> Result<usize, NoPacket>
     requires fine { AllByRecursion IsComponent components.now }
-    requires limit { length bytes.now ≤ 16777216 }
+    requires limit { length bytes.now ≤ MOST_INPUT_BYTES }
     ensures found { OnOk result (spec.numbers_of components.now (bits bytes.now) ≡ Some numbers.new.items) }
     ensures used { IfOk result (λ used. used ≡ octets (spec.width_of components.now)) }
     ensures refused { spec.IsRefused result → spec.numbers_of components.now (bits bytes.now) ≡ None }

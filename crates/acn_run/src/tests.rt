@@ -51,7 +51,7 @@ fn words_of(alloc: Global, texts: &[&str]) -> Result<Vec<String>, AllocError> {
 }
 
 fn sink(alloc: Global, piece: usize, fail: &[u64]) -> Result<MemSink, AllocError> {
-    let room = vec![in alloc; 0; 8192]?;
+    let room = vec![in alloc; 0; 131_072]?;
     Ok(MemSink::new(room, piece.max(1), Vec::from_slice(alloc, fail)?))
 }
 
@@ -270,4 +270,71 @@ fn there_are_at_most_64_components(rt: HostRuntime) -> Result<(), Fail> {
         ..FIRST
     };
     expect(&rt, rt.alloc(), &case, 2, "", "acn: m.asn: OtherForm\n")
+}
+
+// So many times these bytes, and others behind them.
+fn repeated(alloc: Global, bytes: &[u8], count: u32, last: &[u8]) -> Result<Vec<u8>, AllocError> {
+    let mut all = Vec::new(alloc);
+    for _ in 0..count {
+        all.extend_from_slice(bytes)?;
+    }
+    all.extend_from_slice(last)?;
+    Ok(all)
+}
+
+// The lines of 5,000 packets fill more than one block of output.
+#[test]
+fn a_late_packet_is_refused_by_its_number_and_at_its_bit(rt: HostRuntime) -> Result<(), Fail> {
+    let alloc = rt.alloc();
+    let input = repeated(alloc, &[0x20, 0x40], 5_000, &[0x3f, 0xe0])?;
+    let lines = repeated(alloc, b"{\"a\":1,\"b\":2}\n", 5_000, b"")?;
+    let case = Case {
+        text: "M DEFINITIONS ::= BEGIN T ::= SEQUENCE { a INTEGER (0..7), b INTEGER (0..200) } END",
+        input: &input,
+        ..FIRST
+    };
+    let answer = outcome(alloc, &case)?;
+    assert_eq!(rt; answer.status, 3);
+    assert!(rt; answer.out.bytes() == Some(lines.as_slice()));
+    let err = "acn: packet 5001: M.T.b: OutOfRange 255 at bit 3\n";
+    assert!(rt; answer.err.bytes() == Some(err.as_bytes()));
+    Ok(())
+}
+
+// No packet has this form, so the longest input is refused for its first packet and a longer one for its length.
+#[test]
+fn the_longest_input_is_read_and_one_byte_more_is_refused(rt: HostRuntime) -> Result<(), Fail> {
+    let alloc = rt.alloc();
+    let longest = vec![in alloc; 0xffu8; 16_777_216]?;
+    let case = Case {
+        text: "M DEFINITIONS ::= BEGIN T ::= SEQUENCE { a INTEGER (0..200) } END",
+        input: &longest,
+        piece: 65_536,
+        ..FIRST
+    };
+    let err = "acn: packet 1: M.T.a: OutOfRange 255 at bit 0\n";
+    expect(&rt, alloc, &case, 3, "", err)?;
+    let longer = vec![in alloc; 0xffu8; 16_777_217]?;
+    let case = Case {
+        input: &longer,
+        ..case
+    };
+    expect(&rt, alloc, &case, 3, "", "acn: input: InputTooLong\n")
+}
+
+#[test]
+fn the_longest_file_is_read_and_one_byte_more_is_refused(rt: HostRuntime) -> Result<(), Fail> {
+    let alloc = rt.alloc();
+    let longest = String::from_utf8_lossy(alloc, &vec![in alloc; b' '; 16_777_216]?)?;
+    let case = Case {
+        text: &longest,
+        ..FIRST
+    };
+    expect(&rt, alloc, &case, 2, "", "acn: m.asn: OtherForm\n")?;
+    let longer = String::from_utf8_lossy(alloc, &vec![in alloc; b' '; 16_777_217]?)?;
+    let case = Case {
+        text: &longer,
+        ..FIRST
+    };
+    expect(&rt, alloc, &case, 2, "", "acn: m.asn: FileTooLong\n")
 }

@@ -6,6 +6,7 @@ ghost use Rattle.acn_run.specs.Form.{IsComponent, are_fit, has_bits};
 ghost use Rattle.acn_run.specs.Packet.{grammar_of};
 ghost use Rattle.acn_run.specs.Words.{is_decode, module_word, type_word, file_word};
 ghost use Rattle.acn_run.specs.Run as spec;
+ghost use Rattle.acn_run.specs.declared.input.TheConstants.{MOST_INPUT_BYTES};
 
 use crate::components::Component;
 use crate::decode::{DecodeFault, decode_all};
@@ -134,7 +135,7 @@ fn decode_bytes<O: Sink, E: Sink>(
     requires fine { AllByRecursion IsComponent components.now }
     requires bits { has_bits components.now ≡ true }
     requires root { view.grammar_of tree.now.root ≡ grammar_of components.now }
-    requires limit { length bytes.now ≤ 16777216 }
+    requires limit { length bytes.now ≤ MOST_INPUT_BYTES }
     ensures ends { spec.BytesEnd (view.grammar_of tree.now.root) bytes.now (O.taken out.old) (O.taken out.new) result }
     ensures output { IsErrOf result RunFault.Output → Rose (O.faults out.old) (O.faults out.new) }
     ensures silent { OnOk result (E.taken err.new ≡ E.taken err.old) }
