@@ -9,7 +9,7 @@ use Rattle.acn_grammar.specs.Leaves.{num_fine}
 use Rattle.acn_grammar.specs.Tree.{IsTree, form_fine, is_home, home_fine, holds, near, same_numbers, slots_of, stand_rules, all_true}
 use Rattle.acn_grammar.specs.Walk.{Stand, nodes_of, presence_tests, slot_here}
 use Rattle.acn_grammar.proofs.Codings.{both_are}
-use Rattle.acn_packet_laws.proofs.Placed.{same_name-is, tree_rules}
+use Rattle.acn_packet_laws.proofs.Placed.{tree_rules}
 use Rattle.acn_grammar.proofs.TreeRules.{stand_fine}
 use Rattle.std.specs.List.{cons_option}
 use Rattle.acn_check.specs.Facts.{Facts, Tag, Fit, fits, seen, plain, facts, form_facts, field_facts, alternative_facts}
@@ -17,6 +17,7 @@ use Rattle.acn_check.specs.First.{dets, det_here, det_with}
 use Rattle.acn_check.specs.Order.{lines_of}
 use Rattle.acn_check.specs.Program.{few_in, FewCases}
 use Rattle.acn_check.proofs.Flat.{length-map, lines_are}
+use Rattle.acn_grammar.proofs.Characters.{same_name-is}
 
 -- what holds of each of a list
 abbrev pub Each : {A : Type 0} → (A → Type 0) → List A → Type 0

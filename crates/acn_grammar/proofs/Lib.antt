@@ -1,4 +1,5 @@
 pub mod Back
+pub mod Characters
 pub mod Codings
 pub mod Counts
 pub mod FineLeaves
@@ -15,4 +16,5 @@ pub mod SpellLength
 pub mod Texts
 pub mod TreeRules
 pub mod Views
+pub mod WidthLaw
 pub mod Within

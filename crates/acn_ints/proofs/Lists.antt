@@ -17,7 +17,7 @@ use Rattle.acn_grammar.specs.declared.node.NumCoding.TheVariants.{Range, Counted
 use Rattle.acn_grammar.specs.declared.node.NumLeaf.{NumLeaf}
 use Rattle.acn_grammar.proofs.Codings.{both_are}
 use Rattle.acn_grammar.proofs.FineLeaves.{rules_of}
-use Rattle.acn_packet_laws.proofs.WidthLaw.{by_width}
+use Rattle.acn_grammar.proofs.WidthLaw.{by_width}
 use Rattle.acn_grammar.proofs.Within.{image_has}
 use Rattle.acn_ints.specs.Limits.{CodingFits, LeafFits}
 use Rattle.acn_ints.specs.Pieces.{CanCode}

@@ -59,7 +59,6 @@ pub mod Trees
 pub mod UseKinds
 pub mod Unbreached
 pub mod WidthBack
-pub mod WidthLaw
 pub mod Widths
 pub mod WorkedRows
 pub mod WrittenRead

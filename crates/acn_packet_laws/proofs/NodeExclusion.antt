@@ -28,6 +28,7 @@ use Rattle.acn_packet_laws.proofs.Exclusion.{Excl, Same, whole_of, take_n, drop_
 use Rattle.acn_grammar.proofs.Prefix.{Law, same_front, padding_law}
 use Rattle.acn_packet_laws.proofs.PrefixNodes.{spell_law, slot_law, own_law, agree_inside, permitted_home, after_there, after_away, all_hold_too, agree_back, chosen_at, item_at, same_item_name, names_one}
 use Rattle.acn_grammar.proofs.SpellLength.{Padding-length, bits-length}
+use Rattle.acn_grammar.proofs.Characters.{characters_long}
 
 abbrev pub LeafExcl : Type 0
 LeafExcl = (leaf : NumLeaf) → IsTrue (num_fine leaf) → (x : ℤ) (bs r : List Bool) (reason : Reason) (reach : ℕ) → Code Any leaf x bs → LeafFails leaf (bs ++ r) reason reach → ⊥
@@ -44,15 +45,6 @@ TextSame = (here : Here) (leaf : TextLeaf) (end : List Bool) (env env' : Env) �
 -- what stands before a node
 padding_long : (align at : ℕ) (a : List Bool) → Padding Any align at a → padding align at ≤ length a
 padding_long align at a p = let l = Padding-length Any align at a p in omega arith
-
-pub characters_long : (leaf : TextLeaf) (cs : List ℕ) (at : ℕ) (bs : List Bool) → CharactersPart leaf cs at bs → length bs ≡ leaf.width * length cs
-characters_long leaf [] at bs e = ap length e ∙ omega arith
-characters_long leaf (c ∷ cs) at bs t =
-    let w = ap length t.whole in
-    let l = length-append t.front t.back in
-    let one = t.first.spelled.width in
-    let two = characters_long leaf cs (at + length t.front) t.back t.second in
-    omega arith
 
 characters_excl : (here : Here) (leaf : TextLeaf) (cs : List ℕ) (n : ℕ) → length cs ≡ n → Excl (CharactersPart leaf cs) (CharactersFail here leaf n)
 characters_excl here leaf cs n e at a r fault reach p (inl f) =

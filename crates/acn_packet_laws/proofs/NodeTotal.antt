@@ -229,14 +229,14 @@ name_or_not (e ∷ items) (suc i) name = name_or_not items i name
 name_or_not (e ∷ items) zero name = by (same_name e.0 name) refl
   where
     by : (t : Bool) → same_name e.0 name ≡ t → ((x : ℤ) × (Some e ≡ Some (name, x))) ⊎ (((x : ℤ) × (Some e ≡ Some (name, x))) → ⊥)
-    by true q = inl (e.1, ap (λ (n : List ℕ). Some (n, e.1)) (Rattle.acn_packet_laws.proofs.Placed.same_name-is e.0 name q))
+    by true q = inl (e.1, ap (λ (n : List ℕ). Some (n, e.1)) (Rattle.acn_grammar.proofs.Characters.same_name-is e.0 name q))
     by false q = inr (λ h. differ (h.0) h.1)
       where
         one : (x y : List ℕ × ℤ) → Some x ≡ Some y → x ≡ y
         one x y h = cc
 
         differ : (x : ℤ) → Some e ≡ Some (name, x) → ⊥
-        differ x h = (let s : e.0 ≡ name = ap (λ z. z.0) (one e (name, x) h) in let t = Rattle.acn_packet_laws.proofs.PrefixNodes.same_name-refl name in let u : same_name e.0 name ≡ true = ap (λ (n : List ℕ). same_name n name) s ∙ t in cc)
+        differ x h = (let s : e.0 ≡ name = ap (λ z. z.0) (one e (name, x) h) in let t = Rattle.acn_grammar.proofs.Characters.same_name-refl name in let u : same_name e.0 name ≡ true = ap (λ (n : List ℕ). same_name n name) s ∙ t in cc)
 
 -- The same of texts.
 abbrev pub TextTotal : Type 0

@@ -13,6 +13,7 @@ use Rattle.acn_grammar.specs.declared.node.Test.{Test}
 use Rattle.acn_grammar.proofs.Codings.{both_are, not_is, equal_numbers}
 use Rattle.acn_grammar.proofs.Texts.{either}
 use Rattle.acn_grammar.proofs.TreeRules.{StandFine, stand_fine, list_all-append}
+use Rattle.acn_grammar.proofs.Characters.{same_name-is}
 
 -- Tests on lists.
 
@@ -59,16 +60,6 @@ list_all-holds p [] s h k = cc
 list_all-holds p (x ∷ xs) s h k =
     let f = both_are (p x) (list_all p xs) h in
     either {F = p s ≡ true} (nat_eq x s) (holds xs s) k (λ e. rw (← equal_numbers x s e) f.0) (λ e. list_all-holds p xs s f.1 e)
-
-pub same_name-is : (xs ys : List ℕ) → same_name xs ys ≡ true → xs ≡ ys
-same_name-is [] [] h = refl
-same_name-is [] (y ∷ ys) h = cc
-same_name-is (x ∷ xs) [] h = cc
-same_name-is (x ∷ xs) (y ∷ ys) h =
-    let f = both_are (nat_eq x y) (same_name xs ys) h in
-    let one = equal_numbers x y f.0 in
-    let rest = same_name-is xs ys f.1 in
-    cc
 
 cond_holds : {F : Type 0} (t : Bool) (x s : ℕ) (rest : List ℕ) → holds (cond t (x ∷ rest) rest) s ≡ true → (t ≡ true → x ≡ s → F) → (holds rest s ≡ true → F) → F
 cond_holds {F} true x s rest h f g = either {F = F} (nat_eq x s) (holds rest s) h (λ q. f refl (equal_numbers x s q)) g

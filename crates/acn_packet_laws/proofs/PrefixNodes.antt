@@ -35,15 +35,10 @@ use Rattle.acn_grammar.proofs.SpellLength.{bits-length}
 use Rattle.acn_packet_laws.proofs.EndedLists.{ended_law}
 use Rattle.acn_packet_laws.proofs.Leads.{not_begun}
 use Rattle.acn_grammar.proofs.Prefix.{Law, then_law, padding_law, same_front, number_law}
+use Rattle.acn_grammar.proofs.Characters.{same_name-refl}
 
 law_map : {P Q : Part} {F G : Type 0} → (F → G) → Law P Q F → Law P Q G
 law_map h law at a b r s p q e = let x = law at a b r s p q e in (x.0, h x.1)
-
-pub same_name-refl : (n : List ℕ) → same_name n n ≡ true
-same_name-refl [] = refl
-same_name-refl (c ∷ cs) =
-    let t : nat_eq c c ≡ true = grind (arith, nat_tests) in
-    rw t (same_name-refl cs)
 
 neither_is : (a b : Bool) → (a || b) ≡ false → (a ≡ false) × (b ≡ false)
 neither_is true b h = cc

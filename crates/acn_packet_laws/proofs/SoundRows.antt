@@ -12,7 +12,7 @@ use Rattle.acn_grammar.specs.declared.node.Test.TheVariants.{Equals}
 use Rattle.acn_packet_laws.proofs.SoundLaws.{second_three, first_five, third_five, fourth_five}
 use Rattle.acn_packet_laws.proofs.Sounding.{got_name, last_two, last_three, last_four}
 use Rattle.acn_packet_laws.proofs.Trees.{u8, octets_of, shared}
-use Rattle.acn_packet_laws.proofs.WidthLaw.{width_holds}
+use Rattle.acn_grammar.proofs.WidthLaw.{width_holds}
 
 abbrev nothing : Known
 nothing s = false

@@ -29,8 +29,8 @@ use Rattle.acn_grammar.proofs.TreeRules.{tree_fine}
 use Rattle.acn_packet_laws.specs.Laws.{SpelledValuesMeet}
 use Rattle.acn_packet_laws.proofs.Codes.{range_within}
 use Rattle.acn_packet_laws.proofs.LeafTotal.{less_or_not}
-use Rattle.acn_packet_laws.proofs.Placed.{same_name-is}
 use Rattle.acn_packet_laws.proofs.TextTotal.{in_below}
+use Rattle.acn_grammar.proofs.Characters.{same_name-is}
 
 both : (a b : Bool) → a ≡ true → b ≡ true → (a && b) ≡ true
 both true b h k = k

@@ -16,10 +16,9 @@ use Rattle.acn_grammar.specs.Spell.{CharactersPart, EndsFirst, octet_numbers}
 use Rattle.acn_grammar.specs.declared.node.TextLeaf.{TextLeaf}
 use Rattle.acn_grammar.proofs.Codings.{both_are, not_is, equal_numbers}
 use Rattle.acn_packet_laws.proofs.Exclusion.{take_n, whole_of}
-use Rattle.acn_packet_laws.proofs.NodeExclusion.{TextExcl, TextSame, characters_long}
-use Rattle.acn_packet_laws.proofs.Placed.{same_name-is}
-use Rattle.acn_packet_laws.proofs.PrefixNodes.{same_name-refl}
+use Rattle.acn_packet_laws.proofs.NodeExclusion.{TextExcl, TextSame}
 use Rattle.acn_grammar.proofs.SpanLaw.{size_has}
+use Rattle.acn_grammar.proofs.Characters.{same_name-is, same_name-refl, characters_long}
 
 found_same : (here : Here) (leaf : TextLeaf) (ending most available : ℕ) (rest : List Bool) (o : Option ℕ) (f g : Fault) (m n : ℕ) → FoundFails here leaf ending most available rest o f m → FoundFails here leaf ending most available rest o g n → (f ≡ g) × (m ≡ n)
 found_same here leaf ending most available rest None f g m n (inl p) (inl q) = (p.1 ∙ sym q.1, p.2 ∙ sym q.2)

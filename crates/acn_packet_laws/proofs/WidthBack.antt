@@ -32,7 +32,7 @@ use Rattle.acn_grammar.proofs.LeafLengths.{code-length, le_fact, lt_fact, eq_fac
 use Rattle.acn_grammar.proofs.Monotone.{Varies}
 use Rattle.acn_grammar.proofs.SpanLaw.{fixed_is, varies_if}
 use Rattle.acn_grammar.proofs.Texts.{either}
-use Rattle.acn_packet_laws.proofs.WidthLaw.{width_holds}
+use Rattle.acn_grammar.proofs.WidthLaw.{width_holds}
 use Rattle.acn_grammar.proofs.Within.{image_has}
 
 le_true : (a b : ℤ) → a ≤ℤ b → int_le a b ≡ true

@@ -8,9 +8,8 @@ use Rattle.acn_grammar.specs.Asks.{same_name}
 use Rattle.acn_grammar.specs.Fails.{found_end}
 use Rattle.acn_grammar.specs.LeafFails.{octet_values}
 use Rattle.acn_grammar.specs.Spell.{octet_numbers, EndsFirst}
-use Rattle.acn_packet_laws.proofs.Placed.{same_name-is}
-use Rattle.acn_packet_laws.proofs.PrefixNodes.{same_name-refl}
 use Rattle.acn_text.proofs.Octets.{octets_few, octets_most, octets_count, octets-take, octets-drop, octets_tell}
+use Rattle.acn_grammar.proofs.Characters.{same_name-is, same_name-refl}
 
 cond_true : (t : Bool) (a : ℕ) (rest : Option ℕ) → t ≡ true → cond t (Some a) rest ≡ Some a
 cond_true true a rest e = refl

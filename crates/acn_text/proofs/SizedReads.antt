@@ -15,12 +15,12 @@ use Rattle.acn_grammar.specs.declared.node.SizeRule.{SizeRule}
 use Rattle.acn_grammar.specs.declared.node.SizeRule.TheVariants.{Prefix, Slot, Ended}
 use Rattle.acn_grammar.specs.declared.node.Sizing.{Sizing}
 use Rattle.acn_grammar.specs.declared.node.TextLeaf.{TextLeaf}
-use Rattle.acn_packet_laws.proofs.NodeExclusion.{characters_long}
 use Rattle.acn_grammar.proofs.Prefix.{same_front}
 use Rattle.acn_text.specs.Texts.{SlotSays, TextCode, PassedText, NoTextAt, fault_here}
 use Rattle.acn_text.specs.Steps.{SizeTaken, SizeMissing, NoSizeAt, IsCharacter, NoCharacter, PassedCharacters, NoCharactersAt}
 use Rattle.acn_text.proofs.Fine.{FineText}
 use Rattle.acn_text.proofs.Places.{character_below, some_character}
+use Rattle.acn_grammar.proofs.Characters.{characters_long}
 
 -- Fronts that were read.
 

@@ -16,13 +16,12 @@ use Rattle.acn_grammar.specs.Spell.{RulePart, CharactersPart, EndedPart, EndsFir
 use Rattle.acn_grammar.specs.declared.node.SizeRule.{SizeRule}
 use Rattle.acn_grammar.specs.declared.node.SizeRule.TheVariants.{Prefix, Slot, Ended}
 use Rattle.acn_grammar.specs.declared.node.TextLeaf.{TextLeaf}
-use Rattle.acn_packet_laws.proofs.NodeExclusion.{characters_long}
-use Rattle.acn_packet_laws.proofs.PrefixNodes.{same_name-refl}
 use Rattle.acn_text.specs.Texts.{TextCode, SlotSays, given_size}
 use Rattle.acn_text.specs.Steps.{SizeFits, NumbersFit, size_bits, character_bits, text_bits}
 use Rattle.acn_text.proofs.Ends.{none_passes}
 use Rattle.acn_text.proofs.Fine.{FineText, size_fits}
 use Rattle.acn_text.proofs.Places.{character_below}
+use Rattle.acn_grammar.proofs.Characters.{same_name-refl, characters_long}
 
 -- What a text that meets the leaf keeps.
 
