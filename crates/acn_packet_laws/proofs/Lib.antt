@@ -1,7 +1,10 @@
 pub mod Accepted
+mod Answering
+pub mod AskHomes
 pub mod AskRows
 pub mod BoundsLaw
 pub mod Codes
+mod Contents
 pub mod CountedTotal
 pub mod EndedExclusion
 pub mod EndedListFails
@@ -16,16 +19,16 @@ pub mod FlagRows
 pub mod HasCode
 pub mod HasImage
 pub mod Homes
-pub mod AskHomes
+pub mod InputTotal
+mod Items
+pub mod LaidOut
 pub mod LawRows
+pub mod Leads
 pub mod LeafExclusion
 pub mod LeafLaws
 pub mod LeafReaches
 pub mod LeafRows
 pub mod LeafTotal
-pub mod InputTotal
-pub mod LaidOut
-pub mod Leads
 pub mod LengthLaw
 pub mod Lengths
 pub mod Moves
@@ -33,31 +36,34 @@ pub mod NodeExclusion
 pub mod NodeLaws
 pub mod NodeTotal
 pub mod NumberTotal
-pub mod OneFault
-pub mod OpenFields
 pub mod Occurrences
+pub mod OneFault
+mod OneRefusals
 pub mod OneWriting
+pub mod OpenFields
 pub mod Overlaps
 pub mod Placed
 pub mod PrefixNodes
 pub mod Reaches
+mod RefusedUnspelled
 pub mod RequestRows
 pub mod Rows
 pub mod Scoping
-pub mod SpelledMeets
 pub mod SlotLeaves
-pub mod Sounding
 pub mod SoundLaws
 pub mod SoundNodes
 pub mod SoundRows
+pub mod Sounding
+pub mod SpelledMeets
 pub mod TelemetryRows
 pub mod TextLaws
 pub mod TextReaches
-pub mod TextTotal
 pub mod TextRows
+pub mod TextTotal
 pub mod Trees
-pub mod UseKinds
 pub mod Unbreached
+pub mod UseKinds
+mod Used
 pub mod WidthBack
 pub mod WidthLaw
 pub mod Widths

@@ -203,5 +203,9 @@ abbrev pub EachValueIsWrittenOrRefused : Type 0
 EachValueIsWrittenOrRefused = (root : Grammar) (d : Data) → IsAccepted root → Shaped root d → ((bs : List Bool) × IsWritten root d bs) ⊎ ((u : Unfit) × Refused root d u)
 
 -- what is refused has no spelling, neither written nor read
-abbrev pub RefusedHasNoSpelling : Type 0
-RefusedHasNoSpelling = (root : Grammar) (d : Data) (u : Unfit) (bs : List Bool) → IsAccepted root → Refused root d u → Spell root Any root [] d 0 bs → ⊥
+abbrev pub RefusedIsNotSpelled : Type 0
+RefusedIsNotSpelled = (root : Grammar) (mode : Mode) (d : Data) (u : Unfit) (bs : List Bool) → IsAccepted root → Refused root d u → Spell root mode root [] d 0 bs → ⊥
+
+-- a value is refused for one reason, at one place
+abbrev pub OneRefusal : Type 0
+OneRefusal = (root : Grammar) (d : Data) (u w : Unfit) → Refused root d u → Refused root d w → u ≡ w

@@ -1,4 +1,4 @@
-ghost use Rattle.acn_packet_laws.specs.Laws.{NumbersArePrefixFree, BoundsHold, FailuresRestOnBits, FrontsRestOnBits, NoFaultWithoutAFirst, OneFirstFault, AcceptedIsScoped, AcceptedIsSound, EachNodeIsSound, SoundIsScoped, KnownBehind, FewAreOpen, UsesFitTheirSlots, NodesArePrefixFree, SlotFieldsArePrefixFree, EachNodeIsPrefixFree, PacketsArePrefixFree, EachNumberHasACode, LengthsAreTold, EachLengthIsTold, WidthsAreLengths, OneFront, FrontsExcludeFailures, OneFailure, EachInputIsReadOrFails, EachInputIsANumberOrFails, WrittenIsRead, SpelledValuesMeet, SpellingsHaveNoBreach, EachOccurrenceAsks, OneWriting};
+ghost use Rattle.acn_packet_laws.specs.Laws.{NumbersArePrefixFree, BoundsHold, FailuresRestOnBits, FrontsRestOnBits, NoFaultWithoutAFirst, OneFirstFault, AcceptedIsScoped, AcceptedIsSound, EachNodeIsSound, SoundIsScoped, KnownBehind, FewAreOpen, UsesFitTheirSlots, NodesArePrefixFree, SlotFieldsArePrefixFree, EachNodeIsPrefixFree, PacketsArePrefixFree, EachNumberHasACode, LengthsAreTold, EachLengthIsTold, WidthsAreLengths, OneFront, FrontsExcludeFailures, OneFailure, EachInputIsReadOrFails, EachInputIsANumberOrFails, WrittenIsRead, SpelledValuesMeet, SpellingsHaveNoBreach, EachOccurrenceAsks, OneWriting, RefusedIsNotSpelled, OneRefusal};
 
 /// No code of a number leaf begins another, and the code tells the number.
 pub fn numbers_are_prefix_free()
@@ -155,4 +155,14 @@ pub fn each_occurrence_asks()
 /// A value of an accepted tree is written in one way.
 pub fn one_writing()
     ensures { OneWriting }
+{}
+
+/// A value that is refused has no spelling, neither written nor read.
+pub fn refused_is_not_spelled()
+    ensures { RefusedIsNotSpelled }
+{}
+
+/// A value is refused for one reason, at one place.
+pub fn one_refusal()
+    ensures { OneRefusal }
 {}
