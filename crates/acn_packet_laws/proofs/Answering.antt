@@ -1,8 +1,7 @@
 -- A number that a spelled value was spelled with meets all that the value asks of its slot.
-use Rattle.std.proofs.Common.{◌≡◌, ℕ, zero, suc, ◌+◌, ◌*◌, ℤ, pos, Bool, true, false, List, [], ◌∷◌, ◌++◌, length, map, Option, Some, None, refl, sym, ap, ◌∙◌, arith, inl, inr, ◌⊎◌, ◌&&◌, ◌||◌, nat_eq, subst}
-use Rattle.std.specs.Prelude.{slice_get, if◌then◌else◌, nat_lt, not}
-use Rattle.std.specs.List.{AllByRecursion, flat_map, list_all, zip}
-use Rattle.std.proofs.lemmas.Int.{ints}
+use Rattle.std.proofs.Common.{◌≡◌, ℕ, zero, suc, ◌+◌, ℤ, pos, Bool, true, false, List, [], ◌∷◌, ◌++◌, length, Option, Some, None, refl, sym, ap, ◌∙◌, arith, inl, inr, ◌⊎◌, ◌||◌, nat_eq, subst}
+use Rattle.std.specs.Prelude.{if◌then◌else◌}
+use Rattle.std.specs.List.{AllByRecursion, flat_map, zip}
 use Rattle.acn_num.specs.Bits.{octets as octets_for}
 use Rattle.acn_num.specs.Ranges.{In}
 use Rattle.acn_grammar.specs.Asks.{Ask, Equal, Avoid, index_of, same_name}
@@ -10,10 +9,9 @@ use Rattle.acn_grammar.specs.AsksOn.{on, test_ask_on, presence_asks_on, size_ask
 use Rattle.acn_grammar.specs.Code.{Mode}
 use Rattle.acn_grammar.specs.Env.{Env, at_slot, AllHold, Holds, MayBeThere, MayBeAway}
 use Rattle.acn_grammar.specs.Grammar.{Grammar, Form, Fields, Alternatives, Data, Places, Elements, node, num, octets, bits, text, seq, list, choice, contained, no_fields, component, inserted, no_alternatives, alternative, octet_string, bit_string, characters, record_of, list_of, alt, no_places, empty, filled, no_elements, element, element_count}
-use Rattle.acn_grammar.specs.Leaves.{all_differ, num_fine, set_fine, is_range, no_items, items_fine, integer_set_fine}
 use Rattle.acn_grammar.specs.Length.{bit_length, number_of, ending}
-use Rattle.acn_grammar.specs.Slots.{items_of, slot_leaf, domain_of}
-use Rattle.acn_grammar.specs.Spell.{Part, Spell, FormPart, FieldsPart, AlternativePart, RulePart, SizePart, RunPart, ListPart, EndedPart, Window, Fill, Carries, Chosen, with_home}
+use Rattle.acn_grammar.specs.Slots.{items_of, domain_of}
+use Rattle.acn_grammar.specs.Spell.{Part, Spell, FormPart, FieldsPart, AlternativePart, RulePart, SizePart, RunPart, ListPart, EndedPart, Carries, Chosen, with_home}
 use Rattle.acn_grammar.specs.Tree.{IsTree, holds}
 use Rattle.acn_grammar.specs.declared.node.ChoiceRule.{ChoiceRule}
 use Rattle.acn_grammar.specs.declared.node.ChoiceRule.TheVariants.{Index, Tests, Item}
@@ -34,7 +32,7 @@ use Rattle.acn_packet_laws.proofs.SoundLaws.{first_three, second_three, second_f
 use Rattle.acn_packet_laws.proofs.Sounding.{last_two, last_three, last_four}
 use Rattle.acn_packet_laws.proofs.Used.{each_both, TestFits, PresenceFits, CaseFits, EndFits, NodeUsed, FormUsed, FieldsUsed, CasesUsed}
 
-not_at_home : (home : List ℕ) (xs : List ℤ) (env : Env) (s : ℕ) → holds home s ≡ false → at_slot (with_home home xs env) s ≡ at_slot env s
+pub not_at_home : (home : List ℕ) (xs : List ℤ) (env : Env) (s : ℕ) → holds home s ≡ false → at_slot (with_home home xs env) s ≡ at_slot env s
 not_at_home [] xs env s h = refl
 not_at_home (t ∷ home) [] env s h = refl
 not_at_home (t ∷ home) (x ∷ xs) env s h = by (nat_eq t s) (holds home s) h (not_at_home home xs env s)
@@ -176,8 +174,8 @@ module _ (root : Grammar) (tree : IsTree root) (mode : Mode) (s : ℕ) (x : ℤ)
         (fields_met fs none.1 w.1 around (last_four u) env is ps (at + length t.front) t.back t.second)
     fields_met (component name g presence default o fs) none w around u env is (empty ps) at bs t =
         each_both (MeetsAsk x) (presence_asks_on s false presence) (fields_asks_on root s fs ps) (presence_away around env is presence (second_four u) t.given) (fields_met fs none.1 w.1 around (last_four u) env is ps at bs t.spelled)
-    fields_met (inserted name g (Some r) fs) none w around u env is ps at bs t = fields_met fs none w.1 around u env is ps (at + length t.front) t.back t.second
-    fields_met (inserted name g None fs) none w around u env is ps at bs t = fields_met fs none w.1 around u env is ps (at + length t.front) t.back t.second
+    fields_met (inserted name g (Some r) fs) none w around u env is ps at bs t = fields_met fs none w.1 around (last_two u) env is ps (at + length t.front) t.back t.second
+    fields_met (inserted name g None fs) none w around u env is ps at bs t = fields_met fs none w.1 around (last_two u) env is ps (at + length t.front) t.back t.second
     fields_met _ none w around u env is ps at bs t = absurd t.0
 
     case_met : (cases : Alternatives) → CasesNot s cases → SteadyAlternatives cases → (rule : ChoiceRule) (around : List ℕ) → CasesUsed root around rule cases → (env : Env) → at_slot env s ≡ Some x → (i : ℕ) (d : Data) (at : ℕ) (bs : List Bool) → AlternativePart root mode cases rule env i d at bs → Met (alternative_asks_on root s cases rule i d)

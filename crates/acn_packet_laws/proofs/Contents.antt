@@ -1,5 +1,5 @@
 -- How many octets the contents of a value have.
-use Rattle.std.proofs.Common.{◌≡◌, ℕ, ◌*◌, Bool, List, length, arith, sym}
+use Rattle.std.proofs.Common.{◌≡◌, ℕ, Bool, List, arith}
 use Rattle.acn_num.specs.Bits.{octets as octets_for}
 use Rattle.acn_grammar.specs.Code.{Mode}
 use Rattle.acn_grammar.specs.Env.{Env}

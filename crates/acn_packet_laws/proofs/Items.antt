@@ -1,13 +1,12 @@
 -- An item of a slot by its name is the one by its place, since the names differ.
 use Rattle.std.proofs.Common.{◌≡◌, ℕ, zero, suc, ◌-◌, ℤ, pos, Bool, true, false, not, List, [], ◌∷◌, length, Option, Some, None, refl, sym, ap, ◌∙◌, arith, ◌&&◌, nat_eq, nat_lt, int_eq}
-use Rattle.std.specs.Prelude.{slice_get, if◌then◌else◌, unwrap_or, option_map}
+use Rattle.std.specs.Prelude.{slice_get, unwrap_or, option_map}
 use Rattle.std.specs.List.{list_any}
-use Rattle.std.proofs.lemmas.Bool.Decides.{nat_tests}
 use Rattle.acn_num.specs.Ranges.{are_ranges}
 use Rattle.acn_grammar.specs.Asks.{same_name, index_of}
 use Rattle.acn_grammar.specs.Grammar.{Grammar}
 use Rattle.acn_grammar.specs.Images.{ends}
-use Rattle.acn_grammar.specs.Leaves.{all_differ, num_fine, set_fine, is_range, no_items, items_fine, integer_set_fine}
+use Rattle.acn_grammar.specs.Leaves.{all_differ, set_fine, is_range, no_items, items_fine, integer_set_fine}
 use Rattle.acn_grammar.specs.Slots.{items_of, slot_leaf}
 use Rattle.acn_grammar.specs.Tree.{IsTree}
 use Rattle.acn_grammar.specs.declared.node.Items.{Items}

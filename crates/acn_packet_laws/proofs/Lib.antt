@@ -6,6 +6,7 @@ pub mod BoundsLaw
 pub mod Codes
 mod Contents
 pub mod CountedTotal
+mod EachWritten
 pub mod EndedExclusion
 pub mod EndedListFails
 pub mod EndedLists
@@ -15,6 +16,7 @@ pub mod Envs
 pub mod Exclusion
 pub mod ExclusionLaws
 pub mod FirstFaults
+mod FirstUnmets
 pub mod FlagRows
 pub mod HasCode
 pub mod HasImage
@@ -29,6 +31,7 @@ pub mod LeafLaws
 pub mod LeafReaches
 pub mod LeafRows
 pub mod LeafTotal
+mod LeastAnswers
 pub mod LengthLaw
 pub mod Lengths
 pub mod Moves
@@ -42,6 +45,7 @@ mod OneRefusals
 pub mod OneWriting
 pub mod OpenFields
 pub mod Overlaps
+mod PathSlots
 pub mod Placed
 pub mod PrefixNodes
 pub mod Reaches
@@ -68,4 +72,7 @@ pub mod WidthBack
 pub mod WidthLaw
 pub mod Widths
 pub mod WorkedRows
+mod WrittenNodes
+mod WrittenParts
 pub mod WrittenRead
+mod WrittenSizes

@@ -1,50 +1,53 @@
 -- A value is refused for one reason: the first moment that can't be met is one, and so is the earlier ask that contradicts it.
-use Rattle.std.proofs.Common.{◌≡◌, ℕ, ℤ, pos, Bool, true, false, List, [], ◌∷◌, ◌++◌, Option, Some, None, refl, sym, ap, ◌∙◌, append_assoc, append-nil, inl, inr, ◌⊎◌, subst}
-use Rattle.std.specs.Prelude.{if◌then◌else◌}
-use Rattle.std.specs.List.{AllByRecursion, flat_map}
+use Rattle.std.proofs.Common.{◌≡◌, ℕ, ℤ, List, [], ◌∷◌, ◌++◌, Option, Some, None, refl, sym, ap, ◌∙◌, append_assoc, append-nil, inl, inr, ◌⊎◌, subst}
+use Rattle.std.specs.List.{AllByRecursion}
 use Rattle.std.proofs.lemmas.Grind.{flat_map-append}
 use Rattle.acn_grammar.specs.Asks.{Ask, Equal, Avoid, Moment, asks, counts, moments, same_name}
 use Rattle.acn_grammar.specs.AsksOn.{MeetsAsk, Meetable, Answers}
-use Rattle.acn_grammar.specs.Grammar.{Grammar, Data}
+use Rattle.acn_grammar.specs.Grammar.{Grammar}
 use Rattle.acn_grammar.specs.Meets.{Unfit, conflict, breach}
 use Rattle.acn_grammar.specs.Refused.{of_field, asks_of, IsAsked, Contradicts, Earlier, Says, CanBeMet, FirstUnmet, RefusedAfter}
 use Rattle.acn_grammar.specs.Slots.{domain_of}
 use Rattle.acn_packet_laws.specs.Laws.{OneRefusal}
 use Rattle.acn_packet_laws.proofs.AskHomes.{truth, if_yes, if_no}
-use Rattle.acn_packet_laws.proofs.Homes.{out}
 use Rattle.acn_packet_laws.proofs.Placed.{same_name-is}
 use Rattle.acn_packet_laws.proofs.Used.{each_right}
 
--- What was asked of a field before a moment can be met, where it can be met at each moment.
-module _ (root : Grammar) where
-  -- nothing was asked of the field, or some number of a set meets it all
-  abbrev pub Held : List ℕ → List Moment → Type 0
-  Held f ms = (asks_of f ms ≡ []) ⊎ ((set : List (ℤ × ℤ)) × Meetable set (asks_of f ms))
+abbrev pub EachMet : Grammar → List Moment → Type 0
+EachMet root ms = (early late : List Moment) (m : Moment) → ms ≡ early ++ m ∷ late → CanBeMet root early m
 
-  abbrev pub EachMet : List Moment → Type 0
-  EachMet ms = (early late : List Moment) (m : Moment) → ms ≡ early ++ m ∷ late → CanBeMet root early m
+-- What was asked of a field before a moment can be met, where it can be met at each moment.
+module _ (root : Grammar) (Of : List ℕ → ℕ → Type 0) where
+  -- nothing was asked of the field, or some number of a slot whose field it is meets it all
+  abbrev pub Held : List ℕ → List Moment → Type 0
+  Held f ms = (asks_of f ms ≡ []) ⊎ ((s : ℕ) × Of f s × Meetable (domain_of root s) (asks_of f ms))
+
+  -- the field of a moment is one of its slot
+  abbrev pub IsOf : Moment → Type 0
+  IsOf (asks path field s a) = Of field s
+  IsOf (counts path n sizing) = Unit {0}
 
   same_asks : (f : List ℕ) (a b : List Moment) → asks_of f b ≡ asks_of f a → Held f a → Held f b
   same_asks f a b e (inl n) = inl (e ∙ n)
-  same_asks f a b e (inr h) = inr (h.0, subst (Meetable h.0) (sym e) h.1)
+  same_asks f a b e (inr h) = inr (h.0, h.1, subst (Meetable (domain_of root h.0)) (sym e) h.2)
 
-  held_step : (f : List ℕ) (early : List Moment) (m : Moment) → Held f early → CanBeMet root early m → Held f (early ++ m ∷ [])
-  held_step f early (counts path n sizing) h c = same_asks f early (early ++ counts path n sizing ∷ []) (flat_map-append (of_field f) early (counts path n sizing ∷ []) ∙ append-nil (asks_of f early)) h
-  held_step f early (asks path field s a) h c = truth {F = Held f (early ++ asks path field s a ∷ [])} (same_name f field)
+  held_step : (f : List ℕ) (early : List Moment) (m : Moment) → IsOf m → Held f early → CanBeMet root early m → Held f (early ++ m ∷ [])
+  held_step f early (counts path n sizing) i h c = same_asks f early (early ++ counts path n sizing ∷ []) (flat_map-append (of_field f) early (counts path n sizing ∷ []) ∙ append-nil (asks_of f early)) h
+  held_step f early (asks path field s a) i h c = truth {F = Held f (early ++ asks path field s a ∷ [])} (same_name f field)
       (λ e.
       let is = flat_map-append (of_field f) early (asks path field s a ∷ []) ∙ ap (λ x. asks_of f early ++ (x ++ [])) (if_yes (same_name f field) (a ∷ []) [] e) in
-      let there = subst (λ g. Meetable (domain_of root s) (asks_of g early ++ a ∷ [])) (sym (same_name-is f field e)) c in
-      inr (domain_of root s, subst (Meetable (domain_of root s)) (sym is) there))
+      let same = sym (same_name-is f field e) in
+      inr (s, subst (λ g. Of g s) same i, subst (Meetable (domain_of root s)) (sym is) (subst (λ g. Meetable (domain_of root s) (asks_of g early ++ a ∷ [])) same c)))
       (λ e. same_asks f early (early ++ asks path field s a ∷ []) (flat_map-append (of_field f) early (asks path field s a ∷ []) ∙ (ap (λ x. asks_of f early ++ (x ++ [])) (if_no (same_name f field) (a ∷ []) [] e) ∙ append-nil (asks_of f early))) h)
 
-  held_from : (f : List ℕ) (rest early : List Moment) → Held f early → EachMet (early ++ rest) → Held f (early ++ rest)
-  held_from f [] early h met = subst (Held f) (sym (append-nil early)) h
-  held_from f (m ∷ rest) early h met =
+  held_from : (f : List ℕ) (rest early : List Moment) → AllByRecursion IsOf rest → Held f early → EachMet root (early ++ rest) → Held f (early ++ rest)
+  held_from f [] early i h met = subst (Held f) (sym (append-nil early)) h
+  held_from f (m ∷ rest) early i h met =
       subst (Held f) (append_assoc early (m ∷ []) rest)
-      (held_from f rest (early ++ m ∷ []) (held_step f early m h (met early rest m refl)) (λ e l n is. met e l n (sym (append_assoc early (m ∷ []) rest) ∙ is)))
+      (held_from f rest (early ++ m ∷ []) i.1 (held_step f early m i.0 h (met early rest m refl)) (λ e l n is. met e l n (sym (append_assoc early (m ∷ []) rest) ∙ is)))
 
-  pub held : (f : List ℕ) (ms : List Moment) → EachMet ms → Held f ms
-  held f ms met = held_from f ms [] (inl refl) met
+  pub held : (f : List ℕ) (ms : List Moment) → AllByRecursion IsOf ms → EachMet root ms → Held f ms
+  held f ms i met = held_from f ms [] i (inl refl) met
 
 -- One number at most was asked for.
 
@@ -61,9 +64,21 @@ none_asked wanted a e h = by h.early (sym h.is ∙ e)
 abbrev Consistent : List Ask → Type 0
 Consistent wanted = (m n : ℤ) → IsAsked wanted (Equal m) → IsAsked wanted (Equal n) → m ≡ n
 
-consistent : (root : Grammar) (f : List ℕ) (ms : List Moment) → Held root f ms → Consistent (asks_of f ms)
+-- of any slot
+abbrev AnySlot : List ℕ → ℕ → Type 0
+AnySlot f s = Unit {0}
+
+any_slot : (root : Grammar) (ms : List Moment) → AllByRecursion (IsOf root AnySlot) ms
+any_slot root [] = tt
+any_slot root (asks path field s a ∷ ms) = (tt, any_slot root ms)
+any_slot root (counts path n sizing ∷ ms) = (tt, any_slot root ms)
+
+consistent : (root : Grammar) (f : List ℕ) (ms : List Moment) → Held root AnySlot f ms → Consistent (asks_of f ms)
 consistent root f ms (inl e) m n p q = absurd (none_asked (asks_of f ms) (Equal m) e p)
-consistent root f ms (inr h) m n p q = sym (asked_is h.0 (asks_of f ms) h.1.0 h.1.1 m p) ∙ asked_is h.0 (asks_of f ms) h.1.0 h.1.1 n q
+consistent root f ms (inr h) m n p q = by h.2
+  where
+    by : Meetable (domain_of root h.0) (asks_of f ms) → m ≡ n
+    by k = sym (asked_is (domain_of root h.0) (asks_of f ms) k.0 k.1 m p) ∙ asked_is (domain_of root h.0) (asks_of f ms) k.0 k.1 n q
 
 avoids_one : (m n : ℤ) (a : Ask) → Contradicts (Avoid m) a → Contradicts (Avoid n) a → m ≡ n
 avoids_one m n (Equal k) p q = p ∙ sym q
@@ -82,7 +97,7 @@ earlier_one before c a None None h k = refl
 
 -- Two places in one list.
 
-data Splits (a b : List Moment) (x y : Moment) : Type 0 where
+pub data Splits (a b : List Moment) (x y : Moment) : Type 0 where
   at_one : a ≡ b → x ≡ y → Splits a b x y
   first_before : (late : List Moment) → b ≡ a ++ x ∷ late → Splits a b x y
   first_behind : (late : List Moment) → a ≡ b ++ y ∷ late → Splits a b x y
@@ -92,7 +107,7 @@ further m n x y a b e (at_one p q) = let whole : m ∷ a ≡ n ∷ b = cc in at_
 further m n x y a b e (first_before late p) = let whole : n ∷ b ≡ m ∷ (a ++ x ∷ late) = cc in first_before late whole
 further m n x y a b e (first_behind late p) = let whole : m ∷ a ≡ n ∷ (b ++ y ∷ late) = cc in first_behind late whole
 
-splits : (a b c e : List Moment) (x y : Moment) → a ++ x ∷ c ≡ b ++ y ∷ e → Splits a b x y
+pub splits : (a b c e : List Moment) (x y : Moment) → a ++ x ∷ c ≡ b ++ y ∷ e → Splits a b x y
 splits [] [] c e x y h = at_one refl cc
 splits [] (n ∷ b) c e x y h = first_before b (let same : n ≡ x = cc in ap (λ z. z ∷ b) same)
 splits (m ∷ a) [] c e x y h = first_behind a (let same : m ≡ y = cc in ap (λ z. z ∷ a) same)
@@ -104,7 +119,7 @@ splits (m ∷ a) (n ∷ b) c e x y h =
 says_one : (root : Grammar) (before : List Moment) (here : Moment) → EachMet root before → (u w : Unfit) → Says before here u → Says before here w → u ≡ w
 says_one root before (counts path n sizing) met u w p q = p ∙ sym q
 says_one root before (asks path field s a) met u w p q =
-    let same = earlier_one (asks_of field before) (consistent root field before (held root field before met)) a p.0 q.0 p.1 q.1 in
+    let same = earlier_one (asks_of field before) (consistent root field before (held root AnySlot field before (any_slot root before) met)) a p.0 q.0 p.1 q.1 in
     p.2 ∙ (ap (λ e. record { path = path; why = conflict field e a }) same ∙ sym q.2)
 
 unmet_one : (root : Grammar) (ms : List Moment) (u w : Unfit) → FirstUnmet root ms u → FirstUnmet root ms w → u ≡ w

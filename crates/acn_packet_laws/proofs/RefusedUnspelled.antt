@@ -1,19 +1,18 @@
 -- A value that is refused has no spelling: what its walk asks is met by the numbers that it is spelled with.
-use Rattle.std.proofs.Common.{◌≡◌, ℕ, zero, suc, ◌+◌, ◌*◌, ◌≤◌, ℤ, pos, Bool, true, false, List, [], ◌∷◌, ◌++◌, length, map, Option, Some, None, refl, sym, ap, ◌∙◌, arith, append_assoc, append-nil, subst, nat_eq}
-use Rattle.std.specs.Prelude.{if◌then◌else◌, unwrap_or}
-use Rattle.std.specs.List.{AllByRecursion, flat_map}
+use Rattle.std.proofs.Common.{◌≡◌, ℕ, zero, suc, ◌+◌, ◌≤◌, ℤ, pos, Bool, true, false, List, [], ◌∷◌, ◌++◌, length, map, Option, Some, None, refl, sym, ap, ◌∙◌, arith, append_assoc, append-nil, subst, nat_eq}
+use Rattle.std.specs.List.{AllByRecursion}
 use Rattle.std.proofs.lemmas.Grind.{flat_map-append}
 use Rattle.acn_num.specs.Bits.{octets as octets_for}
 use Rattle.acn_num.specs.Ranges.{In}
-use Rattle.acn_grammar.specs.Asks.{Ask, Equal, Moment, asks, counts, FieldPaths, field_of, field_path, with_fields, asked, test_asks, presence_asks, size_asks, own_asks, rule_asks, run_moments, moments, form_moments, fields_moments, alternative_moments, same_name}
-use Rattle.acn_grammar.specs.AsksOn.{MeetsAsk, Meetable, form_asks_on}
+use Rattle.acn_grammar.specs.Asks.{Ask, Moment, asks, counts, FieldPaths, field_of, field_path, with_fields, test_asks, presence_asks, size_asks, own_asks, rule_asks, run_moments, moments, form_moments, fields_moments, alternative_moments, same_name}
+use Rattle.acn_grammar.specs.AsksOn.{MeetsAsk, form_asks_on}
 use Rattle.acn_grammar.specs.Code.{Mode}
 use Rattle.acn_grammar.specs.Env.{Env}
 use Rattle.acn_grammar.specs.Grammar.{Grammar, Form, Fields, Alternatives, Data, Places, Elements, node, num, octets, bits, text, seq, list, choice, contained, no_fields, component, inserted, no_alternatives, alternative, octet_string, bit_string, characters, record_of, list_of, alt, no_places, empty, filled, no_elements, element, element_count}
 use Rattle.acn_grammar.specs.Length.{bit_length, ending}
 use Rattle.acn_grammar.specs.Meets.{Unfit, breach, breaches, first_of}
-use Rattle.acn_grammar.specs.PartAt.{Occurrence, occurrence, part_at, form_part, field_part, alternative_part, element_part}
-use Rattle.acn_grammar.specs.Refused.{of_field, asks_of, CanBeMet, FirstUnmet, Refused, RefusedAfter}
+use Rattle.acn_grammar.specs.PartAt.{Occurrence, occurrence, part_at, field_part, alternative_part, element_part}
+use Rattle.acn_grammar.specs.Refused.{of_field, asks_of, CanBeMet, RefusedAfter}
 use Rattle.acn_grammar.specs.Slots.{domain_of}
 use Rattle.acn_grammar.specs.Spell.{Part, Spell, FormPart, FieldsPart, AlternativePart, RunPart, ListPart, with_home}
 use Rattle.acn_grammar.specs.Tree.{IsTree, holds}
@@ -27,7 +26,7 @@ use Rattle.acn_grammar.specs.declared.node.SizeRule.TheVariants.{Prefix, Slot, E
 use Rattle.acn_grammar.specs.declared.node.Test.{Test}
 use Rattle.acn_grammar.specs.declared.node.Test.TheVariants.{Flag, Equals}
 use Rattle.acn_grammar.proofs.SpellLength.{Steady, SteadyForm, SteadyFields, SteadyAlternatives}
-use Rattle.acn_packet_laws.specs.Laws.{IsAccepted, RefusedIsNotSpelled}
+use Rattle.acn_packet_laws.specs.Laws.{RefusedIsNotSpelled}
 use Rattle.acn_packet_laws.proofs.Answering.{at_home, fields_met}
 use Rattle.acn_packet_laws.proofs.AskHomes.{FormHomes, NodeHomes, FieldsHomes, CasesHomes, tree_homes, differs, truth, if_yes, if_no}
 use Rattle.acn_packet_laws.proofs.Contents.{content_octets}
@@ -179,9 +178,9 @@ module _ (root : Grammar) (tree : IsTree root) (mode : Mode) (whole : Data) wher
         each_both Good (presence_asks paths (p ++ k ∷ []) false presence) (fields_moments root fs paths p (suc k) ps) (good_presence around paths outer (p ++ k ∷ []) false presence (second_four u))
         (good_fields fs homes.1 w.1 around (last_four u) paths outer p (suc k) env ps (λ m r x l e. s m r x (omega arith) (if_no (nat_eq m k) None (field_part fs (suc k) ps m r) (differs m k l) ∙ e)) at bs t.spelled)
     good_fields (inserted name g (Some n) fs) homes w around u paths outer p k env ps s at bs t =
-        good_fields fs homes w.1 around u paths outer p (suc k) env ps (λ m r x l e. s m r x (omega arith) (if_no (nat_eq m k) None (field_part fs (suc k) ps m r) (differs m k l) ∙ e)) (at + length t.front) t.back t.second
+        good_fields fs homes w.1 around (last_two u) paths outer p (suc k) env ps (λ m r x l e. s m r x (omega arith) (if_no (nat_eq m k) None (field_part fs (suc k) ps m r) (differs m k l) ∙ e)) (at + length t.front) t.back t.second
     good_fields (inserted name g None fs) homes w around u paths outer p k env ps s at bs t =
-        good_fields fs homes w.1 around u paths outer p (suc k) env ps (λ m r x l e. s m r x (omega arith) (if_no (nat_eq m k) None (field_part fs (suc k) ps m r) (differs m k l) ∙ e)) (at + length t.front) t.back t.second
+        good_fields fs homes w.1 around (last_two u) paths outer p (suc k) env ps (λ m r x l e. s m r x (omega arith) (if_no (nat_eq m k) None (field_part fs (suc k) ps m r) (differs m k l) ∙ e)) (at + length t.front) t.back t.second
     good_fields _ homes w around u paths outer p k env ps s at bs t = absurd t.0
 
     good_case : (cases : Alternatives) → CasesHomes cases → SteadyAlternatives cases → (rule : ChoiceRule) (around : List ℕ) → ChoiceFits root around rule → CasesUsed root around rule cases → (paths : FieldPaths) → Outer around paths → (p : List ℕ) (i : ℕ) (env : Env) (j : ℕ) (d : Data)
