@@ -15,6 +15,7 @@ pub mod EndedTotal
 pub mod Envs
 pub mod Exclusion
 pub mod ExclusionLaws
+mod FineNodes
 pub mod FirstFaults
 mod FirstUnmets
 pub mod FlagRows
@@ -24,6 +25,7 @@ pub mod Homes
 pub mod InputTotal
 mod Items
 pub mod LaidOut
+mod LaterStarts
 pub mod LawRows
 pub mod Leads
 pub mod LeafExclusion

@@ -1,5 +1,5 @@
 -- Laws of the definitions, as contracts name them.
-use Rattle.std.specs.Prelude.{◌≡◌, ◌≢◌, ℕ, ◌≤◌, ◌<◌, ℤ, Bool, true, false, List, [], ◌∷◌, ◌++◌, length, map, take, slice_get, Some, IsTrue, ◌⊎◌}
+use Rattle.std.specs.Prelude.{◌≡◌, ◌≢◌, ℕ, ◌+◌, ◌≤◌, ◌<◌, ℤ, Bool, true, false, List, [], ◌∷◌, ◌++◌, length, map, take, slice_get, Some, IsTrue, ◌⊎◌}
 use Rattle.std.specs.List.{flat_map}
 use Rattle.acn_grammar.specs.Grammar.{Grammar, Fields, Data, node, seq}
 use Rattle.acn_grammar.specs.Asks.{moments, field_path}
@@ -143,6 +143,11 @@ abbrev pub EachLengthIsTold : Type 0
 EachLengthIsTold =
     (root : Grammar) (k : ℕ) (here : Stand) (mode : Mode) (env : Env) (d : Data) (at : ℕ) (bs : List Bool) → IsAccepted root → NodeAt root k here
     → Spell root mode (node here.align here.form) env d at bs → length bs ≡ bit_length (node here.align here.form) at d
+
+-- a value that begins later doesn't end earlier
+abbrev pub LaterStartsEndLater : Type 0
+LaterStartsEndLater =
+    (root : Grammar) (k : ℕ) (here : Stand) (d : Data) (at later : ℕ) → IsTree root → NodeAt root k here → at ≤ later → at + bit_length (node here.align here.form) at d ≤ later + bit_length (node here.align here.form) later d
 
 -- What an accepted tree says of an input.
 
