@@ -60,6 +60,7 @@ pub mod SoundLaws
 pub mod SoundNodes
 pub mod SoundRows
 pub mod Sounding
+mod Spans
 pub mod SpelledMeets
 pub mod TelemetryRows
 pub mod TextLaws
@@ -70,6 +71,7 @@ pub mod Trees
 pub mod Unbreached
 pub mod UseKinds
 mod Used
+mod ValueLengths
 pub mod WidthBack
 pub mod WidthLaw
 pub mod Widths

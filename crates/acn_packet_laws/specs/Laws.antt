@@ -31,10 +31,14 @@ abbrev pub NumbersArePrefixFree : Type 0
 NumbersArePrefixFree =
     (leaf : NumLeaf) → IsTrue (num_fine leaf) → (x z : ℤ) (a b r s : List Bool) → Code Any leaf x a → Code Any leaf z b → a ++ r ≡ b ++ s → (a ≡ b) × (x ≡ z)
 
+-- the bits of the greatest space packet: a primary header of 6 octets, and 65,536 octets behind it (CCSDS 133.0-B-2)
+abbrev pub greatest_packet : ℕ
+greatest_packet = 524336
+
 -- in a tree whose greatest bound is within a packet's limit every spelling has a length between the bounds
 abbrev pub BoundsHold : Type 0
 BoundsHold =
-    (root : Grammar) (mode : Mode) (d : Data) (bs : List Bool) → IsTree root → (span root).greatest ≤ 524336 → Spell root mode root [] d 0 bs → ((span root).least ≤ length bs) × (length bs ≤ (span root).greatest)
+    (root : Grammar) (mode : Mode) (d : Data) (bs : List Bool) → IsTree root → (span root).greatest ≤ greatest_packet → Spell root mode root [] d 0 bs → ((span root).least ≤ length bs) × (length bs ≤ (span root).greatest)
 
 -- a failure other than the want of bits is the same on every input with the same bits up to where it rests
 abbrev pub FailuresRestOnBits : Type 0
@@ -143,6 +147,12 @@ abbrev pub EachLengthIsTold : Type 0
 EachLengthIsTold =
     (root : Grammar) (k : ℕ) (here : Stand) (mode : Mode) (env : Env) (d : Data) (at : ℕ) (bs : List Bool) → IsAccepted root → NodeAt root k here
     → Spell root mode (node here.align here.form) env d at bs → length bs ≡ bit_length (node here.align here.form) at d
+
+-- a value that meets its node has a length between the node's bounds, whatever the numbers of slots are, where the greatest bound is within a packet's limit
+abbrev pub ValuesLieWithinBounds : Type 0
+ValuesLieWithinBounds =
+    (root : Grammar) (k : ℕ) (here : Stand) (d : Data) (at : ℕ) → IsAccepted root → NodeAt root k here → (span (node here.align here.form)).greatest ≤ greatest_packet → Meets (node here.align here.form) d
+    → ((span (node here.align here.form)).least ≤ bit_length (node here.align here.form) at d) × (bit_length (node here.align here.form) at d ≤ (span (node here.align here.form)).greatest)
 
 -- a value that begins later doesn't end earlier
 abbrev pub LaterStartsEndLater : Type 0
