@@ -23,10 +23,12 @@ pub mod HasCode
 pub mod HasImage
 pub mod Homes
 pub mod InputTotal
+mod InsideReaches
 mod Items
 pub mod LaidOut
 mod LaterStarts
 pub mod LawRows
+mod LeadFails
 pub mod Leads
 pub mod LeafExclusion
 pub mod LeafLaws

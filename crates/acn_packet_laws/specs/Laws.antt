@@ -173,6 +173,10 @@ FrontsExcludeFailures = (root : Grammar) (input : List Bool) (d : Data) (n : ℕ
 abbrev pub OneFailure : Type 0
 OneFailure = (root : Grammar) (input : List Bool) (f g : Fault) (m n : ℕ) → IsAccepted root → Refusal root input f m → Refusal root input g n → (f ≡ g) × (m ≡ n)
 
+-- a failure other than the want of bits rests on bits that are there
+abbrev pub ReachesLieInside : Type 0
+ReachesLieInside = (root : Grammar) (input : List Bool) (fault : Fault) (reach : ℕ) → IsAccepted root → Refusal root input fault reach → fault.reason ≢ short → reach ≤ length input
+
 -- no input of an accepted tree is left: a value is at its front, or something fails
 abbrev pub EachInputIsReadOrFails : Type 0
 EachInputIsReadOrFails = (root : Grammar) (input : List Bool) → IsAccepted root → ((d : Data) × (n : ℕ) × Front root input d n) ⊎ ((fault : Fault) × (reach : ℕ) × Refusal root input fault reach)
