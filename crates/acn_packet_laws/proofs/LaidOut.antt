@@ -85,7 +85,7 @@ no_set leaf Boolean h = cc
 no_set leaf Null h = cc
 no_set leaf Enumerated h = (let f = both_are (nat_lt 0 (length leaf.items.items)) (is_range (pos 0) (pos (length leaf.items.items - 1)) [] && items_fine leaf.coding leaf.items) h in cc)
 
-some_number : (leaf : NumLeaf) → IsTrue (num_fine leaf) → (x : ℤ) × In leaf.set x
+pub some_number : (leaf : NumLeaf) → IsTrue (num_fine leaf) → (x : ℤ) × In leaf.set x
 some_number leaf fine = by leaf.set refl
   where
     by : (set : List (ℤ × ℤ)) → leaf.set ≡ set → (x : ℤ) × In leaf.set x

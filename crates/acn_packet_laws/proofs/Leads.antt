@@ -42,7 +42,7 @@ wide_long n BcdEnded y h = cc
 wide_long n (Ascii width signed) y h = cc
 wide_long n (AsciiEnded end signed) y h = cc
 
-chosen : {A : Type 0} (b : Bool) (x : A) (o : Option A) → (if b then o else None) ≡ Some x → (b ≡ true) × (o ≡ Some x)
+pub chosen : {A : Type 0} (b : Bool) (x : A) (o : Option A) → (if b then o else None) ≡ Some x → (b ≡ true) × (o ≡ Some x)
 chosen true x o h = (refl, h)
 chosen false x o h = cc
 
@@ -53,7 +53,7 @@ none_long (b ∷ bs) h = absurd (omega arith)
 one_is : (n : ℕ) → nat_eq n 1 ≡ true → n ≡ 1
 one_is n h = grind (arith, nat_tests)
 
-zero_is : (n : ℕ) → nat_eq n 0 ≡ true → n ≡ 0
+pub zero_is : (n : ℕ) → nat_eq n 0 ≡ true → n ≡ 0
 zero_is n h = grind (arith, nat_tests)
 
 -- nothing stands before a node that isn't aligned
@@ -96,14 +96,14 @@ no_bits (component name g Bit default own fs) ps h = absurd (omega arith)
 no_bits (inserted name g slot fs) ps h = no_bits fs ps h
 
 module _ (root : Grammar) (n : ℕ) (leaf : NumLeaf) where
-  slot_leads : (g : Grammar) → FineField g → lead n g ≡ Some leaf → (env : Env) (s at : ℕ) (bs : List Bool) → SlotField root Any g env s at bs → Leads n leaf bs
+  pub slot_leads : (g : Grammar) → FineField g → lead n g ≡ Some leaf → (env : Env) (s at : ℕ) (bs : List Bool) → SlotField root Any g env s at bs → Leads n leaf bs
   slot_leads (node align (num own)) fine h env s at bs t =
       let p = chosen (nat_eq align 1) leaf (form_lead n (num own)) h in
       leads_same n leaf bs t.2.back (unpadded align at bs p.0 t.2) (code_leads n own leaf fine p.1 t.0 t.2.back t.2.second)
   slot_leads (node align _) fine h env s at bs t = absurd fine
 
   mutual
-    node_leads : (g : Grammar) (ks : Known) → Scoped root ks g → lead n g ≡ Some leaf → (env : Env) (d : Data) (at : ℕ) (bs : List Bool) → Spell root Any g env d at bs → Leads n leaf bs
+    pub node_leads : (g : Grammar) (ks : Known) → Scoped root ks g → lead n g ≡ Some leaf → (env : Env) (d : Data) (at : ℕ) (bs : List Bool) → Spell root Any g env d at bs → Leads n leaf bs
     node_leads (node align form) ks fine h env d at bs t =
         let p = chosen (nat_eq align 1) leaf (form_lead n form) h in
         leads_same n leaf bs t.back (unpadded align at bs p.0 t) (form_leads form ks fine p.1 env d (at + length t.front) t.back t.second)

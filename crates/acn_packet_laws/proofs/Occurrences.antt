@@ -46,13 +46,13 @@ or_none : (a b : Bool) → (a || b) ≡ false → (a ≡ false) × (b ≡ false)
 or_none true b h = cc
 or_none false b h = (refl, h)
 
-field_in : (v : ℕ → List ℕ) (home : List ℕ) (paths : FieldPaths) (t : ℕ) → holds home t ≡ true → field_of (map (λ s. (s, v s)) home ++ paths) t ≡ v t
+pub field_in : (v : ℕ → List ℕ) (home : List ℕ) (paths : FieldPaths) (t : ℕ) → holds home t ≡ true → field_of (map (λ s. (s, v s)) home ++ paths) t ≡ v t
 field_in v [] paths t h = cc
 field_in v (s ∷ home) paths t h = truth {F = field_of (map (λ s. (s, v s)) (s ∷ home) ++ paths) t ≡ v t} (nat_eq s t)
     (λ e. if_yes (nat_eq s t) (v s) (field_of (map (λ s. (s, v s)) home ++ paths) t) e ∙ ap v (equal_numbers s t e))
     (λ e. if_no (nat_eq s t) (v s) (field_of (map (λ s. (s, v s)) home ++ paths) t) e ∙ field_in v home paths t (or_rest (nat_eq s t) (holds home t) e h))
 
-field_out : (v : ℕ → List ℕ) (home : List ℕ) (paths : FieldPaths) (t : ℕ) → holds home t ≡ false → field_of (map (λ s. (s, v s)) home ++ paths) t ≡ field_of paths t
+pub field_out : (v : ℕ → List ℕ) (home : List ℕ) (paths : FieldPaths) (t : ℕ) → holds home t ≡ false → field_of (map (λ s. (s, v s)) home ++ paths) t ≡ field_of paths t
 field_out v [] paths t h = refl
 field_out v (s ∷ home) paths t h =
     let n = or_none (nat_eq s t) (holds home t) h in

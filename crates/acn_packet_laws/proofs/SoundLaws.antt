@@ -30,16 +30,16 @@ few_are_open root k here a is = at_most (open_at here) 256 (λ h. accepted_sound
 pub first_two : {A B : Type 0} → A × B → A
 first_two p = p.0
 
-first_three : {A B C : Type 0} → A × B × C → A
+pub first_three : {A B C : Type 0} → A × B × C → A
 first_three p = p.0
 
 pub second_three : {A B C : Type 0} → A × B × C → B
 second_three p = p.1
 
-first_four : {A B C D : Type 0} → A × B × C × D → A
+pub first_four : {A B C D : Type 0} → A × B × C × D → A
 first_four p = p.0
 
-second_four : {A B C D : Type 0} → A × B × C × D → B
+pub second_four : {A B C D : Type 0} → A × B × C × D → B
 second_four p = p.1
 
 pub third_four : {A B C D : Type 0} → A × B × C × D → C
@@ -48,7 +48,7 @@ third_four p = p.2
 pub first_five : {A B C D E : Type 0} → A × B × C × D × E → A
 first_five p = p.0
 
-second_five : {A B C D E : Type 0} → A × B × C × D × E → B
+pub second_five : {A B C D E : Type 0} → A × B × C × D × E → B
 second_five p = p.1
 
 pub third_five : {A B C D E : Type 0} → A × B × C × D × E → C

@@ -16,7 +16,7 @@ use Rattle.acn_grammar.specs.declared.node.TextLeaf.{TextLeaf}
 use Rattle.acn_grammar.proofs.Codings.{both_are, equal_numbers}
 use Rattle.acn_packet_laws.proofs.Reaches.{Steady, TextSteady, out, either_steady, sized_steady, rule_steady, same_within, long_enough}
 
-octets-short : (l : List Bool) → 8 * length (octet_values l) ≤ length l
+pub octets-short : (l : List Bool) → 8 * length (octet_values l) ≤ length l
 octets-short [] = omega arith
 octets-short (a ∷ []) = omega arith
 octets-short (a ∷ b ∷ []) = omega arith
@@ -62,7 +62,7 @@ if_cases : {F : Type 0} (t : Bool) (v i : ℕ) (rest : Option ℕ) → (if t the
 if_cases true v i rest q f g = f refl cc
 if_cases false v i rest q f g = g refl q
 
-find_from : (p : ℕ → Bool) (a n i : ℕ) → find p (range_with_len a n) ≡ Some i → (a ≤ i) × (i < a + n) × (p i ≡ true)
+pub find_from : (p : ℕ → Bool) (a n i : ℕ) → find p (range_with_len a n) ≡ Some i → (a ≤ i) × (i < a + n) × (p i ≡ true)
 find_from p a zero i e = cc
 find_from p a (suc n) i e =
     if_cases {F = (a ≤ i) × (i < a + suc n) × (p i ≡ true)} (p a) a i (find p (range_with_len (a + 1) n)) e
@@ -79,7 +79,7 @@ find_too p q a (suc n) (suc m) i h l e =
     (λ t v. rw (same, t) (ap Some v))
     (λ t r. rw (same, t) (find_too p q (a + 1) n m i h (omega arith) r))
 
-same_names : (a b : List ℕ) → same_name a b ≡ true → a ≡ b
+pub same_names : (a b : List ℕ) → same_name a b ≡ true → a ≡ b
 same_names [] [] h = refl
 same_names [] (y ∷ b) h = cc
 same_names (x ∷ a) [] h = cc
@@ -150,7 +150,7 @@ module _ (path : List ℕ) (place : ℕ) (leaf : TextLeaf) (end : List Bool) (wh
       moved other (inl t) e = inl t
       moved other (inr t) e = inr (t.0, rw e t.1, t.2, t.3)
 
-octets-whole : (end : List Bool) → length end % 8 ≡ 0 → length end ≡ 8 * length (octet_numbers end)
+pub octets-whole : (end : List Bool) → length end % 8 ≡ 0 → length end ≡ 8 * length (octet_numbers end)
 octets-whole end h = let a = octets-short end in let b = octets-long end in omega arith
 
 characters_steady : (path : List ℕ) (place : ℕ) (leaf : TextLeaf) (n : ℕ) → Steady (CharactersFail (out path place) leaf n)

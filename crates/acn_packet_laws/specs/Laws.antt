@@ -1,5 +1,5 @@
 -- Laws of the definitions, as contracts name them.
-use Rattle.std.specs.Prelude.{◌≡◌, ◌≢◌, ℕ, ◌≤◌, ◌<◌, ℤ, Bool, true, false, List, [], ◌∷◌, ◌++◌, length, map, take, slice_get, Some, IsTrue, ◌⊎◌}
+use Rattle.std.specs.Prelude.{◌≡◌, ◌≢◌, ℕ, ◌+◌, ◌≤◌, ◌<◌, ℤ, Bool, true, false, List, [], ◌∷◌, ◌++◌, length, map, take, slice_get, Some, IsTrue, ◌⊎◌}
 use Rattle.std.specs.List.{flat_map}
 use Rattle.acn_grammar.specs.Grammar.{Grammar, Fields, Data, node, seq}
 use Rattle.acn_grammar.specs.Asks.{moments, field_path}
@@ -31,10 +31,14 @@ abbrev pub NumbersArePrefixFree : Type 0
 NumbersArePrefixFree =
     (leaf : NumLeaf) → IsTrue (num_fine leaf) → (x z : ℤ) (a b r s : List Bool) → Code Any leaf x a → Code Any leaf z b → a ++ r ≡ b ++ s → (a ≡ b) × (x ≡ z)
 
+-- the bits of the greatest space packet: a primary header of 6 octets, and 65,536 octets behind it (CCSDS 133.0-B-2)
+abbrev pub greatest_packet : ℕ
+greatest_packet = 524336
+
 -- in a tree whose greatest bound is within a packet's limit every spelling has a length between the bounds
 abbrev pub BoundsHold : Type 0
 BoundsHold =
-    (root : Grammar) (mode : Mode) (d : Data) (bs : List Bool) → IsTree root → (span root).greatest ≤ 524336 → Spell root mode root [] d 0 bs → ((span root).least ≤ length bs) × (length bs ≤ (span root).greatest)
+    (root : Grammar) (mode : Mode) (d : Data) (bs : List Bool) → IsTree root → (span root).greatest ≤ greatest_packet → Spell root mode root [] d 0 bs → ((span root).least ≤ length bs) × (length bs ≤ (span root).greatest)
 
 -- a failure other than the want of bits is the same on every input with the same bits up to where it rests
 abbrev pub FailuresRestOnBits : Type 0
@@ -144,6 +148,17 @@ EachLengthIsTold =
     (root : Grammar) (k : ℕ) (here : Stand) (mode : Mode) (env : Env) (d : Data) (at : ℕ) (bs : List Bool) → IsAccepted root → NodeAt root k here
     → Spell root mode (node here.align here.form) env d at bs → length bs ≡ bit_length (node here.align here.form) at d
 
+-- a value that meets its node has a length between the node's bounds, whatever the numbers of slots are, where the greatest bound is within a packet's limit
+abbrev pub ValuesLieWithinBounds : Type 0
+ValuesLieWithinBounds =
+    (root : Grammar) (k : ℕ) (here : Stand) (d : Data) (at : ℕ) → IsAccepted root → NodeAt root k here → (span (node here.align here.form)).greatest ≤ greatest_packet → Meets (node here.align here.form) d
+    → ((span (node here.align here.form)).least ≤ bit_length (node here.align here.form) at d) × (bit_length (node here.align here.form) at d ≤ (span (node here.align here.form)).greatest)
+
+-- a value that begins later doesn't end earlier
+abbrev pub LaterStartsEndLater : Type 0
+LaterStartsEndLater =
+    (root : Grammar) (k : ℕ) (here : Stand) (d : Data) (at later : ℕ) → IsTree root → NodeAt root k here → at ≤ later → at + bit_length (node here.align here.form) at d ≤ later + bit_length (node here.align here.form) later d
+
 -- What an accepted tree says of an input.
 
 -- the value at the front of an input is one, and so is the number of its bits
@@ -157,6 +172,10 @@ FrontsExcludeFailures = (root : Grammar) (input : List Bool) (d : Data) (n : ℕ
 -- the failure is one: its path, its reason and its bit, and how many bits it rests on
 abbrev pub OneFailure : Type 0
 OneFailure = (root : Grammar) (input : List Bool) (f g : Fault) (m n : ℕ) → IsAccepted root → Refusal root input f m → Refusal root input g n → (f ≡ g) × (m ≡ n)
+
+-- a failure other than the want of bits rests on bits that are there
+abbrev pub ReachesLieInside : Type 0
+ReachesLieInside = (root : Grammar) (input : List Bool) (fault : Fault) (reach : ℕ) → IsAccepted root → Refusal root input fault reach → fault.reason ≢ short → reach ≤ length input
 
 -- no input of an accepted tree is left: a value is at its front, or something fails
 abbrev pub EachInputIsReadOrFails : Type 0
@@ -203,5 +222,9 @@ abbrev pub EachValueIsWrittenOrRefused : Type 0
 EachValueIsWrittenOrRefused = (root : Grammar) (d : Data) → IsAccepted root → Shaped root d → ((bs : List Bool) × IsWritten root d bs) ⊎ ((u : Unfit) × Refused root d u)
 
 -- what is refused has no spelling, neither written nor read
-abbrev pub RefusedHasNoSpelling : Type 0
-RefusedHasNoSpelling = (root : Grammar) (d : Data) (u : Unfit) (bs : List Bool) → IsAccepted root → Refused root d u → Spell root Any root [] d 0 bs → ⊥
+abbrev pub RefusedIsNotSpelled : Type 0
+RefusedIsNotSpelled = (root : Grammar) (mode : Mode) (d : Data) (u : Unfit) (bs : List Bool) → IsAccepted root → Refused root d u → Spell root mode root [] d 0 bs → ⊥
+
+-- a value is refused for one reason, at one place
+abbrev pub OneRefusal : Type 0
+OneRefusal = (root : Grammar) (d : Data) (u w : Unfit) → Refused root d u → Refused root d w → u ≡ w

@@ -1,4 +1,4 @@
-ghost use Rattle.acn_packet_laws.specs.Laws.{NumbersArePrefixFree, BoundsHold, FailuresRestOnBits, FrontsRestOnBits, NoFaultWithoutAFirst, OneFirstFault, AcceptedIsScoped, AcceptedIsSound, EachNodeIsSound, SoundIsScoped, KnownBehind, FewAreOpen, UsesFitTheirSlots, NodesArePrefixFree, SlotFieldsArePrefixFree, EachNodeIsPrefixFree, PacketsArePrefixFree, EachNumberHasACode, LengthsAreTold, EachLengthIsTold, WidthsAreLengths, OneFront, FrontsExcludeFailures, OneFailure, EachInputIsReadOrFails, EachInputIsANumberOrFails, WrittenIsRead, SpelledValuesMeet, SpellingsHaveNoBreach, EachOccurrenceAsks, OneWriting};
+ghost use Rattle.acn_packet_laws.specs.Laws.{NumbersArePrefixFree, BoundsHold, FailuresRestOnBits, FrontsRestOnBits, NoFaultWithoutAFirst, OneFirstFault, AcceptedIsScoped, AcceptedIsSound, EachNodeIsSound, SoundIsScoped, KnownBehind, FewAreOpen, UsesFitTheirSlots, NodesArePrefixFree, SlotFieldsArePrefixFree, EachNodeIsPrefixFree, PacketsArePrefixFree, EachNumberHasACode, LengthsAreTold, EachLengthIsTold, WidthsAreLengths, OneFront, FrontsExcludeFailures, OneFailure, EachInputIsReadOrFails, EachInputIsANumberOrFails, WrittenIsRead, SpelledValuesMeet, SpellingsHaveNoBreach, EachOccurrenceAsks, OneWriting, RefusedIsNotSpelled, OneRefusal, EachValueIsWrittenOrRefused, LaterStartsEndLater, ValuesLieWithinBounds, ReachesLieInside};
 
 /// No code of a number leaf begins another, and the code tells the number.
 pub fn numbers_are_prefix_free()
@@ -155,4 +155,34 @@ pub fn each_occurrence_asks()
 /// A value of an accepted tree is written in one way.
 pub fn one_writing()
     ensures { OneWriting }
+{}
+
+/// A value that is refused has no spelling, neither written nor read.
+pub fn refused_is_not_spelled()
+    ensures { RefusedIsNotSpelled }
+{}
+
+/// A value is refused for one reason, at one place.
+pub fn one_refusal()
+    ensures { OneRefusal }
+{}
+
+/// A value that has the form of an accepted tree is written, or it is refused.
+pub fn each_value_is_written_or_refused()
+    ensures { EachValueIsWrittenOrRefused }
+{}
+
+/// A value of a node that begins later does not end earlier.
+pub fn later_starts_end_later()
+    ensures { LaterStartsEndLater }
+{}
+
+/// A value that meets its node has a length between the node's bounds.
+pub fn values_lie_within_bounds()
+    ensures { ValuesLieWithinBounds }
+{}
+
+/// A failure of an accepted tree other than the want of bits rests on bits that are there.
+pub fn reaches_lie_inside()
+    ensures { ReachesLieInside }
 {}
