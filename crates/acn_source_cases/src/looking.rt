@@ -28,6 +28,9 @@ fn push_types(world: &World, types: &[TypeId], words: &mut Vec<u8>) -> Result<()
 pub fn roots_told(alloc: Global, world: &World) -> Result<String, Trouble> {
     let mut words = Vec::new(alloc);
     push_types(world, world.roots(alloc)?.items(), &mut words)?;
+    if words.is_empty() {
+        return Ok(format!(in alloc; "no roots")?);
+    }
     let all = String::from_utf8_lossy(alloc, words.as_slice())?;
     Ok(all.as_str().trim().to_string(alloc)?)
 }

@@ -2,14 +2,15 @@
 //!
 //! A line `ask QUESTION` begins a group, and a line `asn TEXT`, `acn TEXT` or `map TEXT` a file of it, which goes on in the
 //! lines that are indented, and in a line `times LOW HIGH TEXT` once for each number from LOW up to HIGH, with the number in the
-//! place of `$i` and the one before it in that of `$h`. A line `CASE =>` asks the question of these files, with CASE in the place of
-//! `$1`, or, where `;;` divides it, its parts in the places of `$1`, `$2` and `$3`. In a file `\` and two hexadecimal digits are one
-//! byte.
+//! place of `$i`, the one before it in that of `$h` and twice the number in that of `$e`. A line `CASE =>` asks the question of these
+//! files, with CASE in the place of `$1`, or, where `;;` divides it, its parts in the places of `$1`, `$2` and `$3`. In a file `\` and
+//! two hexadecimal digits are one byte.
 #![tactic(auto)]
 
 mod acn_printer;
 mod answer;
 mod asn_printer;
+mod graph;
 mod looking;
 mod measure;
 mod names;

@@ -30,15 +30,18 @@ fn push_token(alloc: Global, token: &Token<'_>, words: &mut String) -> Result<()
     Ok(())
 }
 
-// The first twenty tokens, and how many stand behind them.
+// The tokens, or how many there are where there are more than twenty.
 fn tokens_in_words(alloc: Global, tokens: &Tokens<'_>) -> Result<String, NoMemory> {
-    let mut words = String::new(alloc);
     let items = tokens.list.items();
-    for token in items.iter().take(20) {
-        push_token(alloc, token, &mut words)?;
+    if items.is_empty() {
+        return Ok(format!(in alloc; "no tokens")?);
     }
     if items.len() > 20 {
-        write!(words, ", and {} more", items.len() - 20)?;
+        return Ok(format!(in alloc; "{} tokens", items.len())?);
+    }
+    let mut words = String::new(alloc);
+    for token in items {
+        push_token(alloc, token, &mut words)?;
     }
     Ok(words)
 }

@@ -39,6 +39,10 @@ pub enum Question {
     Sizes,
     /// Its characters.
     Characters,
+    /// The way of the first node of a graph that leads to itself.
+    Ring,
+    /// The same in a long chain.
+    LongRing,
 }
 
 /// The sort of a file.
@@ -94,6 +98,8 @@ fn more_questions_of(word: &str) -> Option<Question> {
         "count" => Some(Question::Count),
         "sizes" => Some(Question::Sizes),
         "characters" => Some(Question::Characters),
+        "ring" => Some(Question::Ring),
+        "long-ring" => Some(Question::LongRing),
         _ => None,
     }
 }
@@ -119,6 +125,8 @@ fn put_turn(number: i128, piece: &str, text: &mut String) -> Result<(), NoMemory
         write!(text, "{number}{rest}")?;
     } else if let Some(rest) = piece.strip_prefix("h") {
         write!(text, "{}{rest}", number.saturating_sub(1))?;
+    } else if let Some(rest) = piece.strip_prefix("e") {
+        write!(text, "{}{rest}", number.saturating_mul(2))?;
     } else {
         write!(text, "${piece}")?;
     }
