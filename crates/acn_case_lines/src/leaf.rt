@@ -76,17 +76,30 @@ fn items_of(alloc: Global, words: &[&str]) -> Result<Items, NoMemory> {
     })
 }
 
-// The table of the line behind the word `table`.
+// The lines of these words, three numbers each, up to a word that is none.
+fn lines_of(alloc: Global, words: &[&str]) -> Result<Row<(i128, i128, i128)>, NoMemory> {
+    let mut lines = Row::new(alloc);
+    for at in 0..words.len() {
+        if at % 3 == 0 {
+            if word(words, at).parse::<i128>().is_err() {
+                return Ok(lines);
+            }
+            lines.push((
+                number(words, at),
+                number(words, at.saturating_add(1)),
+                number(words, at.saturating_add(2)),
+            ))?;
+        }
+    }
+    Ok(lines)
+}
+
+// The table of the lines behind the word `table`.
 fn table_of(alloc: Global, words: &[&str]) -> Result<Option<Table>, NoMemory> {
     let Some(at) = behind(words, "table") else {
         return Ok(None);
     };
-    let mut lines = Row::new(alloc);
-    lines.push((
-        number(words, at),
-        number(words, at.saturating_add(1)),
-        number(words, at.saturating_add(2)),
-    ))?;
+    let lines = lines_of(alloc, words.get(at..).unwrap_or(&[]))?;
     Ok(Some(Table {
         name: Name::copy(alloc, b"table")?,
         lines,
@@ -124,7 +137,8 @@ pub fn set_of(alloc: Global, word: &str) -> Result<Option<RangeSet>, NoMemory> {
     Ok(Some(all))
 }
 
-/// The leaf of these words: its kind, its set, its coding, and `little`, items and a table where they are there.
+/// The leaf of these words: its kind, its set, its coding, and `little`, `items NAME NUMBER ..` (or `values`, where their
+/// numbers are written) and `table FIRST LAST IMAGE ..` where they are there.
 pub fn leaf_of(alloc: Global, words: &[&str]) -> Result<Option<NumLeaf>, NoMemory> {
     let items = items_of(alloc, words)?;
     let table = table_of(alloc, words)?;

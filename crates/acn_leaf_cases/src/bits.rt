@@ -83,8 +83,16 @@ fn buffer(octets: &[u8]) -> [u8; 16] {
     buf
 }
 
+/// What was written: the first bit of a hole, the bit behind it, how many bits there are up to the last, and how many are left.
+#[derive(Clone, Copy, Drop)]
+struct Written {
+    hole: Option<(u64, u32)>,
+    at: u64,
+    room: u64,
+}
+
 // Puts as many of the lowest bits of a number.
-fn put_lowest(out: &mut WriteCursor<'_, 16>, bits: u32, number: u64)
+fn put_lowest(out: &mut WriteCursor<'_, 16>, bits: u32, number: u64) -> Option<(u64, u32)>
     requires width { bits ≤ 64 }
     requires room { place_of out.old + bits ≤ 128 }
 {
@@ -93,49 +101,64 @@ fn put_lowest(out: &mut WriteCursor<'_, 16>, bits: u32, number: u64)
     } else {
         out.put(bits, number % (1 << bits));
     }
+    None
 }
 
 // Leaves a hole, puts a one behind it, and fills it with as many of the lowest bits of a number.
-fn fill_lowest(out: &mut WriteCursor<'_, 16>, bits: u32, number: u64)
+fn fill_lowest(out: &mut WriteCursor<'_, 16>, bits: u32, number: u64) -> Option<(u64, u32)>
     requires width { bits ≤ 64 }
     requires room { place_of out.old + bits + 1 ≤ 128 }
 {
     let hole = out.hole(bits);
+    let told = (hole.place(), hole.width());
     out.put(1, 1);
     if bits == 64 {
         out.fill(hole, number);
     } else {
         out.fill(hole, number % (1 << bits));
     }
+    Some(told)
 }
 
 // Writes zeros, and a number behind them.
-fn write(buf: &mut [u8; 16], filled: bool, zeros: u32, bits: u32, number: u64) -> bool {
+fn write(buf: &mut [u8; 16], filled: bool, zeros: u32, bits: u32, number: u64) -> Option<Written> {
     if zeros > 60 || bits > 64 {
-        return false;
+        return None;
     }
     let mut out = WriteCursor::new(buf);
     out.put(zeros, 0);
-    if filled {
-        fill_lowest(&mut out, bits, number);
+    let hole = if filled {
+        fill_lowest(&mut out, bits, number)
     } else {
-        put_lowest(&mut out, bits, number);
+        put_lowest(&mut out, bits, number)
+    };
+    Some(Written {
+        hole,
+        at: out.at(),
+        room: out.room(),
+    })
+}
+
+fn written_in_words(alloc: Global, written: Written, octets: &[u8]) -> Result<String, NoMemory> {
+    let octets = octets_in_words(alloc, octets)?;
+    let Written { hole, at, room } = written;
+    match hole {
+        Some((place, width)) => {
+            Ok(format!(in alloc; "{octets}, {width} at {place}, {at} written, {room} left")?)
+        }
+        None => Ok(format!(in alloc; "{octets}, {at} written, {room} left")?),
     }
-    true
 }
 
 fn written(alloc: Global, octets: &[u8], filled: bool, words: &[&str]) -> Result<String, NoMemory> {
     let mut buf = buffer(octets);
-    if !write(
-        &mut buf,
-        filled,
-        small(words, 0),
-        small(words, 1),
-        wide(words, 2),
-    ) {
-        return Ok(format!(in alloc; "too much")?);
+    let (zeros, bits) = (small(words, 0), small(words, 1));
+    match write(&mut buf, filled, zeros, bits, wide(words, 2)) {
+        Some(written) => {
+            written_in_words(alloc, written, buf.get(..octets.len()).unwrap_or(&[]))
+        }
+        None => Ok(format!(in alloc; "too much")?),
     }
-    octets_in_words(alloc, buf.get(..octets.len()).unwrap_or(&[]))
 }
 
 /// The answer to a question about bits of octets.

@@ -1,20 +1,21 @@
 //! What a text answers.
 
-ghost use Rattle.std.specs.Prelude.{◌≡◌, ◌≤◌, [], None, IfTrue, IsTrue, length, not, pos, position};
+ghost use Rattle.std.specs.Prelude.{◌≡◌, ◌≤◌, [], None, IfSome, IfTrue, IsTrue, length, not, pos, position};
 ghost use Rattle.acn_num.specs.Ranges.{has};
 ghost use Rattle.acn_grammar.specs.Leaves.{text_fine};
+ghost use Rattle.acn_grammar.specs.Length.{text_length};
 ghost use Rattle.acn_grammar.specs.Meets.{breach, text_breach};
 ghost use Rattle.acn_tree.specs.Room.{InTree};
 ghost use Rattle.acn_grammar.specs.View.{data_of, grammar_of};
 ghost use Rattle.acn_text.specs.Texts.{IsGiven};
 
 use crate::fault::fault_in_words;
-use acn_bits::ReadCursor;
+use acn_bits::{ReadCursor, WriteCursor};
 use acn_case_lines::{bits_in_words, octets_in_words, octets_of, wide};
 use acn_grammar::{Body, Node, ReadFault, SizeRule, TextLeaf, Value};
 use acn_leaf::text_fine;
 use acn_num::{Boxed, NoMemory, RangeSet, Row};
-use acn_text::{list_text, read_text};
+use acn_text::{list_text, put_text, read_text};
 use acn_tree::{Tree, meets};
 use std::alloc::Global;
 
@@ -97,22 +98,88 @@ fn sized_in_words(
     }
 }
 
-fn list_in_words(alloc: Global, leaf: &TextLeaf, text: &[u8]) -> Result<String, NoMemory>
+// How many bits a text of so many characters takes; none where that is too many.
+fn bits_of(leaf: &TextLeaf, count: usize) -> Option<u64>
+    ensures { IfSome result (λ n. n ≡ text_length leaf.now.ended leaf.now count) }
+{
+    if count > 30 || leaf.width > 8 {
+        return None;
+    }
+    let characters = u64::from(leaf.width) * count as u64;
+    match &leaf.ended {
+        Some(end) => Some(characters + end.bits().len() as u64),
+        None => match &leaf.sized.rule {
+            SizeRule::Prefix { width, .. } => Some(u64::from(*width) + characters),
+            SizeRule::Slot(_) => Some(characters),
+            SizeRule::Ended(_) => None,
+        },
+    }
+}
+
+// Writes a text into octets of ones, and tells how many bits it takes.
+fn put(buf: &mut [u8; 64], leaf: &TextLeaf, text: &[u8]) -> Option<u64>
     requires fine { IsTrue (text_fine leaf.now) }
     requires meets { text_breach leaf.now text.now ≡ [] }
 {
+    match bits_of(leaf, text.len()) {
+        Some(bits) => {
+            if bits > 512 {
+                return None;
+            }
+            let mut out = WriteCursor::new(buf);
+            put_text(&mut out, leaf, text);
+            Some(out.at())
+        }
+        None => None,
+    }
+}
+
+// The octets up to the one in which the first bit behind a text stands.
+fn put_in_words(alloc: Global, leaf: &TextLeaf, text: &[u8]) -> Result<String, NoMemory>
+    requires fine { IsTrue (text_fine leaf.now) }
+    requires meets { text_breach leaf.now text.now ≡ [] }
+{
+    let mut buf = [0xffu8; 64];
+    match put(&mut buf, leaf, text) {
+        Some(bits) => {
+            let count = (bits / 8).saturating_add(1);
+            let octets = octets_in_words(alloc, buf.get(..count as usize).unwrap_or(&[]))?;
+            Ok(format!(in alloc; "{bits} bits {octets}")?)
+        }
+        None => Ok(format!(in alloc; "too long")?),
+    }
+}
+
+// The bits of a text as a list, or as they are put into octets of ones.
+fn code_in_words(
+    alloc: Global,
+    leaf: &TextLeaf,
+    text: &[u8],
+    is_put: bool,
+) -> Result<String, NoMemory>
+    requires fine { IsTrue (text_fine leaf.now) }
+    requires meets { text_breach leaf.now text.now ≡ [] }
+{
+    if is_put {
+        return put_in_words(alloc, leaf, text);
+    }
     bits_in_words(alloc, &list_text(alloc, leaf, text)?)
 }
 
 // The bits of a value that is a text.
-fn text_in_words(alloc: Global, root: &Node, value: &Value) -> Result<String, NoMemory>
+fn text_in_words(
+    alloc: Global,
+    root: &Node,
+    value: &Value,
+    is_put: bool,
+) -> Result<String, NoMemory>
     requires { breach (grammar_of root.now) (data_of value.now) ≡ None }
 {
     match &root.body {
         Body::Text(leaf) => match value {
             Value::Text(text) => {
                 if text_fine(leaf) {
-                    list_in_words(alloc, leaf, text.items())
+                    code_in_words(alloc, leaf, text.items(), is_put)
                 } else {
                     Ok(format!(in alloc; "no fine leaf")?)
                 }
@@ -124,19 +191,24 @@ fn text_in_words(alloc: Global, root: &Node, value: &Value) -> Result<String, No
 }
 
 // The bits of a value, if it meets its node.
-fn value_in_words(alloc: Global, root: &Node, value: &Value) -> Result<String, NoMemory>
+fn value_in_words(
+    alloc: Global,
+    root: &Node,
+    value: &Value,
+    is_put: bool,
+) -> Result<String, NoMemory>
     requires { InTree (grammar_of root.now) }
 {
     match meets(root, value) {
-        Ok(()) => text_in_words(alloc, root, value),
+        Ok(()) => text_in_words(alloc, root, value, is_put),
         Err(_) => Ok(format!(in alloc; "not permitted")?),
     }
 }
 
-fn listed(alloc: Global, tree: &Tree, words: &[&str]) -> Result<String, NoMemory> {
+fn coded(alloc: Global, tree: &Tree, words: &[&str], is_put: bool) -> Result<String, NoMemory> {
     let octets = octets_of(alloc, words)?;
     let value = Boxed::new(alloc, Value::Text(Row::from_vec(octets)))?;
-    value_in_words(alloc, tree.root(), value.get())
+    value_in_words(alloc, tree.root(), value.get(), is_put)
 }
 
 // The place of the first octet that is no character of the alphabet.
@@ -159,12 +231,17 @@ fn is_permitted(leaf: &TextLeaf, text: &[u8]) -> bool
     }
 }
 
-fn sized_listed(alloc: Global, leaf: &TextLeaf, words: &[&str]) -> Result<String, NoMemory>
+fn sized_coded(
+    alloc: Global,
+    leaf: &TextLeaf,
+    words: &[&str],
+    is_put: bool,
+) -> Result<String, NoMemory>
     requires { IsTrue (text_fine leaf.now) }
 {
     let octets = octets_of(alloc, words)?;
     if is_permitted(leaf, octets.as_slice()) {
-        return list_in_words(alloc, leaf, octets.as_slice());
+        return code_in_words(alloc, leaf, octets.as_slice(), is_put);
     }
     Ok(format!(in alloc; "not permitted")?)
 }
@@ -181,7 +258,8 @@ pub fn about_sized_text(
     }
     match question {
         "read" => sized_in_words(alloc, leaf, None, words),
-        "list" => sized_listed(alloc, leaf, words),
+        "list" => sized_coded(alloc, leaf, words, false),
+        "put" => sized_coded(alloc, leaf, words, true),
         "read-sized" => {
             let rest = words.get(1..).unwrap_or(&[]);
             sized_in_words(alloc, leaf, Some(wide(words, 0)), rest)
@@ -205,7 +283,8 @@ pub fn about_text(
     }
     match question {
         "read" => sized_in_words(alloc, leaf, None, words),
-        "list" => listed(alloc, tree, words),
+        "list" => coded(alloc, tree, words, false),
+        "put" => coded(alloc, tree, words, true),
         _ => Ok(format!(in alloc; "not understood")?),
     }
 }
