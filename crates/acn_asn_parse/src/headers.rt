@@ -14,7 +14,7 @@ use acn_num::{Name, Row};
 use std::alloc::Global;
 
 /// The name of a module, and what stands behind it.
-#[derive(Debug, Drop)]
+#[derive(Drop)]
 pub struct ModuleHead {
     /// Its name.
     pub name: Name,

@@ -20,7 +20,7 @@ use acn_world::World;
 use std::alloc::Global;
 
 /// Of what the numbers of a set are.
-#[derive(Clone, Copy, Debug)]
+#[derive(Clone, Copy)]
 pub enum Reading<'n> {
     /// Values of an INTEGER with these named numbers.
     Numbers(&'n [Named]),
@@ -31,7 +31,7 @@ pub enum Reading<'n> {
 }
 
 /// Where a set stands and how it is read.
-#[derive(Clone, Copy, Debug)]
+#[derive(Clone, Copy)]
 pub struct Place<'w> {
     pub world: &'w World,
     pub owner: u32,

@@ -11,7 +11,7 @@ use acn_set_elements::number_in;
 use acn_world::World;
 
 /// Where numbers are read, with the names that stand for numbers.
-#[derive(Clone, Copy, Debug)]
+#[derive(Clone, Copy)]
 pub struct Names<'w> {
     pub world: &'w World,
     pub owner: u32,

@@ -9,7 +9,7 @@ use acn_asn_syntax::{AsnRange, AsnType, AsnValue, Element, Meet, Part, Set};
 use acn_num::NoMemory;
 
 /// The type whose values a constraint speaks of, and what they stand for there.
-#[derive(Clone, Copy, Debug)]
+#[derive(Clone, Copy)]
 pub struct Place<'t> {
     pub governor: Option<&'t AsnType>,
     pub role: Role,

@@ -18,7 +18,7 @@ use acn_num::Row;
 use acn_world::World;
 
 /// What a set is built of.
-#[derive(Clone, Copy, Debug)]
+#[derive(Clone, Copy)]
 pub enum Material<'n> {
     /// Numbers, where these names stand for numbers.
     Numbers(&'n [Named]),
@@ -29,7 +29,7 @@ pub enum Material<'n> {
 }
 
 /// Where a set stands and what it is to be built of.
-#[derive(Clone, Copy, Debug)]
+#[derive(Clone, Copy)]
 pub struct Site<'w> {
     pub world: &'w World,
     pub owner: u32,

@@ -13,14 +13,14 @@ use acn_num::{Name, NoMemory};
 use std::alloc::Global;
 
 /// A reference to a type as it is written.
-#[derive(Clone, Copy, Debug)]
+#[derive(Clone, Copy)]
 pub struct Reference<'t> {
     pub from: &'t Option<Name>,
     pub name: &'t Name,
 }
 
 /// A type as it stands on a chain, with the number of its module and the assignment that it is the type of.
-#[derive(Clone, Copy, Debug)]
+#[derive(Clone, Copy)]
 pub struct Link<'w> {
     pub owner: u32,
     pub of: &'w AsnType,

@@ -16,7 +16,7 @@ use std::alloc::Global;
 
 /// What stands along the chain of a type. Both rows go from the base outward, each item with the number of
 /// its module.
-#[derive(Debug, Drop)]
+#[derive(Drop)]
 pub struct Chain<'w> {
     /// The type behind all references.
     pub base: &'w AsnType,

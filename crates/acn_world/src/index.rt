@@ -9,7 +9,7 @@ use acn_num::{NoMemory, Row};
 use std::alloc::Global;
 
 /// The modules and the tables of all files, with the first places of their names.
-#[derive(Debug, Drop)]
+#[derive(Drop)]
 pub struct Index {
     pub modules: Row<AsnModule>,
     pub acn: Row<AcnModule>,

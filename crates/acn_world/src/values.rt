@@ -11,7 +11,7 @@ use crate::references::{assignment, value_named};
 use acn_asn_syntax::{AsnModule, AsnType, AsnValue, Assign};
 
 /// The type and the value of a value's assignment, with the number of its module.
-#[derive(Clone, Copy, Debug)]
+#[derive(Clone, Copy)]
 pub struct Worth<'w> {
     pub owner: u32,
     pub of: &'w AsnType,

@@ -15,7 +15,7 @@ use std::alloc::Global;
 
 /// The modules and tables of all files, in which each name leads somewhere, none to itself, and each to what
 /// it must be.
-#[derive(Debug, Drop)]
+#[derive(Drop)]
 pub struct World {
     index: Index,
     pub ghost sound: { IsSound (world_from index.modules index.acn index.tables) },

@@ -1,0 +1,57 @@
+//! Prints its input, with the answer behind each `=>`.
+//!
+//! A line `leaf KIND SET CODING ..` or `text SET RULE .. alphabet SET WIDTH ..` says which leaf the next cases are about, a line
+//! `octets OCTETS` in which octets they read and write bits. A set is written as `0..2,5`, octets as two hexadecimal digits each or as
+//! characters behind a `'`, a pattern by its bits.
+//!
+//! Of a leaf of numbers: `read OCTETS =>` what stands at the front of octets, `list NUMBER =>` the bits of a number, `width =>` the
+//! one width of its codes, and `fill A B =>` the octets where A fills a hole in front of B. Of a text: `read OCTETS =>`,
+//! `read-sized SIZE OCTETS =>`, `list TEXT =>` and `put TEXT =>`. Of octets: `take SKIP WIDTH =>`, `window SKIP BITS WIDTH =>`,
+//! `put SKIP WIDTH NUMBER =>`, `fill SKIP WIDTH NUMBER =>`. Of nothing: `bits-for`, `octets-for`, `signed-octets-for` and
+//! `digits-for NUMBER =>`, and `count`, `ends`, `nth` and `least-except SET NUMBERS =>`.
+#![tactic(auto)]
+
+mod bits;
+mod bitwise;
+mod fault;
+mod numbers;
+mod sets;
+mod subject;
+mod texts;
+mod widths;
+
+use acn_case_lines::{Line, line_of};
+use acn_num::NoMemory;
+use std::alloc::Global;
+use std::io;
+use subject::{Subject, answer, subject_of};
+
+// What is printed for a line, behind which the subject is the one that was last named.
+fn reply(alloc: Global, subject: &mut Subject, line: &str) -> Result<String, NoMemory> {
+    match line_of(line) {
+        Line::Case(case) => {
+            let words: Vec<&str> = case.split_whitespace().collect(alloc)?;
+            let said = answer(alloc, subject, words.as_slice())?;
+            Ok(format!(in alloc; "{case}=> {said}")?)
+        }
+        Line::Note => Ok(line.to_string(alloc)?),
+        Line::Other(text) => {
+            let words: Vec<&str> = text.split_whitespace().collect(alloc)?;
+            *subject = subject_of(alloc, words.as_slice())?;
+            Ok(line.to_string(alloc)?)
+        }
+    }
+}
+
+fn main(rt: HostRuntime) -> io::Result<()> {
+    let alloc = rt.alloc();
+    let mut subject = Subject::Nothing;
+    for line in rt.lines(alloc) {
+        let line = line?;
+        match reply(alloc, &mut subject, line.as_str()) {
+            Ok(text) => println!(rt; "{text}")?,
+            Err(NoMemory) => println!(rt; "no memory")?,
+        }
+    }
+    Ok(())
+}

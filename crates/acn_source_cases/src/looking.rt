@@ -1,0 +1,135 @@
+//! What a world answers about names, in words.
+
+ghost use Rattle.std.specs.List.{All};
+ghost use Rattle.acn_world.specs.Viewed.{world_view};
+ghost use Rattle.acn_world.specs.World.{IsType};
+
+use crate::asn_printer::{base_in_words, constraint_in_words, value_in_words};
+use crate::names::push_full_name;
+use crate::trouble::Trouble;
+use acn_acn_syntax::AcnEntry;
+use acn_asn_syntax::Constraint;
+use acn_case_lines::{small, word};
+use acn_world::{Chain, TypeId, World};
+use std::alloc::Global;
+
+// The names of types, each behind that of its module.
+fn push_types(world: &World, types: &[TypeId], words: &mut Vec<u8>) -> Result<(), Trouble>
+    requires { All (IsType (world_view world.now)) types.now }
+{
+    for place in types {
+        let (owner, own) = world.name_of(*place);
+        push_full_name(owner, own, words)?;
+    }
+    Ok(())
+}
+
+/// The roots by name.
+pub fn roots_told(alloc: Global, world: &World) -> Result<String, Trouble> {
+    let mut words = Vec::new(alloc);
+    push_types(world, world.roots(alloc)?.items(), &mut words)?;
+    if words.is_empty() {
+        return Ok(format!(in alloc; "no roots")?);
+    }
+    let all = String::from_utf8_lossy(alloc, words.as_slice())?;
+    Ok(all.as_str().trim().to_string(alloc)?)
+}
+
+// The numbers of a place, its names, and how many constraints stand on its type.
+fn place_in_words(alloc: Global, world: &World, place: TypeId) -> Result<String, Trouble>
+    requires { IsType (world_view world.now) place }
+{
+    let constraints = world.type_at(place).constraints.items().len();
+    let (owner, own) = world.name_of(place);
+    let owner = String::from_utf8_lossy(alloc, owner.bytes())?;
+    let own = String::from_utf8_lossy(alloc, own.bytes())?;
+    Ok(format!(in alloc;
+        "{}.{} {owner}.{own} {constraints}",
+        place.module, place.item
+    )?)
+}
+
+/// The place of the type with the second word's name in the module with the first word's name.
+pub fn find_told(alloc: Global, world: &World, words: &[&str]) -> Result<String, Trouble> {
+    match world.find(word(words, 0).as_bytes(), word(words, 1).as_bytes()) {
+        Some(place) => place_in_words(alloc, world, place),
+        None => Err(Trouble::Absent),
+    }
+}
+
+/// The place to which the second word leads in the module with the first word's number.
+pub fn lookup_told(alloc: Global, world: &World, words: &[&str]) -> Result<String, Trouble> {
+    match world.lookup(small(words, 0), word(words, 1).as_bytes()) {
+        Some(place) => place_in_words(alloc, world, place),
+        None => Err(Trouble::Absent),
+    }
+}
+
+/// The value to which the second word leads in the module with the first word's number: the number of its own module, the
+/// value, and how many constraints stand on its type.
+pub fn value_told(alloc: Global, world: &World, words: &[&str]) -> Result<String, Trouble> {
+    match world.value(small(words, 0), word(words, 1).as_bytes()) {
+        Some((owner, of, value)) => {
+            let constraints = of.constraints.items().len();
+            let text = value_in_words(alloc, value)?;
+            let text = String::from_utf8_lossy(alloc, text.as_slice())?;
+            Ok(format!(in alloc; "{owner}{text} {constraints}")?)
+        }
+        None => Err(Trouble::Absent),
+    }
+}
+
+/// The name of the entry at the place with these numbers.
+pub fn entry_told(alloc: Global, world: &World, words: &[&str]) -> Result<String, Trouble> {
+    let place = TypeId {
+        module: small(words, 0),
+        item: small(words, 1),
+    };
+    match world.entry_at(place) {
+        Some(entry) => Ok(String::from_utf8_lossy(alloc, entry.name.bytes())?),
+        None => Err(Trouble::Absent),
+    }
+}
+
+/// How many lines the table with the first word's name has.
+pub fn table_told(alloc: Global, world: &World, words: &[&str]) -> Result<String, Trouble> {
+    match world.table(word(words, 0).as_bytes()) {
+        Some(table) => Ok(format!(in alloc; "{}", table.lines.items().len())?),
+        None => Err(Trouble::Absent),
+    }
+}
+
+fn push_constraints(
+    alloc: Global,
+    constraints: &[(u32, &Constraint)],
+    words: &mut String,
+) -> Result<(), Trouble> {
+    for (module, constraint) in constraints {
+        let text = constraint_in_words(alloc, *constraint)?;
+        let text = String::from_utf8_lossy(alloc, text.as_slice())?;
+        write!(words, ", {module}{text}")?;
+    }
+    Ok(())
+}
+
+fn push_entries(
+    alloc: Global,
+    entries: &[(u32, &AcnEntry)],
+    words: &mut String,
+) -> Result<(), Trouble> {
+    for (module, entry) in entries {
+        let name = String::from_utf8_lossy(alloc, entry.name.bytes())?;
+        write!(words, ", {module} {name} []")?;
+    }
+    Ok(())
+}
+
+/// The base of a chain, its constraints and its entries, each behind the number of its module.
+pub fn chain_told(alloc: Global, chain: &Chain<'_>) -> Result<String, Trouble> {
+    let base = base_in_words(alloc, chain.base)?;
+    let base = String::from_utf8_lossy(alloc, base.as_slice())?;
+    let mut words = format!(in alloc; "{}{base}", chain.module)?;
+    push_constraints(alloc, chain.constraints.items(), &mut words)?;
+    push_entries(alloc, chain.entries.items(), &mut words)?;
+    Ok(words)
+}

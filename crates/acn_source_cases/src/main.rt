@@ -1,0 +1,58 @@
+//! Prints its input, with the answer behind each `=>`.
+//!
+//! A line `ask QUESTION` begins a group, and a line `asn TEXT`, `acn TEXT` or `map TEXT` a file of it, which goes on in the
+//! lines that are indented, and in a line `times LOW HIGH TEXT` once for each number from LOW up to HIGH, with the number in the
+//! place of `$i`, the one before it in that of `$h` and twice the number in that of `$e`. A line `CASE =>` asks the question of these
+//! files, with CASE in the place of `$1`, or, where `;;` divides it, its parts in the places of `$1`, `$2` and `$3`. In a file `\` and
+//! two hexadecimal digits are one byte.
+#![tactic(auto)]
+
+mod acn_printer;
+mod answer;
+mod asn_printer;
+mod graph;
+mod looking;
+mod measure;
+mod names;
+mod reading;
+mod sheet;
+mod texts;
+mod trouble;
+
+use acn_case_lines::{Line, line_of};
+use acn_num::NoMemory;
+use answer::answer;
+use sheet::Sheet;
+use std::alloc::Global;
+use std::io;
+
+// What is printed for a line.
+fn reply(alloc: Global, sheet: &mut Sheet, line: &str) -> Result<String, NoMemory> {
+    match line_of(line) {
+        Line::Case(case) => {
+            let words = answer(alloc, sheet, case)?;
+            Ok(format!(in alloc; "{case}=> {words}")?)
+        }
+        Line::Note => Ok(line.to_string(alloc)?),
+        Line::Other(text) => {
+            if sheet.take(alloc, text)? {
+                Ok(line.to_string(alloc)?)
+            } else {
+                Ok(format!(in alloc; "not understood: {line}")?)
+            }
+        }
+    }
+}
+
+fn main(rt: HostRuntime) -> io::Result<()> {
+    let alloc = rt.alloc();
+    let mut sheet = Sheet::new(alloc);
+    for line in rt.lines(alloc) {
+        let line = line?;
+        match reply(alloc, &mut sheet, line.as_str()) {
+            Ok(text) => println!(rt; "{text}")?,
+            Err(NoMemory) => println!(rt; "no memory")?,
+        }
+    }
+    Ok(())
+}

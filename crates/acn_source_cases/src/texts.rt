@@ -1,0 +1,98 @@
+//! From texts to the trees of sources.
+
+ghost use Rattle.std.specs.Prelude.{◌≤◌, length, IfOk};
+ghost use Rattle.acn_lex.specs.Tokens.{IsTokens};
+
+use crate::sheet::{Kind, Sheet};
+use crate::trouble::Trouble;
+use acn_acn_parse::{parse_acn, parse_map};
+use acn_asn_parse::parse_asn;
+use acn_lex::{Tokens, lex};
+use acn_num::Row;
+use acn_world::Sources;
+use std::alloc::Global;
+
+// The byte of two hexadecimal digits, and what stands behind them.
+fn escaped(piece: &str) -> Option<(u8, &str)> {
+    let (digits, rest) = piece.split_at_checked(2)?;
+    match u8::from_str_radix(digits, 16) {
+        Ok(byte) => Some((byte, rest)),
+        Err(_) => None,
+    }
+}
+
+fn put_escaped(piece: &str, bytes: &mut Vec<u8>) -> Result<(), Trouble> {
+    match escaped(piece) {
+        Some((byte, rest)) => {
+            bytes.push(byte)?;
+            bytes.extend_from_slice(rest.as_bytes())?;
+        }
+        None => {
+            bytes.push(b'\\')?;
+            bytes.extend_from_slice(piece.as_bytes())?;
+        }
+    }
+    Ok(())
+}
+
+/// The bytes of a text, in which `\` and two hexadecimal digits are one.
+pub fn bytes_of(alloc: Global, text: &str) -> Result<Vec<u8>, Trouble> {
+    let mut bytes = Vec::new(alloc);
+    for (place, piece) in text.split("\\").enumerate() {
+        if place == 0 {
+            bytes.extend_from_slice(piece.as_bytes())?;
+        } else {
+            put_escaped(piece, &mut bytes)?;
+        }
+    }
+    Ok(bytes)
+}
+
+/// The tokens of bytes, of which there are at most 1,000,000.
+pub fn tokens_of(alloc: Global, bytes: &[u8]) -> Result<Tokens<'_>, Trouble> {
+    if bytes.len() > 16_777_216 {
+        return Err(Trouble::TooMuch);
+    }
+    Ok(lex(alloc, bytes)?)
+}
+
+/// No files.
+pub fn no_files(alloc: Global) -> Sources {
+    Sources {
+        asn: Row::new(alloc),
+        acn: Row::new(alloc),
+        maps: Row::new(alloc),
+    }
+}
+
+/// Adds a file of this sort.
+pub fn add(alloc: Global, kind: Kind, bytes: &[u8], all: &mut Sources) -> Result<(), Trouble> {
+    let tokens = tokens_of(alloc, bytes)?;
+    if tokens.list.items().len() > 1_000_000 {
+        return Err(Trouble::TooMuch);
+    }
+    match kind {
+        Kind::Asn => all.asn.push(parse_asn(alloc, &tokens)?)?,
+        Kind::Acn => all.acn.push(parse_acn(alloc, &tokens)?)?,
+        Kind::Map => all.maps.push(parse_map(alloc, &tokens)?)?,
+    }
+    Ok(())
+}
+
+/// The trees of the files, with the parts in their places. Files without a text are left out, where that is wanted.
+pub fn sources(
+    alloc: Global,
+    sheet: &Sheet,
+    parts: &[&str],
+    all_files: bool,
+) -> Result<Sources, Trouble> {
+    let mut all = no_files(alloc);
+    for file in sheet.files.iter() {
+        let text = file.filled(alloc, parts)?;
+        if all_files || !text.as_str().trim().is_empty() {
+            let bytes = bytes_of(alloc, text.as_str())?;
+            add(alloc, file.kind, bytes.as_slice(), &mut all)?;
+        }
+    }
+    Ok(all)
+}

@@ -1,0 +1,187 @@
+//! Answers to cases.
+
+ghost use Rattle.acn_grammar.specs.View.{grammar_of};
+ghost use Rattle.acn_tree.specs.ItemsNamed.{ItemsNamed};
+
+use crate::building::Built;
+use crate::fault::fault_in_words;
+use crate::sheet::Sheet;
+use crate::unfit::unfit_in_words;
+use crate::value::value_of;
+use crate::value_words::value_in_words;
+use acn_case_lines::{wide, word};
+use acn_check::check;
+use acn_num::{Boxed, NoMemory, Path};
+use acn_tree::{
+    Body, Draw, Node, NumLeaf, Tree, interval, items_named, make, meets, node_at, shaped,
+    value_count,
+};
+use std::alloc::Global;
+
+fn bounds_in_words(alloc: Global, tree: &Tree) -> Result<String, NoMemory> {
+    let bounds = interval(tree);
+    Ok(format!(in alloc; "{}..{}", bounds.least, bounds.greatest)?)
+}
+
+// What `check` answers of a tree, and again of the tree that it hands back.
+fn checked(alloc: Global, tree: Boxed<Tree>, again: bool) -> Result<String, NoMemory> {
+    match check(alloc, tree.into_inner()) {
+        Ok(_) => Ok(format!(in alloc; "Ok")?),
+        Err((tree, fault)) => {
+            let words = fault_in_words(alloc, &fault)?;
+            if again {
+                return twice(alloc, tree, words.as_str());
+            }
+            Ok(words)
+        }
+    }
+}
+
+fn twice(alloc: Global, tree: Tree, first: &str) -> Result<String, NoMemory> {
+    match check(alloc, tree) {
+        Ok(_) => Ok(format!(in alloc; "{first}, Ok")?),
+        Err((_, fault)) => {
+            let words = fault_in_words(alloc, &fault)?;
+            Ok(format!(in alloc; "{first}, {words}")?)
+        }
+    }
+}
+
+// The path of a word: steps joined by full stops, or `root`. None comes where it has more than 64 steps.
+fn path_of(text: &str) -> Option<Path> {
+    let mut path = Path::new();
+    if text != "root" {
+        for (place, step) in text.split(".").enumerate() {
+            if place > 63 {
+                return None;
+            }
+            path.push(step.parse::<u32>().unwrap_or(u32::MAX));
+        }
+    }
+    Some(path)
+}
+
+fn leaf_in_words(alloc: Global, leaf: &NumLeaf) -> Result<String, NoMemory> {
+    let mut words = format!(in alloc; "number")?;
+    for (low, high) in leaf.set.ranges() {
+        write!(words, " {low}..{high}")?;
+    }
+    Ok(words)
+}
+
+fn node_in_words(alloc: Global, node: &Node) -> Result<String, NoMemory> {
+    match &node.body {
+        Body::Num(leaf) => leaf_in_words(alloc, leaf),
+        Body::Octets(_) => Ok(format!(in alloc; "octets")?),
+        Body::Bits(_) => Ok(format!(in alloc; "bits")?),
+        Body::Text(_) => Ok(format!(in alloc; "text")?),
+        Body::Seq(_) => Ok(format!(in alloc; "sequence")?),
+        Body::List(_, _) => Ok(format!(in alloc; "list")?),
+        Body::Choice(_) => Ok(format!(in alloc; "choice")?),
+        Body::Contained(_, _) => Ok(format!(in alloc; "contained")?),
+    }
+}
+
+fn node_told(alloc: Global, tree: &Tree, text: &str) -> Result<String, NoMemory> {
+    match path_of(text) {
+        Some(path) => match node_at(tree, &path) {
+            Some(node) => node_in_words(alloc, node),
+            None => Ok(format!(in alloc; "none")?),
+        },
+        None => Ok(format!(in alloc; "too long")?),
+    }
+}
+
+fn meets_told(alloc: Global, tree: &Tree, words: &[&str]) -> Result<String, NoMemory> {
+    match value_of(alloc, words)? {
+        Some(value) => match meets(tree.root(), value.get()) {
+            Ok(()) => Ok(format!(in alloc; "Ok")?),
+            Err(unfit) => unfit_in_words(alloc, &unfit),
+        },
+        None => Ok(format!(in alloc; "no value")?),
+    }
+}
+
+fn shaped_told(alloc: Global, tree: &Tree, words: &[&str]) -> Result<String, NoMemory> {
+    match value_of(alloc, words)? {
+        Some(value) => Ok(format!(in alloc; "{}", shaped(tree.root(), value.get()))?),
+        None => Ok(format!(in alloc; "no value")?),
+    }
+}
+
+// The next value in words.
+fn next_made(alloc: Global, tree: &Tree, draw: &mut Draw) -> Result<String, NoMemory>
+    requires { ItemsNamed (grammar_of tree.now.root) }
+{
+    let value = Boxed::new(alloc, make(alloc, tree, draw)?)?;
+    value_in_words(alloc, value.get())
+}
+
+// The first two values that are made from a start.
+fn made_told(alloc: Global, tree: &Tree, start: u64) -> Result<String, NoMemory> {
+    if !items_named(tree) {
+        return Ok(format!(in alloc; "not named")?);
+    }
+    let mut draw = Draw::new(start);
+    let first = next_made(alloc, tree, &mut draw)?;
+    let second = next_made(alloc, tree, &mut draw)?;
+    Ok(format!(in alloc; "{} ;{second}", first.as_str().trim())?)
+}
+
+// The numbers that are drawn from a start, each below the next word.
+fn drawn_told(alloc: Global, words: &[&str]) -> Result<String, NoMemory> {
+    let mut draw = Draw::new(wide(words, 0));
+    let mut told = String::new(alloc);
+    for word in words.get(1..).unwrap_or(&[]) {
+        let count = word.parse::<u128>().unwrap_or(0);
+        if count > 0 {
+            write!(told, " {}", draw.pick(count))?;
+        }
+    }
+    Ok(told.as_str().trim().to_string(alloc)?)
+}
+
+fn told(alloc: Global, tree: Boxed<Tree>, words: &[&str]) -> Result<String, NoMemory> {
+    let rest = words.get(1..).unwrap_or(&[]);
+    match word(words, 0) {
+        "form" => Ok(format!(in alloc; "Ok")?),
+        "values" => Ok(format!(in alloc; "{}", value_count(tree.get()))?),
+        "bits" => bounds_in_words(alloc, tree.get()),
+        "check" => checked(alloc, tree, false),
+        "check-twice" => checked(alloc, tree, true),
+        "named" => Ok(format!(in alloc; "{}", items_named(tree.get()))?),
+        "at" => node_told(alloc, tree.get(), word(rest, 0)),
+        "meets" => meets_told(alloc, tree.get(), rest),
+        "shaped" => shaped_told(alloc, tree.get(), rest),
+        "make" => made_told(alloc, tree.get(), wide(rest, 0)),
+        _ => Ok(format!(in alloc; "not understood")?),
+    }
+}
+
+fn of_tree(
+    alloc: Global,
+    sheet: &Sheet,
+    parts: &[&str],
+    words: &[&str],
+) -> Result<String, NoMemory> {
+    match sheet.built(alloc, parts)? {
+        Built::Tree(tree) => told(alloc, tree, words),
+        Built::NoTree => Ok(format!(in alloc; "no tree")?),
+        Built::Unknown => Ok(format!(in alloc; "not understood")?),
+    }
+}
+
+/// The answer to a case.
+pub fn answer(alloc: Global, sheet: &Sheet, case: &str) -> Result<String, NoMemory> {
+    let parts: Vec<&str> = case.split(";;").collect(alloc)?;
+    let words: Vec<&str> = word(parts.as_slice(), 0).split_whitespace().collect(alloc)?;
+    if word(words.as_slice(), 0) == "draw" {
+        return drawn_told(alloc, words.get(1..).unwrap_or(&[]));
+    }
+    of_tree(
+        alloc,
+        sheet,
+        parts.get(1..).unwrap_or(&[]),
+        words.as_slice(),
+    )
+}
