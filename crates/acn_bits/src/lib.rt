@@ -7,6 +7,7 @@ mod word;
 mod write_cursor;
 
 pub use read_cursor::{ReadCursor, Short};
+pub use word::WORD_BITS;
 pub use write_cursor::{Hole, WriteCursor};
 
 #[cfg(test)]

@@ -1,6 +1,7 @@
 ghost use Rattle.std.specs.Prelude.{◌≡◌, ◌+◌, ◌*◌, ◌<◌, ◌≤◌, length, take, OnOk, OnErr, IfOk};
 ghost use Rattle.acn_num.specs.Bits.{bits, number};
 ghost use Rattle.acn_bits.specs.Reading.{passed, window_of};
+ghost use Rattle.acn_bits.specs.declared.word.TheConstants.{WORD_BITS};
 
 use crate::word::number_at;
 use std::marker::Model;
@@ -47,11 +48,11 @@ impl<'a> ReadCursor<'a> {
         }
     }
 
-    /// Takes the next `n` bits, at most 64, and answers the number that they spell.
+    /// Takes the next `n` bits, at most `WORD_BITS`, and answers the number that they spell.
     ///
     /// `Short` comes exactly where fewer bits are left; then nothing moves.
     pub fn take(&mut self, n: u32) -> Result<u64, Short>
-        requires { n ≤ 64 }
+        requires { n ≤ WORD_BITS }
         ensures value { IfOk result (λ v. v ≡ number (take n self.old.rest)) }
         ensures within { OnOk result (n ≤ length self.old.rest) }
         ensures moved { OnOk result (self.new ≡ passed n self.old) }

@@ -1,5 +1,6 @@
 ghost use Rattle.std.specs.Prelude.{◌≡◌, ◌+◌, ◌-◌, ◌*◌, ◌<◌, ◌≤◌, ◌^◌, false, replicate};
 ghost use Rattle.acn_num.specs.Bits.{low_bits};
+ghost use Rattle.acn_bits.specs.declared.word.TheConstants.{WORD_BITS};
 
 use crate::part::put_bits;
 use std::marker::Model;
@@ -14,12 +15,13 @@ pub struct Hole {
 impl Model for Hole {
     ghost use Rattle.std.specs.Prelude.{◌≤◌};
     ghost use Rattle.acn_bits.specs.Overwrite.{Gap};
+    ghost use Rattle.acn_bits.specs.declared.word.TheConstants.{WORD_BITS};
 
     ghost Value = { Gap };
 
     ghost view = { λ h. record { place = h.place; width = h.width } };
 
-    ghost invariant = { λ h. h.width ≤ 64 };
+    ghost invariant = { λ h. h.width ≤ WORD_BITS };
 }
 
 impl Hole {
@@ -30,10 +32,10 @@ impl Hole {
         self.place
     }
 
-    /// How many bits there are, at most 64.
+    /// How many bits there are, at most `WORD_BITS`.
     pub fn width(&self) -> u32
         ensures width { result ≡ self.now.width }
-        ensures small { result ≤ 64 }
+        ensures small { result ≤ WORD_BITS }
     {
         self.width
     }
@@ -77,9 +79,9 @@ impl<'a, const N: usize> WriteCursor<'a, N> {
         8 * N as u64 - self.at
     }
 
-    /// Writes `v` in the next `n` bits, at most 64, and changes no others.
+    /// Writes `v` in the next `n` bits, at most `WORD_BITS`, and changes no others.
     pub fn put(&mut self, n: u32, v: u64)
-        requires width { n ≤ 64 }
+        requires width { n ≤ WORD_BITS }
         requires fits { v < 2 ^ n }
         requires room { place_of self.old + n ≤ 8 * N }
         ensures { Writes self.old self.new (place_of self.old) (low_bits n v) (place_of self.old + n) }
@@ -90,9 +92,9 @@ impl<'a, const N: usize> WriteCursor<'a, N> {
         self.at += u64::from(n);
     }
 
-    /// Leaves the next `n` bits, at most 64, as zeros that are to be filled.
+    /// Leaves the next `n` bits, at most `WORD_BITS`, as zeros that are to be filled.
     pub fn hole(&mut self, n: u32) -> Hole
-        requires width { n ≤ 64 }
+        requires width { n ≤ WORD_BITS }
         requires room { place_of self.old + n ≤ 8 * N }
         ensures hole { result ≡ record { place = place_of self.old; width = n } }
         ensures zeros { Writes self.old self.new (place_of self.old) (replicate n false) (place_of self.old + n) }
