@@ -10,8 +10,8 @@ use Rattle.acn_grammar.specs.Refused.{of_field, asks_of, IsAsked, Contradicts, E
 use Rattle.acn_grammar.specs.Slots.{domain_of}
 use Rattle.acn_packet_laws.specs.Laws.{OneRefusal}
 use Rattle.acn_packet_laws.proofs.AskHomes.{truth, if_yes, if_no}
-use Rattle.acn_packet_laws.proofs.Placed.{same_name-is}
 use Rattle.acn_packet_laws.proofs.Used.{each_right}
+use Rattle.acn_grammar.proofs.Characters.{same_name-is}
 
 abbrev pub EachMet : Grammar → List Moment → Type 0
 EachMet root ms = (early late : List Moment) (m : Moment) → ms ≡ early ++ m ∷ late → CanBeMet root early m

@@ -25,8 +25,8 @@ use Rattle.acn_grammar.proofs.SpellLength.{Steady, then-length}
 use Rattle.acn_grammar.proofs.Texts.{either}
 use Rattle.acn_packet_laws.proofs.LeafTotal.{less_or_not}
 use Rattle.acn_packet_laws.proofs.LengthLaw.{length_law}
-use Rattle.acn_packet_laws.proofs.PrefixNodes.{same_name-refl}
 use Rattle.acn_packet_laws.proofs.WrittenSizes.{prefix_fits, TextRules, character_fits}
+use Rattle.acn_grammar.proofs.Characters.{same_name-refl}
 
 abbrev pub Writes : Part → Type 0
 Writes P = (at : ℕ) → (bs : List Bool) × P at bs
