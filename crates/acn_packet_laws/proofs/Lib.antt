@@ -57,6 +57,8 @@ mod RefusedUnspelled
 pub mod RequestRows
 pub mod Rows
 pub mod Scoping
+mod ShortLeaves
+mod ShortNear
 pub mod SlotLeaves
 pub mod SoundLaws
 pub mod SoundNodes

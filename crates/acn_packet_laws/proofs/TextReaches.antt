@@ -27,7 +27,7 @@ octets-short (a ∷ b ∷ c ∷ d ∷ e ∷ f ∷ []) = omega arith
 octets-short (a ∷ b ∷ c ∷ d ∷ e ∷ f ∷ g ∷ []) = omega arith
 octets-short (a ∷ b ∷ c ∷ d ∷ e ∷ f ∷ g ∷ h ∷ l) = omega (arith, octets-short l)
 
-octets-long : (l : List Bool) → length l < 8 * length (octet_values l) + 8
+pub octets-long : (l : List Bool) → length l < 8 * length (octet_values l) + 8
 octets-long [] = omega arith
 octets-long (a ∷ []) = omega arith
 octets-long (a ∷ b ∷ []) = omega arith

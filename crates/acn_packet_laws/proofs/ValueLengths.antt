@@ -39,7 +39,7 @@ use Rattle.acn_packet_laws.proofs.WrittenSizes.{TextRules, text_rules}
 
 -- Numbers: by a code of them.
 
-padding_spans : (align at : ℕ) → 0 < align → Between (record { least = 0; greatest = align - 1 }) (padding align at)
+pub padding_spans : (align at : ℕ) → 0 < align → Between (record { least = 0; greatest = align - 1 }) (padding align at)
 padding_spans align at h = let below = mod-lt (align - at % align) {m = align} h in record { low = omega arith; high = λ q. omega arith }
 
 abbrev Every : (Data → Type 0) → Elements → Type 0

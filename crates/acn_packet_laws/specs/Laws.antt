@@ -177,6 +177,14 @@ OneFailure = (root : Grammar) (input : List Bool) (f g : Fault) (m n : ℕ) → 
 abbrev pub ReachesLieInside : Type 0
 ReachesLieInside = (root : Grammar) (input : List Bool) (fault : Fault) (reach : ℕ) → IsAccepted root → Refusal root input fault reach → fault.reason ≢ short → reach ≤ length input
 
+-- the bits of the greatest window round contents: 65,536 octets
+abbrev pub greatest_window : ℕ
+greatest_window = 524288
+
+-- bits are wanting only where there are fewer than the greatest packet and the greatest window have
+abbrev pub ShortIsNear : Type 0
+ShortIsNear = (root : Grammar) (input : List Bool) (fault : Fault) (reach : ℕ) → IsAccepted root → Refusal root input fault reach → fault.reason ≡ short → length input < (span root).greatest + greatest_window
+
 -- no input of an accepted tree is left: a value is at its front, or something fails
 abbrev pub EachInputIsReadOrFails : Type 0
 EachInputIsReadOrFails = (root : Grammar) (input : List Bool) → IsAccepted root → ((d : Data) × (n : ℕ) × Front root input d n) ⊎ ((fault : Fault) × (reach : ℕ) × Refusal root input fault reach)

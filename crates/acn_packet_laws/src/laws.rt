@@ -1,4 +1,4 @@
-ghost use Rattle.acn_packet_laws.specs.Laws.{NumbersArePrefixFree, BoundsHold, FailuresRestOnBits, FrontsRestOnBits, NoFaultWithoutAFirst, OneFirstFault, AcceptedIsScoped, AcceptedIsSound, EachNodeIsSound, SoundIsScoped, KnownBehind, FewAreOpen, UsesFitTheirSlots, NodesArePrefixFree, SlotFieldsArePrefixFree, EachNodeIsPrefixFree, PacketsArePrefixFree, EachNumberHasACode, LengthsAreTold, EachLengthIsTold, WidthsAreLengths, OneFront, FrontsExcludeFailures, OneFailure, EachInputIsReadOrFails, EachInputIsANumberOrFails, WrittenIsRead, SpelledValuesMeet, SpellingsHaveNoBreach, EachOccurrenceAsks, OneWriting, RefusedIsNotSpelled, OneRefusal, EachValueIsWrittenOrRefused, LaterStartsEndLater, ValuesLieWithinBounds, ReachesLieInside};
+ghost use Rattle.acn_packet_laws.specs.Laws.{NumbersArePrefixFree, BoundsHold, FailuresRestOnBits, FrontsRestOnBits, NoFaultWithoutAFirst, OneFirstFault, AcceptedIsScoped, AcceptedIsSound, EachNodeIsSound, SoundIsScoped, KnownBehind, FewAreOpen, UsesFitTheirSlots, NodesArePrefixFree, SlotFieldsArePrefixFree, EachNodeIsPrefixFree, PacketsArePrefixFree, EachNumberHasACode, LengthsAreTold, EachLengthIsTold, WidthsAreLengths, OneFront, FrontsExcludeFailures, OneFailure, EachInputIsReadOrFails, EachInputIsANumberOrFails, WrittenIsRead, SpelledValuesMeet, SpellingsHaveNoBreach, EachOccurrenceAsks, OneWriting, RefusedIsNotSpelled, OneRefusal, EachValueIsWrittenOrRefused, LaterStartsEndLater, ValuesLieWithinBounds, ReachesLieInside, ShortIsNear};
 
 /// No code of a number leaf begins another, and the code tells the number.
 pub fn numbers_are_prefix_free()
@@ -185,4 +185,10 @@ pub fn values_lie_within_bounds()
 /// A failure of an accepted tree other than the want of bits rests on bits that are there.
 pub fn reaches_lie_inside()
     ensures { ReachesLieInside }
+{}
+
+/// Bits are wanting only where there are fewer than the greatest packet of the tree and the greatest
+/// window round contents have.
+pub fn short_is_near()
+    ensures { ShortIsNear }
 {}
