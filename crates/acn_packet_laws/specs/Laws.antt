@@ -25,6 +25,7 @@ use Rattle.acn_grammar.specs.Slots.{slot_leaf}
 use Rattle.acn_grammar.specs.Tree.{IsTree, holds, slots_of}
 use Rattle.acn_grammar.specs.Walk.{Stand, Use, inside, slot_here, slot_of, uses}
 use Rattle.acn_grammar.specs.declared.node.NumLeaf.{NumLeaf}
+use Rattle.acn_grammar.specs.declared.limits.TheConstants.{MOST_PACKET_BITS, MOST_OPEN_SLOTS}
 
 -- no code of a leaf that keeps its rules begins another, and the code tells the number
 abbrev pub NumbersArePrefixFree : Type 0
@@ -34,7 +35,7 @@ NumbersArePrefixFree =
 -- in a tree whose greatest bound is within a packet's limit every spelling has a length between the bounds
 abbrev pub BoundsHold : Type 0
 BoundsHold =
-    (root : Grammar) (mode : Mode) (d : Data) (bs : List Bool) → IsTree root → (span root).greatest ≤ 524336 → Spell root mode root [] d 0 bs → ((span root).least ≤ length bs) × (length bs ≤ (span root).greatest)
+    (root : Grammar) (mode : Mode) (d : Data) (bs : List Bool) → IsTree root → (span root).greatest ≤ MOST_PACKET_BITS → Spell root mode root [] d 0 bs → ((span root).least ≤ length bs) × (length bs ≤ (span root).greatest)
 
 -- a failure other than the want of bits is the same on every input with the same bits up to where it rests
 abbrev pub FailuresRestOnBits : Type 0
@@ -81,9 +82,9 @@ SoundIsScoped = (root : Grammar) (k : ℕ) (around : List ℕ) (ks : Known) (g :
 abbrev pub KnownBehind : Type 0
 KnownBehind = (root : Grammar) (k : ℕ) (around : List ℕ) (ks : Known) (g : Grammar) → Sound root k around ks g → (s : ℕ) → after ks g s ≡ true → (ks s ≡ true) ⊎ (holds around s ≡ true)
 
--- at most 256 slots are at home on the path to a node
+-- not too many slots are at home on the path to a node
 abbrev pub FewAreOpen : Type 0
-FewAreOpen = (root : Grammar) (k : ℕ) (here : Stand) → IsAccepted root → NodeAt root k here → open_at here ≤ 256
+FewAreOpen = (root : Grammar) (k : ℕ) (here : Stand) → IsAccepted root → NodeAt root k here → open_at here ≤ MOST_OPEN_SLOTS
 
 -- a use of a slot asks for the kind of number that its leaf is
 abbrev pub UsesFitTheirSlots : Type 0
