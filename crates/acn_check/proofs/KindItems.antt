@@ -3,11 +3,11 @@ use Rattle.std.proofs.Common.{◌≡◌, inl, inr, ℕ, ℤ, zero, suc, ◌<◌,
 use Rattle.std.specs.Prelude.{option_map, slice_get, Contains, unwrap_or}
 use Rattle.std.specs.List.{list_any}
 use Rattle.acn_grammar.specs.Asks.{same_name}
-use Rattle.acn_grammar.specs.Check.{CheckFault, no_item, Evidence, Before, NodeAt, conditions_of, number_of_fault}
+use Rattle.acn_grammar.specs.Check.{CheckFault, no_item, Evidence, Before, NodeAt, number_of_fault}
 use Rattle.acn_grammar.specs.Grammar.{Grammar, Form, Alternatives, num, octets, bits, text, seq, list, choice, contained}
 use Rattle.acn_grammar.specs.Slots.{items_of}
 use Rattle.acn_grammar.specs.Tree.{IsTree}
-use Rattle.acn_grammar.specs.Walk.{Stand}
+use Rattle.acn_grammar.specs.Walk.{Stand, conditions_of}
 use Rattle.acn_grammar.specs.declared.node.ChoiceRule.TheVariants.{Index, Tests, Item}
 use Rattle.acn_grammar.specs.declared.node.NumLeaf.{NumLeaf}
 use Rattle.acn_grammar.specs.declared.node.Test.{Test}

@@ -4,12 +4,12 @@ use Rattle.std.specs.Prelude.{option_map, slice_get, unwrap_or, if◌then◌else
 use Rattle.std.specs.List.{AllByRecursion, list_all}
 use Rattle.std.proofs.lemmas.Bool.Decides.{nat_tests}
 use Rattle.acn_num.specs.Ranges.{In, has}
-use Rattle.acn_grammar.specs.Check.{CheckFault, overlap, Evidence, Before, NodeAt, Overlaps, conditions_of, test_slot, number_of_fault}
+use Rattle.acn_grammar.specs.Check.{CheckFault, overlap, Evidence, Before, NodeAt, Overlaps, test_slot, number_of_fault}
 use Rattle.acn_grammar.specs.Env.{Env, at_slot}
 use Rattle.acn_grammar.specs.Grammar.{Grammar, Form, Alternatives, num, octets, bits, text, seq, list, choice, contained}
 use Rattle.acn_grammar.specs.Slots.{domain_of}
 use Rattle.acn_grammar.specs.Tree.{IsTree, holds}
-use Rattle.acn_grammar.specs.Walk.{Stand}
+use Rattle.acn_grammar.specs.Walk.{Stand, conditions_of}
 use Rattle.acn_grammar.specs.declared.node.ChoiceRule.{ChoiceRule}
 use Rattle.acn_grammar.specs.declared.node.ChoiceRule.TheVariants.{Index, Tests, Item}
 use Rattle.acn_grammar.specs.declared.node.NumLeaf.{NumLeaf}

@@ -3,10 +3,10 @@ use Rattle.std.proofs.Common.{◌≡◌, ◌⊎◌, inl, inr, ℕ, zero, suc, �
 use Rattle.std.specs.Prelude.{slice_get}
 use Rattle.std.specs.List.{list_any}
 use Rattle.std.proofs.lemmas.Bool.Decides.{nat_tests}
-use Rattle.acn_grammar.specs.Check.{CheckFault, absent_unclear, mixed_choice, too_many_open, Evidence, NodeAt, IsChoice, conditions_of, open_at, number_of_fault}
+use Rattle.acn_grammar.specs.Check.{CheckFault, absent_unclear, mixed_choice, too_many_open, Evidence, NodeAt, IsChoice, open_at, number_of_fault}
 use Rattle.acn_grammar.specs.Grammar.{Grammar, Form, Alternatives, num, octets, bits, text, seq, list, choice, contained}
 use Rattle.acn_grammar.specs.Tree.{has_tests}
-use Rattle.acn_grammar.specs.Walk.{Stand, Role, root_node, a_component, an_inserted, an_alternative, an_element, a_content, presence_tests}
+use Rattle.acn_grammar.specs.Walk.{Stand, Role, root_node, a_component, an_inserted, an_alternative, an_element, a_content, presence_tests, conditions_of}
 use Rattle.acn_grammar.specs.declared.node.ChoiceRule.{ChoiceRule}
 use Rattle.acn_grammar.specs.declared.node.ChoiceRule.TheVariants.{Index, Tests, Item}
 use Rattle.acn_grammar.specs.declared.node.Test.{Test}

@@ -3,11 +3,11 @@ use Rattle.std.proofs.Common.{◌≡◌, ℕ, suc, ◌+◌, ◌*◌, ◌<◌, �
 use Rattle.std.specs.Prelude.{filter}
 use Rattle.std.specs.List.{list_all, range_with_len}
 use Rattle.std.proofs.lemmas.Bool.Decides.{nat_tests}
-use Rattle.acn_grammar.specs.Check.{home_size, conditions_of}
+use Rattle.acn_grammar.specs.Check.{home_size}
 use Rattle.acn_grammar.specs.Grammar.{Grammar, Form, Fields, Alternatives, node, num, octets, bits, text, seq, list, choice, contained, no_fields, component, inserted, no_alternatives, alternative}
 use Rattle.acn_grammar.specs.Leaves.{num_fine}
 use Rattle.acn_grammar.specs.Tree.{IsTree, form_fine, is_home, home_fine, holds, near, same_numbers, slots_of, stand_rules, all_true}
-use Rattle.acn_grammar.specs.Walk.{Stand, nodes_of, presence_tests, slot_here}
+use Rattle.acn_grammar.specs.Walk.{Stand, nodes_of, presence_tests, slot_here, conditions_of}
 use Rattle.acn_grammar.proofs.Codings.{both_are}
 use Rattle.acn_packet_laws.proofs.Placed.{tree_rules}
 use Rattle.acn_grammar.proofs.TreeRules.{stand_fine}

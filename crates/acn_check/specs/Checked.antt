@@ -13,6 +13,7 @@ use Rattle.acn_grammar.specs.Spell.{Spell}
 use Rattle.acn_grammar.specs.Walk.{Stand, inserted_slot}
 use Rattle.acn_grammar.specs.declared.check_fault.CheckFault.{CheckFault}
 use Rattle.acn_grammar.specs.declared.node.NumLeaf.{NumLeaf}
+use Rattle.acn_grammar.specs.declared.limits.TheConstants.{MOST_DETERMINANT_BITS}
 
 -- no fault of decodability comes first, so there is none
 abbrev pub HasNoFault : Grammar → Type 0
@@ -38,6 +39,6 @@ NodesAreSound root = Sound root 0 [] (λ s. false) root
 abbrev pub UsesAreKnown : Grammar → Type 0
 UsesAreKnown root = Scoped root (λ s. false) root
 
--- all codes of an inserted slot's leaf have one length of at most 64 bits
+-- all codes of an inserted slot's leaf have one length, that of a determinant at most
 abbrev pub SlotsHaveOneWidth : Grammar → Type 0
-SlotsHaveOneWidth root = (k : ℕ) (at : Stand) (s : ℕ) (leaf : NumLeaf) → NodeAt root k at → inserted_slot at.role ≡ Some s → slot_leaf root s ≡ Some leaf → (w : ℕ) × HasWidth leaf w × (w ≤ 64)
+SlotsHaveOneWidth root = (k : ℕ) (at : Stand) (s : ℕ) (leaf : NumLeaf) → NodeAt root k at → inserted_slot at.role ≡ Some s → slot_leaf root s ≡ Some leaf → (w : ℕ) × HasWidth leaf w × (w ≤ MOST_DETERMINANT_BITS)

@@ -9,6 +9,8 @@ use Rattle.acn_grammar.specs.Walk.{Stand, Role, a_component, own_tests, slot_her
 use Rattle.acn_grammar.specs.declared.node.Test.{Test}
 use Rattle.acn_check.specs.declared.lines.Line.{Line}
 use Rattle.acn_check.specs.declared.lines.Tag as declared_tag
+use Rattle.acn_grammar.specs.declared.limits.TheConstants.{MOST_NODES}
+use Rattle.acn_num.specs.declared.limits.TheConstants.{MOST_STEPS}
 
 -- what a node's place says of it: its own conditions, whether it is a component, and its slot
 pub record Tag : Type 0 where
@@ -69,11 +71,11 @@ one_alternative path around k a = facts (record { tests = a.tests; component = f
 
 -- the paths are ones that can be named, and so are the counts of open slots
 abbrev pub fits : Facts → Bool
-fits f = nat_le (length f.path) 64 && nat_lt f.at_home (2 ^ 32)
+fits f = nat_le (length f.path) MOST_STEPS && nat_lt f.at_home (2 ^ 32)
 
 pub record Fit (l : List Facts) : Type 0 where
   pub each : list_all fits l ≡ true
-  pub few : length l ≤ 65536
+  pub few : length l ≤ MOST_NODES
 
 abbrev pub tag_seen : declared_tag.Tag → Tag
 tag_seen tag = record { tests = tag.tests.now; component = tag.component; slot = tag.slot }

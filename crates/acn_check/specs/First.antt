@@ -5,7 +5,7 @@ use Rattle.std.specs.Ordering.{int_eq}
 use Rattle.acn_num.specs.Bits.{number}
 use Rattle.acn_num.specs.Ranges.{has, distance}
 use Rattle.acn_grammar.specs.Asks.{same_name}
-use Rattle.acn_grammar.specs.Check.{CheckFault, forward, det_kind, det_width, overlap, absent_unclear, unused, no_item, mixed_choice, too_long, too_many_open, too_many_conditions, too_many_values, terminator_ambiguous, is_lead, lead, conditions_of}
+use Rattle.acn_grammar.specs.Check.{CheckFault, forward, det_kind, det_width, overlap, absent_unclear, unused, no_item, mixed_choice, too_long, too_many_open, too_many_conditions, too_many_values, terminator_ambiguous, is_lead, lead}
 use Rattle.acn_grammar.specs.Faults.{check_fault_of}
 use Rattle.acn_grammar.specs.Grammar.{Grammar, Form, num, list, choice}
 use Rattle.acn_grammar.specs.Interval.{span, value_count, width_of}
@@ -14,7 +14,7 @@ use Rattle.acn_grammar.specs.Leaves.{num_fine, same_bits}
 use Rattle.acn_grammar.specs.Length.{ending}
 use Rattle.acn_grammar.specs.Slots.{first_of_two}
 use Rattle.acn_grammar.specs.Tree.{has_tests}
-use Rattle.acn_grammar.specs.Walk.{Use, condition, item_of, size_of, slot_of, form_uses}
+use Rattle.acn_grammar.specs.Walk.{Use, condition, item_of, size_of, slot_of, form_uses, conditions_of}
 use Rattle.acn_grammar.specs.declared.check_fault.CheckFault as program
 use Rattle.acn_grammar.specs.declared.node.NumKind.{NumKind}
 use Rattle.acn_grammar.specs.declared.node.NumKind.TheVariants.{Integer, Boolean, Enumerated}
@@ -26,6 +26,7 @@ use Rattle.acn_grammar.specs.declared.node.Test.TheVariants.{Flag, Equals}
 use Rattle.acn_grammar.specs.declared.node.ChoiceRule.{ChoiceRule}
 use Rattle.acn_grammar.specs.declared.node.ChoiceRule.TheVariants.{Tests, Item}
 use Rattle.acn_check.specs.Facts.{Facts}
+use Rattle.acn_grammar.specs.declared.limits.TheConstants.{MOST_DETERMINANT_BITS, MOST_PACKET_BITS, MOST_OPEN_SLOTS, MOST_CONDITIONS, MOST_VALUES}
 
 -- the first answer over a list whose elements are numbered from k on
 abbrev pub first_of : {A B : Type 0} → (ℕ → A → Option B) → ℕ → List A → Option B
@@ -128,7 +129,7 @@ first_wrong_kind ds k f = first_of (λ u use'. wrong_kind ds f use') 0 (uses_of 
 
 abbrev pub width_fits : Option ℕ → Bool
 width_fits None = false
-width_fits (Some w) = nat_le w 64
+width_fits (Some w) = nat_le w MOST_DETERMINANT_BITS
 
 -- the width of a component is free
 abbrev pub slot_inserted : (component : Bool) → Option ℕ → Option ℕ
@@ -240,16 +241,16 @@ mixed_at k f = mixed_in f.path f.form
 -- 9. to 12. Limits.
 
 abbrev pub long : Grammar → Option CheckFault
-long root = only_if (nat_lt 524336 (span root).greatest) (too_long (span root).greatest)
+long root = only_if (nat_lt MOST_PACKET_BITS (span root).greatest) (too_long (span root).greatest)
 
 abbrev pub much_open : ℕ → Facts → Option CheckFault
-much_open k f = only_if (nat_lt 256 f.at_home) (too_many_open f.path f.at_home)
+much_open k f = only_if (nat_lt MOST_OPEN_SLOTS f.at_home) (too_many_open f.path f.at_home)
 
 abbrev pub many_conditions : List Tally → ℕ → Facts → Option CheckFault
-many_conditions ts k f = given f.tag.slot (λ s. given (slice_get ts s) (λ t. only_if (nat_lt 64 t.equals) (too_many_conditions f.path t.equals)))
+many_conditions ts k f = given f.tag.slot (λ s. given (slice_get ts s) (λ t. only_if (nat_lt MOST_CONDITIONS t.equals) (too_many_conditions f.path t.equals)))
 
 abbrev pub many_values : Grammar → Option CheckFault
-many_values root = only_if (nat_lt 1048576 (value_count root)) (too_many_values (value_count root))
+many_values root = only_if (nat_lt MOST_VALUES (value_count root)) (too_many_values (value_count root))
 
 -- 13. Lists that are ended by a pattern.
 
@@ -290,7 +291,7 @@ ambiguous_in path _ = None
 abbrev pub ambiguous_at : ℕ → Facts → Option CheckFault
 ambiguous_at k f = ambiguous_in f.path f.form
 
--- the leads of ended lists keep their rules, and their patterns have 1 to 64 bits
+-- the leads of ended lists keep their rules, and no pattern is too long
 abbrev pub lead_fine : Option NumLeaf → Bool
 lead_fine None = true
 lead_fine (Some leaf) = num_fine leaf

@@ -7,6 +7,7 @@ use Rattle.acn_grammar.specs.Slots.{first_of_two}
 use Rattle.acn_grammar.specs.Walk.{nodes_of}
 use Rattle.acn_check.specs.Facts.{Facts, seen}
 use Rattle.acn_check.specs.First.{Det, Tally, dets, tallied, no_tallies, uses_of, first_of, given, only_if, first_behind, first_wrong_kind, no_width, overlap_at, unclear, no_use, no_item_at, mixed_at, long, much_open, many_values, ambiguous_at}
+use Rattle.acn_grammar.specs.declared.limits.TheConstants.{MOST_CONDITIONS}
 
 -- 1 to 4
 abbrev pub unreadable : List Det → List Facts → Option CheckFault
@@ -20,9 +21,9 @@ dubious ds ts l = first_of_two (first_of unclear 0 l) (first_of_two (first_of (n
 abbrev pub beyond : Grammar → List Facts → Option CheckFault → Option CheckFault
 beyond root l conditions = first_of_two (long root) (first_of_two (first_of much_open 0 l) (first_of_two conditions (first_of_two (many_values root) (first_of ambiguous_at 0 l))))
 
--- more than 64 conditions compare the slot with a number
+-- too many conditions compare the slot with a number
 abbrev pub many_equals : Grammar → ℕ → Facts → Option CheckFault
-many_equals root k f = given f.tag.slot (λ s. only_if (nat_lt 64 (equals_on root s)) (too_many_conditions f.path (equals_on root s)))
+many_equals root k f = given f.tag.slot (λ s. only_if (nat_lt MOST_CONDITIONS (equals_on root s)) (too_many_conditions f.path (equals_on root s)))
 
 -- the fault of a count that ends at the greatest number of 32 bits
 abbrev pub capped : CheckFault → CheckFault

@@ -1,6 +1,6 @@
 -- What the program's types stand for.
 use Rattle.std.specs.Prelude.{◌≡◌, ℕ, ℤ, ◌<◌, ◌≤◌, ◌^◌, ◌-◌, Bool, true, false, List, [], ◌∷◌, length, Option, Some, None}
-use Rattle.acn_grammar.specs.Check.{conditions_of, lead}
+use Rattle.acn_grammar.specs.Check.{lead}
 use Rattle.acn_grammar.specs.Grammar.{Form, choice}
 use Rattle.acn_grammar.specs.View.{OneField, a_component, an_inserted, alternatives_view}
 use Rattle.acn_grammar.specs.declared.node.Alternative.{Alternative}
@@ -9,7 +9,7 @@ use Rattle.acn_grammar.specs.declared.node.Presence.{Presence}
 use Rattle.acn_grammar.specs.declared.node.Presence.TheVariants.{Always, Bit, When}
 use Rattle.acn_grammar.specs.declared.node.Test.{Test}
 use Rattle.acn_check.specs.Facts.{Facts}
-use Rattle.acn_grammar.specs.Walk.{Use, condition, item_of, size_of}
+use Rattle.acn_grammar.specs.Walk.{Use, condition, item_of, size_of, conditions_of}
 use Rattle.acn_grammar.specs.declared.check_fault.CheckFault.{CheckFault}
 use Rattle.acn_grammar.specs.declared.check_fault.CheckFault.TheVariants.{TooManyConditions}
 use Rattle.acn_check.specs.First.{Det, Tally}
@@ -17,6 +17,7 @@ use Rattle.acn_check.specs.declared.uses.Use as uses
 use Rattle.acn_check.specs.declared.uses.Use.TheVariants as uses_variants
 use Rattle.acn_check.specs.declared.dets.Det as program
 use Rattle.acn_check.specs.declared.tallies.Tally as tallies
+use Rattle.acn_grammar.specs.declared.limits.TheConstants.{MOST_NODES}
 
 abbrev pub use_of : uses.Use → Use
 use_of (uses_variants.Condition t) = condition t
@@ -40,7 +41,7 @@ cases_of as' = conditions_of (alternatives_view as')
 
 -- the number of an alternative fits 32 bits
 abbrev pub few_in : Form → Type 0
-few_in (choice cases rule) = length (conditions_of cases) ≤ 65536
+few_in (choice cases rule) = length (conditions_of cases) ≤ MOST_NODES
 few_in _ = Unit {0}
 
 abbrev pub AreFew : Facts → Type 0

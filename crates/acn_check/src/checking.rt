@@ -22,6 +22,7 @@ use crate::overlaps::none_overlap;
 use crate::places::{all_clear, few_open};
 use crate::slots::{all_have_few, all_have_width, all_used};
 use crate::tallies::{Tally, count_uses};
+use acn_grammar::{MOST_PACKET_BITS, MOST_VALUES};
 use acn_num::{NoMemory, Path};
 use acn_packet_laws::{
     accepted_is_scoped, accepted_is_sound, bounds_hold, no_fault_without_a_first,
@@ -30,18 +31,12 @@ use acn_packet_laws::{
 use acn_tree::{CheckFault, Tree, interval, value_count};
 use std::alloc::Global;
 
-/// The greatest number of bits of a packet: 65,542 octets.
-const MOST_BITS: u64 = 524336;
-
-/// The greatest number of values of a packet.
-const MOST_VALUES: u64 = 1048576;
-
 fn is_short(tree: &Tree) -> Result<(), CheckFault>
     ensures told { Told (spec.long (grammar_of tree.now.root)) result }
     ensures exact { IfErr result IsTold }
 {
     let bits = interval(tree).greatest;
-    if bits > MOST_BITS {
+    if bits > MOST_PACKET_BITS {
         return Err(CheckFault::TooLong { bits });
     }
     Ok(())
@@ -139,16 +134,17 @@ fn find_fault(alloc: Global, tree: &Tree) -> Result<(), CheckFault>
 /// 1. `Forward`: a use of a slot whose field stands behind the user.
 /// 2. `DetKind`: a size or a condition with `==` on other than INTEGER, a flag on other than BOOLEAN, a
 ///    `determinant` on other than ENUMERATED.
-/// 3. `DetWidth`: an inserted slot whose codes don't all have one width of at most 64 bits.
+/// 3. `DetWidth`: an inserted slot whose codes don't all have one width, or one over `MOST_DETERMINANT_BITS`.
 /// 4. `Overlap`: two alternatives of a CHOICE without `determinant` that both have conditions, all of which hold
 ///    under the permitted numbers that are given.
 /// 5. `AbsentUnclear`: a component with more than one condition.
 /// 6. `Unused`: an inserted field other than NULL without a use.
 /// 7. `NoItem`: an alternative whose name no item of the determinant has.
 /// 8. `MixedChoice`: conditions on some alternatives and none on others, or conditions beside a `determinant`.
-/// 9. `TooLong`: more than 524,336 bits. 10. `TooManyOpen`: more than 256 slots at home on the path to a node,
-///    itself included. 11. `TooManyConditions`: more than 64 conditions with `==` on a slot.
-///    12. `TooManyValues`: more than 1,048,576 values in a packet.
+/// 9. `TooLong`: more than `MOST_PACKET_BITS`.
+/// 10. `TooManyOpen`: more than `MOST_OPEN_SLOTS` slots at home on the path to a node, itself included.
+/// 11. `TooManyConditions`: more than `MOST_CONDITIONS` conditions with `==` on a slot.
+/// 12. `TooManyValues`: more than `MOST_VALUES` values in a packet.
 /// 13. `TerminatorAmbiguous`: a list that is ended by a pattern, whose elements don't begin with a number in plain
 ///    bits, at least as many as the pattern has, of which no code begins with the pattern.
 ///

@@ -7,6 +7,7 @@ ghost use Rattle.acn_check.specs.Facts.{facts_of};
 ghost use Rattle.acn_check.specs.First as spec;
 ghost use Rattle.acn_check.specs.First.{Told, first_of};
 ghost use Rattle.acn_check.specs.Program.{det_of, cases_of, AreFew, FewCases};
+ghost use Rattle.acn_grammar.specs.declared.limits.TheConstants.{MOST_NODES};
 
 use crate::dets::{Det, det_of_slot};
 use crate::lines::Line;
@@ -45,7 +46,7 @@ fn each_is_item(
     path: &Path,
     alternatives: &[Alternative],
 ) -> Result<(), CheckFault>
-    requires { length alternatives.now ≤ 65536 }
+    requires { length alternatives.now ≤ MOST_NODES }
     ensures { Told (spec.first_without items.now path.now (cases_of alternatives.now)) result }
 {
     for (at, alternative) in alternatives.iter().enumerate() {

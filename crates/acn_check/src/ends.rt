@@ -14,6 +14,7 @@ ghost use Rattle.acn_check.specs.Facts.{facts_of};
 ghost use Rattle.acn_check.specs.First as spec;
 ghost use Rattle.acn_check.specs.First.{Told, first_of};
 ghost use Rattle.acn_check.specs.Program.{IsTold, field_lead as lead_of_field, is_bit as has_bit};
+ghost use Rattle.acn_grammar.specs.declared.limits.TheConstants.{MOST_PATTERN_BITS};
 
 use crate::lines::Line;
 use acn_num::RangeSet;
@@ -23,7 +24,7 @@ use acn_tree::{
 
 // The number that bits spell.
 fn number_of(bits: &[bool]) -> u64
-    requires { length bits.now ≤ 64 }
+    requires { length bits.now ≤ MOST_PATTERN_BITS }
     ensures { result ≡ number bits.now }
 {
     let mut n = 0u64;
@@ -42,7 +43,7 @@ fn half_of(bits: usize) -> u64
 
 // The number that bits spell after one more.
 fn with_one(rest: &[bool]) -> u64
-    requires { suc (length rest.now) ≤ 64 }
+    requires { suc (length rest.now) ≤ MOST_PATTERN_BITS }
     ensures { result ≡ number (true ∷ rest.now) }
 {
     let half = half_of(rest.len());
@@ -51,7 +52,7 @@ fn with_one(rest: &[bool]) -> u64
 
 // The number that bits spell with the first of them turned.
 fn turned_number(bits: &[bool]) -> u64
-    requires { length bits.now ≤ 64 }
+    requires { length bits.now ≤ MOST_PATTERN_BITS }
     ensures { result ≡ number (spec.turned bits.now) }
 {
     match bits.split_first() {
@@ -151,7 +152,7 @@ fn flag_begins(pattern: &[bool], yes: &Option<Pattern>, no: &Option<Pattern>) ->
 // The least number of so many bits in two's complement.
 fn least_of(width: u32) -> i128
     requires some { 1 ≤ width }
-    requires few { width ≤ 64 }
+    requires few { width ≤ MOST_PATTERN_BITS }
     ensures { result ≡ neg_ℤ (pos (2 ^ (width - 1))) }
 {
     -(1i128 << (width - 1))
@@ -159,7 +160,7 @@ fn least_of(width: u32) -> i128
 
 // Whether a code of the leaf begins with the pattern.
 fn can_begin(pattern: &[bool], leaf: &NumLeaf) -> bool
-    requires few { length pattern.now ≤ 64 }
+    requires few { length pattern.now ≤ MOST_PATTERN_BITS }
     requires fine { num_fine leaf.now ≡ true }
     requires plain { leaf.now.table ≡ None }
     ensures { result ≡ spec.can_begin pattern.now leaf.now }
@@ -317,7 +318,7 @@ fn field_lead<'t>(field: &'t Field, bits: usize) -> Option<&'t NumLeaf>
 
 // Whether the pattern can't be told from the first bits of an element.
 fn is_ambiguous(pattern: &[bool], element: &Node) -> bool
-    requires few { length pattern.now ≤ 64 }
+    requires few { length pattern.now ≤ MOST_PATTERN_BITS }
     requires fine { spec.lead_fine (lead (length pattern.now) (grammar_of element.now)) ≡ true }
     ensures { result ≡ spec.not_told pattern.now (lead (length pattern.now) (grammar_of element.now)) }
 {

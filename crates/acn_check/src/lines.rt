@@ -4,6 +4,7 @@ ghost use Rattle.acn_grammar.specs.View.{grammar_of, form_of, field_of, alternat
 ghost use Rattle.acn_grammar.specs.Walk.{presence_tests};
 ghost use Rattle.acn_check.specs.Facts as spec;
 ghost use Rattle.acn_check.specs.Facts.{facts, form_facts, field_facts, alternative_facts, one_field, one_alternative, Fit, facts_of};
+ghost use Rattle.acn_num.specs.declared.limits.TheConstants.{MOST_STEPS};
 
 use acn_num::{NoMemory, Path};
 use acn_tree::{Alternative, Body, Field, Node, Presence, Test};
@@ -38,7 +39,7 @@ fn home_len(body: &Body) -> usize
 
 // The path with one step more.
 fn inner(path: &Path, step: u32) -> Path
-    requires { length path.now < 64 }
+    requires { length path.now < MOST_STEPS }
     ensures { result ≡ path.now ++ step ∷ [] }
 {
     let mut longer = path.copy();

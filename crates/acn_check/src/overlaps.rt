@@ -9,6 +9,7 @@ ghost use Rattle.acn_check.specs.Facts.{facts_of};
 ghost use Rattle.acn_check.specs.First as spec;
 ghost use Rattle.acn_check.specs.First.{Told, first_of};
 ghost use Rattle.acn_check.specs.Program.{det_of, cases_of, AreFew, FewCases, IsPut};
+ghost use Rattle.acn_grammar.specs.declared.limits.TheConstants.{MOST_NODES};
 
 use crate::dets::{Det, det_of_slot};
 use crate::lines::Line;
@@ -199,7 +200,7 @@ fn apart_from(
     one: Case,
     others: &[Alternative],
 ) -> Result<(), CheckFault>
-    requires { one.at + 1 + length others.now ≤ 65536 }
+    requires { one.at + 1 + length others.now ≤ MOST_NODES }
     ensures { Told (spec.against (map det_of dets.now) path.now one.entry.at one.entry.tests.now (one.entry.at + 1) (cases_of others.now)) result }
 {
     for (place, alternative) in others.iter().enumerate() {
@@ -226,7 +227,7 @@ fn all_apart(
     path: &Path,
     alternatives: &[Alternative],
 ) -> Result<(), CheckFault>
-    requires { length alternatives.now ≤ 65536 }
+    requires { length alternatives.now ≤ MOST_NODES }
     ensures { Told (spec.pairs (map det_of dets.now) path.now 0 (cases_of alternatives.now)) result }
 {
     for (at, alternative) in alternatives.iter().enumerate() {

@@ -6,10 +6,8 @@ ghost use Rattle.acn_check.specs.First.{Told, first_of};
 ghost use Rattle.acn_check.specs.Program.{IsTold};
 
 use crate::lines::Line;
+use acn_grammar::MOST_OPEN_SLOTS;
 use acn_tree::CheckFault;
-
-/// The greatest number of slots that may be at home on the path to a node.
-const MOST_OPEN: usize = 256;
 
 fn line_is_clear(line: &Line) -> Result<(), CheckFault>
     ensures { Told (spec.unclear 0 (facts_of line.now)) result }
@@ -37,7 +35,7 @@ fn line_has_few_open(line: &Line) -> Result<(), CheckFault>
     ensures told { Told (spec.much_open 0 (facts_of line.now)) result }
     ensures exact { IfErr result IsTold }
 {
-    if line.at_home > MOST_OPEN {
+    if line.at_home > MOST_OPEN_SLOTS {
         return Err(CheckFault::TooManyOpen {
             at: line.path.copy(),
             count: line.at_home as u32,
@@ -46,7 +44,7 @@ fn line_has_few_open(line: &Line) -> Result<(), CheckFault>
     Ok(())
 }
 
-/// Refuses the first node on whose path more than 256 slots are at home.
+/// Refuses the first node on whose path more than `MOST_OPEN_SLOTS` slots are at home.
 pub fn few_open(lines: &[Line]) -> Result<(), CheckFault>
     requires { Fit (map facts_of lines.now) }
     ensures told { Told (first_of spec.much_open 0 (map facts_of lines.now)) result }

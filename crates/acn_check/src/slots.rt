@@ -11,13 +11,8 @@ ghost use Rattle.acn_check.specs.Program.{det_of, tally_of, IsTold};
 use crate::dets::{Det, det_of_slot};
 use crate::lines::Line;
 use crate::tallies::Tally;
+use acn_grammar::{MOST_CONDITIONS, MOST_DETERMINANT_BITS};
 use acn_tree::{CheckFault, NumLeaf, width};
-
-/// The greatest width of a determinant, in bits.
-const MOST_BITS: u32 = 64;
-
-/// The greatest number of conditions that compare one slot with a number.
-const MOST_CONDITIONS: u32 = 64;
 
 fn has_width(leaf: &NumLeaf) -> bool
     requires { num_fine leaf.now ≡ true }
@@ -25,7 +20,7 @@ fn has_width(leaf: &NumLeaf) -> bool
 {
     match width(leaf) {
         None => false,
-        Some(bits) => bits <= MOST_BITS,
+        Some(bits) => bits <= MOST_DETERMINANT_BITS,
     }
 }
 
@@ -55,7 +50,8 @@ fn line_has_width(line: &Line, dets: &[Det]) -> Result<(), CheckFault>
     Ok(())
 }
 
-/// Refuses the first inserted slot whose codes don't all have one width of at most 64 bits.
+/// Refuses the first inserted slot whose codes don't all have one width of at most
+/// `MOST_DETERMINANT_BITS`.
 pub fn all_have_width(lines: &[Line], dets: &[Det]) -> Result<(), CheckFault>
     requires { list_all (λ d. num_fine d.leaf) (map det_of dets.now) ≡ true }
     ensures { Told (first_of (spec.no_width (map det_of dets.now)) 0 (map facts_of lines.now)) result }
@@ -110,7 +106,7 @@ fn line_has_few(line: &Line, tallies: &[Tally]) -> Result<(), CheckFault>
     }
 }
 
-/// Refuses the first slot that more than 64 conditions compare with a number. A count that needs more than
+/// Refuses the first slot that more than `MOST_CONDITIONS` conditions compare with a number. A count that needs more than
 /// 32 bits can't be told: so many conditions are answered as want of memory.
 pub fn all_have_few(lines: &[Line], tallies: &[Tally]) -> Result<(), CheckFault>
     ensures told { Told (first_of (spec.many_conditions (map tally_of tallies.now)) 0 (map facts_of lines.now)) result }

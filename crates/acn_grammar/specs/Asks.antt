@@ -1,4 +1,5 @@
--- What a value asks of the numbers of slots, in the order of the walk.
+-- What a value asks of the numbers of slots, in the order of the walk. Conditions, sizes and determinants are ACN's
+-- (`present-when`, `size`, `determinant`); which number each asks is this profile's own.
 use Rattle.std.specs.Prelude.{ℕ, zero, suc, ℤ, pos, Bool, true, false, List, [], ◌∷◌, ◌++◌, length, map, nat_eq, ◌&&◌, if◌then◌else◌, Option, Some, None, option_map, unwrap_or}
 use Rattle.acn_num.specs.Bits.{octets as octets_for}
 use Rattle.acn_grammar.specs.Grammar.{Grammar, Form, Fields, Alternatives, Data, Places, Elements, node, octets, bits, text, seq, list, choice, contained, no_fields, component, inserted, no_alternatives, alternative, octet_string, bit_string, characters, record_of, list_of, alt, empty, filled, no_elements, element, element_count}

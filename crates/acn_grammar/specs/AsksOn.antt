@@ -1,4 +1,5 @@
 -- What a value asks of one slot: the asks of a node's parts in the order of the walk, and the numbers that meet them.
+-- That the least of these is written is this profile's own.
 use Rattle.std.specs.Prelude.{◌≡◌, ◌≢◌, ℕ, zero, suc, ℤ, pos, ◌≤ℤ◌, Bool, true, false, List, [], ◌∷◌, ◌++◌, length, nat_eq, if◌then◌else◌, Option, Some, None}
 use Rattle.std.specs.List.{AllByRecursion, flat_map}
 use Rattle.acn_num.specs.Bits.{octets as octets_for}

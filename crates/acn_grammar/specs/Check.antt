@@ -1,4 +1,5 @@
--- What keeps a grammar from being decoded, with its evidence.
+-- What keeps a grammar from being decoded, with its evidence, and which fault comes first. (This profile's own; X.680 and
+-- X.691 have no determinants outside a type's own code.)
 use Rattle.std.specs.Prelude.{◌≡◌, ℕ, ◌+◌, ◌<◌, ◌≤◌, ℤ, Bool, true, false, not, ◌&&◌, nat_le, if◌then◌else◌, List, [], ◌∷◌, ◌++◌, length, map, take, Option, Some, None, slice_get, nat_eq, ◌⊎◌, count_by, Contains}
 use Rattle.std.specs.List.{AllByRecursion, flat_map}
 use Rattle.acn_num.specs.Ranges.{In}
@@ -9,7 +10,7 @@ use Rattle.acn_grammar.specs.Fails.{presence_count}
 use Rattle.acn_grammar.specs.Interval.{span, value_count}
 use Rattle.acn_grammar.specs.Length.{flag_width, ending}
 use Rattle.acn_grammar.specs.Slots.{slot_leaf, domain_of, items_of}
-use Rattle.acn_grammar.specs.Walk.{Stand, Role, a_component, Use, condition, item_of, size_of, nodes_of, uses, slot_of, slot_here, inserted_slot, presence_tests}
+use Rattle.acn_grammar.specs.Walk.{Stand, Role, a_component, Use, condition, item_of, size_of, nodes_of, uses, slot_of, slot_here, inserted_slot, presence_tests, conditions_of}
 use Rattle.acn_grammar.specs.declared.node.NumKind.{NumKind}
 use Rattle.acn_grammar.specs.declared.node.NumKind.TheVariants.{Integer, Boolean, Enumerated}
 use Rattle.acn_grammar.specs.declared.node.NumLeaf.{NumLeaf}
@@ -22,6 +23,7 @@ use Rattle.acn_grammar.specs.declared.node.Test.{Test}
 use Rattle.acn_grammar.specs.declared.node.Test.TheVariants.{Flag, Equals}
 use Rattle.acn_grammar.specs.declared.node.ChoiceRule.{ChoiceRule}
 use Rattle.acn_grammar.specs.declared.node.ChoiceRule.TheVariants.{Tests, Item}
+use Rattle.acn_grammar.specs.declared.limits.TheConstants.{MOST_DETERMINANT_BITS, MOST_PACKET_BITS, MOST_OPEN_SLOTS, MOST_CONDITIONS, MOST_VALUES}
 
 pub data CheckFault : Type 0 where
   forward : (user det : List ℕ) → CheckFault
@@ -64,10 +66,6 @@ AsksFor _ _ = ⊥
 -- all codes of the leaf have this length
 abbrev pub HasWidth : NumLeaf → ℕ → Type 0
 HasWidth leaf w = (x : ℤ) (bs : List Bool) → Code Any leaf x bs → length bs ≡ w
-
-abbrev pub conditions_of : Alternatives → List (List ℕ × List Test)
-conditions_of no_alternatives = []
-conditions_of (alternative name g ts more) = (name, ts) ∷ conditions_of more
 
 abbrev pub test_slot : Test → ℕ
 test_slot (Flag s) = s
@@ -184,7 +182,7 @@ module _ (root : Grammar) where
   abbrev pub Evidence : CheckFault → (k u : ℕ) → Type 0
   Evidence (forward user det) k u = (use' : Use) × (j : ℕ) × UseOf k u user det use' j × (k < j)
   Evidence (det_kind user det) k u = (use' : Use) × (j : ℕ) × (leaf : NumLeaf) × UseOf k u user det use' j × (slot_leaf root (slot_of use') ≡ Some leaf) × (AsksFor use' leaf.kind → ⊥)
-  Evidence (det_width det) k u = (at : Stand) × (s : ℕ) × (leaf : NumLeaf) × NodeAt k at × (at.path ≡ det) × (inserted_slot at.role ≡ Some s) × (slot_leaf root s ≡ Some leaf) × (((w : ℕ) × HasWidth leaf w × (w ≤ 64)) → ⊥)
+  Evidence (det_width det) k u = (at : Stand) × (s : ℕ) × (leaf : NumLeaf) × NodeAt k at × (at.path ≡ det) × (inserted_slot at.role ≡ Some s) × (slot_leaf root s ≡ Some leaf) × (((w : ℕ) × HasWidth leaf w × (w ≤ MOST_DETERMINANT_BITS)) → ⊥)
   Evidence (overlap path i j values) k u = (cases : Alternatives) × ChoiceAt k path cases Tests × Overlaps cases i j values
   Evidence (absent_unclear path) k u = (at : Stand) × NodeAt k at × (at.path ≡ path) × MoreThanOne at.role
     where
@@ -195,10 +193,10 @@ module _ (root : Grammar) where
   Evidence (no_item path i) k u = (cases : Alternatives) × (s : ℕ) × (name : List ℕ) × (ts : List Test) × ChoiceAt k path cases (Item s) × (slice_get (conditions_of cases) i ≡ Some (name, ts)) × (Contains (map (λ e. e.0) (items_of root s)) name → ⊥)
   Evidence (mixed_choice path) k u = (cases : Alternatives) × (rule : ChoiceRule) × ChoiceAt k path cases rule × (i : ℕ) × (one : List ℕ × List Test) × (slice_get (conditions_of cases) i ≡ Some one) × (0 < length one.1)
       × (((s : ℕ) × (rule ≡ Item s)) ⊎ ((j : ℕ) × (other : List ℕ × List Test) × (slice_get (conditions_of cases) j ≡ Some other) × (other.1 ≡ [])))
-  Evidence (too_long n) k u = (k ≡ 0) × (n ≡ (span root).greatest) × (524336 < n)
-  Evidence (too_many_open path n) k u = (at : Stand) × NodeAt k at × (at.path ≡ path) × (n ≡ open_at at) × (256 < n)
-  Evidence (too_many_conditions det n) k u = (at : Stand) × (s : ℕ) × NodeAt k at × (at.path ≡ det) × (slot_here at.role ≡ Some s) × (n ≡ equals_on s) × (64 < n)
-  Evidence (too_many_values n) k u = (k ≡ 0) × (n ≡ value_count root) × (1048576 < n)
+  Evidence (too_long n) k u = (k ≡ 0) × (n ≡ (span root).greatest) × (MOST_PACKET_BITS < n)
+  Evidence (too_many_open path n) k u = (at : Stand) × NodeAt k at × (at.path ≡ path) × (n ≡ open_at at) × (MOST_OPEN_SLOTS < n)
+  Evidence (too_many_conditions det n) k u = (at : Stand) × (s : ℕ) × NodeAt k at × (at.path ≡ det) × (slot_here at.role ≡ Some s) × (n ≡ equals_on s) × (MOST_CONDITIONS < n)
+  Evidence (too_many_values n) k u = (k ≡ 0) × (n ≡ value_count root) × (MOST_VALUES < n)
   Evidence (terminator_ambiguous path) k u = (at : Stand) × NodeAt k at × (at.path ≡ path) × ListAmbiguous at.form
 
   abbrev pub Undecodable : CheckFault → Type 0

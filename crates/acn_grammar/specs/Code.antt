@@ -1,4 +1,5 @@
--- The codes of number leaves.
+-- The codes of number leaves, a line a coding. Range, the counted ones and a BOOLEAN's or NULL's without a pattern are those
+-- of X.691, unaligned (11.5, 11.7, 11.8, clauses 12, 14 and 18); the others are ACN's, as this profile has them.
 use Rattle.std.specs.Prelude.{◌≡◌, ◌≢◌, ℕ, suc, ◌+◌, ◌*◌, ◌^◌, ◌<◌, ◌≤◌, ℤ, pos, negsuc, ◌+ℤ◌, ◌-ℤ◌, Bool, true, false, not, List, [], ◌∷◌, ◌++◌, length, map, reverse, Option, Some, None, slice_get, ◌⊎◌, ◌&&◌, int_le, if◌then◌else◌, option_map}
 use Rattle.std.specs.List.{AllByRecursion, flat_map}
 use Rattle.acn_num.specs.Bits.{number, signed_number, low_bits, bits, IsNumber, IsSigned}

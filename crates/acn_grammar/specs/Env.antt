@@ -1,4 +1,4 @@
--- Numbers of slots, and the conditions on them.
+-- Numbers of slots, and which conditions hold under them. (`present-when` of ACN.)
 use Rattle.std.specs.Prelude.{◌≡◌, ℕ, ℤ, pos, List, [], ◌∷◌, Option, Some, None, nat_eq, if◌then◌else◌}
 use Rattle.acn_grammar.specs.declared.node.Presence.{Presence}
 use Rattle.acn_grammar.specs.declared.node.Presence.TheVariants.{Always, Bit, When}

@@ -1,4 +1,5 @@
--- Where and why a packet can't be read, beside the grammar of what can.
+-- Where and why a packet can't be read, case by case beside the grammar of what can (Spell). Reasons and their order are
+-- this profile's own.
 use Rattle.std.specs.Prelude.{◌≡◌, ◌≢◌, ℕ, zero, suc, ◌+◌, ◌*◌, max, ◌<◌, ◌≤◌, ℤ, pos, negsuc, Bool, true, false, List, [], ◌∷◌, ◌++◌, length, take, drop, Option, Some, None, ◌⊎◌}
 use Rattle.std.specs.List.{AllByRecursion, zip, find, range_with_len}
 use Rattle.acn_num.specs.Bits.{number}

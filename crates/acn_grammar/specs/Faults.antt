@@ -1,4 +1,5 @@
--- What the answers of the calls say: each kind of answer as the data that its definition speaks of.
+-- What the answers of the calls say: each kind of answer as the data that its definition speaks of. (It maps names to names,
+-- and defines nothing of packets.)
 use Rattle.std.specs.Prelude.{Option, Some, None, option_map}
 use Rattle.acn_grammar.specs.Asks as asks
 use Rattle.acn_grammar.specs.Check as check

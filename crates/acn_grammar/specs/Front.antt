@@ -1,4 +1,4 @@
--- Spellings of whole packets.
+-- Spellings of whole packets, as they are written and as they stand at the front of an input. (This profile's own.)
 use Rattle.std.specs.Prelude.{ℕ, ◌≤◌, Bool, List, [], length, take}
 use Rattle.acn_grammar.specs.Grammar.{Grammar, Data}
 use Rattle.acn_grammar.specs.Code.{Written, Any}

@@ -1,4 +1,5 @@
--- A node and a value as plain data, with no memory behind them.
+-- A node and a value as plain data, with no memory behind them. The forms are the types of X.680 and the contained octets of
+-- X.682 clause 11; what the fields mean stands at `Node` and `Value` in src/.
 use Rattle.std.specs.Prelude.{ℕ, zero, suc, ℤ, Bool, List, Option}
 use Rattle.acn_grammar.specs.declared.node.NumLeaf.{NumLeaf}
 use Rattle.acn_grammar.specs.declared.node.TextLeaf.{TextLeaf}

@@ -1,4 +1,5 @@
--- The numbers that a leaf writes for its permitted ones, as ranges in no order.
+-- The numbers that a leaf writes for its permitted ones, as ranges in no order: their images under its table
+-- (`mapping-function` of ACN, as this profile has it).
 use Rattle.std.specs.Prelude.{ℤ, ◌+ℤ◌, ◌-ℤ◌, int_le, List, [], ◌∷◌, map, Option, Some, None, if◌then◌else◌}
 use Rattle.std.specs.Int.{int_min, int_max}
 use Rattle.std.specs.List.{flat_map}

@@ -1,4 +1,4 @@
--- The least and the greatest number of bits of a node.
+-- The least and the greatest number of bits of a node, and the greatest number of values of a packet. (This profile's own.)
 use Rattle.std.specs.Prelude.{ℕ, ◌+◌, ◌-◌, ◌*◌, ◌/◌, ◌^◌, ℤ, pos, negsuc, min, max, nat_eq, int_lt, if◌then◌else◌, Bool, List, [], ◌∷◌, length, Option, Some, None}
 use Rattle.acn_num.specs.Ranges.{least, greatest}
 use Rattle.acn_grammar.specs.Grammar.{Grammar, Form, Fields, Alternatives, node, num, octets, bits, text, seq, list, choice, contained, no_fields, component, inserted, no_alternatives, alternative}
@@ -13,6 +13,7 @@ use Rattle.acn_grammar.specs.declared.node.Presence.{Presence}
 use Rattle.acn_grammar.specs.declared.node.Presence.TheVariants.{Always, Bit, When}
 use Rattle.acn_grammar.specs.declared.node.NumCoding.{NumCoding}
 use Rattle.acn_grammar.specs.declared.node.NumCoding.TheVariants.{Range, CountedFrom, CountedSigned, PosInt, Twos, Bcd, BcdEnded, Ascii, AsciiEnded, Flag, Fixed}
+use Rattle.acn_num.specs.declared.limits.TheConstants.{MOST_SIZE}
 
 -- every sum and product is held down to this
 abbrev pub held : ℕ → ℕ
@@ -42,7 +43,7 @@ in_octets b = record { least = held (8 * ((b.least + 7) / 8)); greatest = held (
 
 abbrev pub size_of : Option ℤ → ℕ
 size_of None = 0
-size_of (Some (pos n)) = min n 65536
+size_of (Some (pos n)) = min n MOST_SIZE
 size_of (Some (negsuc n)) = 0
 
 abbrev pub sizes_of : List (ℤ × ℤ) → Bounds

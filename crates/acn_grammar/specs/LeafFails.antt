@@ -1,4 +1,4 @@
--- Why a number leaf can't be read: the first reason that holds.
+-- Why a number leaf can't be read: the first reason that holds, coding by coding. (This profile's own.)
 use Rattle.std.specs.Prelude.{◌≡◌, ℕ, ◌+◌, ◌-◌, ◌*◌, ◌<◌, ◌≤◌, ℤ, pos, neg_ℤ, ◌+ℤ◌, Bool, true, false, List, [], ◌∷◌, ◌++◌, length, map, take, drop, Some, None, ◌⊎◌, nat_abs, max}
 use Rattle.std.specs.List.{AllByRecursion}
 use Rattle.acn_num.specs.Bits.{number, signed_number, low_bits}

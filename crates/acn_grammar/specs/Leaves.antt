@@ -1,4 +1,5 @@
--- Which leaves are well formed, each by itself.
+-- Which leaves are well formed, each by itself: the sets are those that X.680 leaves a type (clauses 18 to 24, 41, 51); which
+-- codings, widths, patterns and tables go with them is this profile's own.
 use Rattle.std.specs.Prelude.{ℕ, ◌-◌, ◌/◌, ◌%◌, ◌^◌, nat_eq, nat_lt, nat_le, ℤ, pos, neg_ℤ, ◌+ℤ◌, ◌-ℤ◌, int_le, int_lt, Bool, true, false, not, ◌&&◌, ◌||◌, List, [], ◌∷◌, length, Option, Some, None}
 use Rattle.std.specs.List.{list_all, list_any}
 use Rattle.std.specs.Ordering.{int_eq}
@@ -19,6 +20,8 @@ use Rattle.acn_grammar.specs.declared.node.TextLeaf.{TextLeaf}
 use Rattle.acn_grammar.specs.declared.node.Sizing.{Sizing}
 use Rattle.acn_grammar.specs.declared.node.SizeRule.{SizeRule}
 use Rattle.acn_grammar.specs.declared.node.SizeRule.TheVariants.{Prefix, Slot, Ended}
+use Rattle.acn_grammar.specs.declared.limits.TheConstants.{MOST_PATTERN_BITS, MOST_INTEGER_BITS}
+use Rattle.acn_num.specs.declared.limits.TheConstants.{MOST_SIZE}
 
 -- Small tests.
 
@@ -65,7 +68,7 @@ has_size (AsciiEnded end signed) = true
 has_size _ = false
 
 abbrev pub is_pattern : List Bool → Bool
-is_pattern p = from_to 1 64 (length p)
+is_pattern p = from_to 1 MOST_PATTERN_BITS (length p)
 
 -- 1 to 8 whole octets
 abbrev pub is_terminator : List Bool → Bool
@@ -90,8 +93,8 @@ flag_patterns_fine (Some p) (Some q) = is_pattern p && (nat_eq (length p) (lengt
 
 -- widths and patterns
 abbrev pub coding_fine : NumCoding → Bool
-coding_fine (PosInt n) = from_to 1 64 n
-coding_fine (Twos n) = from_to 1 64 n
+coding_fine (PosInt n) = from_to 1 MOST_INTEGER_BITS n
+coding_fine (Twos n) = from_to 1 MOST_INTEGER_BITS n
 coding_fine (Bcd n) = from_to 4 76 n && nat_eq (n % 4) 0
 coding_fine (Ascii n false) = from_to 8 152 n && nat_eq (n % 8) 0
 coding_fine (Ascii n true) = from_to 16 152 n && nat_eq (n % 8) 0
@@ -207,7 +210,7 @@ num_fine leaf = list_all (λ b. b) (num_rules leaf)
 -- Sizes and texts.
 
 abbrev pub sizes_fine : List (ℤ × ℤ) → Bool
-sizes_fine sizes = nat_lt 0 (length sizes) && (are_ranges sizes && all_within (pos 0) (pos 65536) sizes)
+sizes_fine sizes = nat_lt 0 (length sizes) && (are_ranges sizes && all_within (pos 0) (pos MOST_SIZE) sizes)
 
 -- the size in front is a range over the sizes
 abbrev pub prefix_fine : (low width : ℕ) → Option ℤ → Option ℤ → Bool

@@ -1,4 +1,4 @@
--- The number of bits of a value.
+-- The number of bits of a value at a position: what X.691's and ACN's codes (Code, Spell) come to, in numbers alone.
 use Rattle.std.specs.Prelude.{ℕ, zero, suc, ◌+◌, ◌-◌, ◌*◌, ◌%◌, ◌^◌, ℤ, pos, nat_abs, Bool, true, false, List, [], ◌∷◌, length, Option, Some, None, unwrap_or, count_by, nat_le, int_le, int_lt, ◌&&◌, not, neg_ℤ, ◌-ℤ◌}
 use Rattle.std.specs.List.{range_with_len}
 use Rattle.acn_num.specs.Bits.{octets as octets_for}

@@ -9,6 +9,7 @@ pub mod Front
 pub mod Grammar
 pub mod Images
 pub mod Interval
+pub mod ItemsNamed
 pub mod LeafFails
 pub mod Leaves
 pub mod Length

@@ -1,4 +1,5 @@
--- Which values meet the constraints, and the first place where one doesn't.
+-- Which values meet the constraints of X.680 (value ranges, SIZE, FROM: 51.4, 51.5, 51.7), and the first place in preorder
+-- where one doesn't. That a terminator may not stand inside a text is this profile's own.
 use Rattle.std.specs.Prelude.{◌≡◌, ℕ, zero, suc, ℤ, pos, Bool, true, false, not, List, [], ◌∷◌, ◌++◌, length, map, take, drop, Option, Some, None, position}
 use Rattle.std.specs.List.{range_with_len, find}
 use Rattle.acn_num.specs.Ranges.{has}

@@ -1,7 +1,8 @@
--- Patterns of bits. The limit of 64 bits is this profile's own.
+-- Patterns of bits, which ACN gives as attributes. The limit is this profile's own.
 use Rattle.std.specs.Prelude.{◌<◌, ◌≤◌, List, Bool, length}
+use Rattle.acn_grammar.specs.declared.limits.TheConstants.{MOST_PATTERN_BITS}
 
--- 1 to 64 bits
+-- at least one bit, and no more than the limit
 pub record HasPatternLength (bits : List Bool) : Type 0 where
   pub some : 0 < length bits
-  pub short : length bits ≤ 64
+  pub short : length bits ≤ MOST_PATTERN_BITS

@@ -1,4 +1,4 @@
--- The reasons that a reader of leaves answers.
+-- The reasons that a reader of leaves answers, as those of LeafFails. (It maps names to names.)
 use Rattle.acn_grammar.specs.LeafFails.{Reason, short, out_of_range, not_minimal, bad_digit, bad_character, bad_pattern, too_long, size_out_of_range}
 use Rattle.acn_grammar.specs.declared.read_fault.ReadFault.{ReadFault}
 use Rattle.acn_grammar.specs.declared.read_fault.ReadFault.TheVariants.{Short, OutOfRange, NotMinimal, BadDigit, BadCharacter, BadPattern, TooLong, SizeOutOfRange}

@@ -1,4 +1,4 @@
--- Which values have no spelling, and why: the first thing in the order of the walk that can't be met.
+-- Which values have no spelling, and why: the first thing in the order of the walk that can't be met. (This profile's own.)
 use Rattle.std.specs.Prelude.{◌≡◌, ℕ, ℤ, pos, List, [], ◌∷◌, ◌++◌, Option, Some, None, if◌then◌else◌}
 use Rattle.std.specs.List.{flat_map}
 use Rattle.acn_num.specs.Ranges.{In}

@@ -1,4 +1,5 @@
--- What the layers above need of an accepted grammar: every leaf keeps its rules, every use names a slot whose field stands before it, and no permitted numbers choose two alternatives.
+-- What laws about spellings need of an accepted grammar: every leaf keeps its rules, every use names a slot whose field stands
+-- before it, and no permitted numbers choose two alternatives. (This profile's own; Sound says it with more, for the layers above.)
 use Rattle.std.specs.Prelude.{◌≡◌, ℕ, zero, suc, ◌<◌, ℤ, Bool, true, false, not, ◌&&◌, ◌||◌, nat_eq, List, [], ◌∷◌, length, Option, Some, None, IsTrue}
 use Rattle.std.specs.List.{AllByRecursion}
 use Rattle.acn_num.specs.Ranges.{In}

@@ -1,4 +1,4 @@
--- Which values have the form of a node.
+-- Which values have the form of a node, that of its type in X.680 (clauses 18 to 29, 41), constraints apart.
 use Rattle.std.specs.Prelude.{ℕ, zero, suc, nat_lt, List, [], ◌∷◌, length, Bool, true, false, ◌&&◌, IsTrue}
 use Rattle.acn_grammar.specs.Grammar.{Grammar, Form, Fields, Alternatives, Data, Places, Elements, node, num, octets, bits, text, seq, list, choice, contained, no_fields, component, inserted, no_alternatives, alternative, int, boolean, item, null, octet_string, bit_string, characters, record_of, list_of, alt, no_places, empty, filled, no_elements, element}
 use Rattle.acn_grammar.specs.declared.node.NumKind.{NumKind}

@@ -1,4 +1,4 @@
--- The leaf of a slot: that of an inserted field, or of a component whose number is the slot's.
+-- The leaf of a slot: that of an inserted field, or of a component whose number is the slot's. (This profile's own.)
 use Rattle.std.specs.Prelude.{ℕ, ℤ, List, [], Option, Some, None, option_map, unwrap_or, nat_eq, if◌then◌else◌}
 use Rattle.acn_grammar.specs.Grammar.{Grammar, Form, Fields, Alternatives, node, num, seq, list, choice, contained, no_fields, component, inserted, no_alternatives, alternative}
 use Rattle.acn_grammar.specs.declared.node.NumLeaf.{NumLeaf}

@@ -1,6 +1,8 @@
--- What an accepted tree keeps at each of its nodes: all that a reader, a writer or a compiled plan needs of it, by recursion. (This profile's own.)
+-- What an accepted tree keeps at each of its nodes: all that a reader, a writer or a compiled plan needs of it, by recursion.
+-- (This profile's own.)
 use Rattle.std.specs.Prelude.{◌≡◌, ℕ, zero, suc, ◌+◌, ◌≤◌, true, List, ◌++◌, length, map, Contains, Option, Some, None, IsTrue}
-use Rattle.acn_grammar.specs.Check.{HasWidth, conditions_of}
+use Rattle.acn_grammar.specs.Check.{HasWidth}
+use Rattle.acn_grammar.specs.Walk.{conditions_of}
 use Rattle.acn_grammar.specs.Grammar.{Grammar, Form, Fields, Alternatives, node, num, octets, bits, text, seq, list, choice, contained, no_fields, component, inserted, no_alternatives, alternative}
 use Rattle.acn_grammar.specs.Leaves.{num_fine, text_fine, sizing_fine, list_fine}
 use Rattle.acn_grammar.specs.Length.{ending}
@@ -11,6 +13,8 @@ use Rattle.acn_grammar.specs.declared.node.Presence.{Presence}
 use Rattle.acn_grammar.specs.declared.node.Presence.TheVariants.{Always, Bit, When}
 use Rattle.acn_grammar.specs.declared.node.ChoiceRule.{ChoiceRule}
 use Rattle.acn_grammar.specs.declared.node.ChoiceRule.TheVariants.{Index, Tests, Item}
+use Rattle.acn_grammar.specs.declared.limits.TheConstants.{MOST_DETERMINANT_BITS, MOST_NODES, MOST_OPEN_SLOTS}
+use Rattle.acn_num.specs.declared.limits.TheConstants.{MOST_STEPS}
 
 abbrev pub field_count : Fields → ℕ
 field_count no_fields = zero
@@ -33,9 +37,9 @@ NothingLeavesIt Always ks g = Unit {0}
 NothingLeavesIt Bit ks g = NothingLeaves ks g
 NothingLeavesIt (When ts) ks g = NothingLeaves ks g
 
--- all codes of the number have one length of at most 64 bits
+-- all codes of the number have one length, that of a determinant at most
 abbrev pub OneWidth : Grammar → Type 0
-OneWidth (node align (num leaf)) = (w : ℕ) × HasWidth leaf w × (w ≤ 64)
+OneWidth (node align (num leaf)) = (w : ℕ) × HasWidth leaf w × (w ≤ MOST_DETERMINANT_BITS)
 OneWidth _ = ⊥
 
 module _ (root : Grammar) where
@@ -58,14 +62,14 @@ module _ (root : Grammar) where
   -- A node at a path of k steps, round which the slots of a list are at home, and some of them known.
   abbrev mutual
     pub Sound : (k : ℕ) → (around : List ℕ) → Known → Grammar → Type 0
-    Sound k around ks (node align form) = IsTrue (is_align align) × (k ≤ 64) × FormSound k around ks form
+    Sound k around ks (node align form) = IsTrue (is_align align) × (k ≤ MOST_STEPS) × FormSound k around ks form
 
     pub FormSound : (k : ℕ) → (around : List ℕ) → Known → Form → Type 0
     FormSound k around ks (num leaf) = IsTrue (num_fine leaf)
     FormSound k around ks (octets sizing) = IsTrue (sizing_fine sizing) × RuleIn ks sizing.rule
     FormSound k around ks (bits sizing) = IsTrue (sizing_fine sizing) × RuleIn ks sizing.rule
     FormSound k around ks (text leaf) = IsTrue (text_fine leaf) × RuleIn ks leaf.sized.rule
-    FormSound k around ks (seq fields home) = (field_count fields ≤ 65536) × (length home + length around ≤ 256) × Apart ks home × FieldsSound (suc k) (home ++ around) ks fields
+    FormSound k around ks (seq fields home) = (field_count fields ≤ MOST_NODES) × (length home + length around ≤ MOST_OPEN_SLOTS) × Apart ks home × FieldsSound (suc k) (home ++ around) ks fields
     FormSound k around ks (list sizing g) = IsTrue (list_fine sizing) × RuleIn ks sizing.rule × EndTold (ending sizing.rule) sizing.sizes g × NothingLeaves ks g × Sound (suc k) around ks g
     FormSound k around ks (choice cases rule) = IsTrue (choice_fine (conditions_of cases) rule) × RuleSound ks cases rule × AlternativesSound (suc k) around ks cases
     FormSound k around ks (contained sizing g) = IsTrue (sizing_fine sizing) × RuleIn ks sizing.rule × NothingLeaves ks g × Sound (suc k) around ks g

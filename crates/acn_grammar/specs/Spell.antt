@@ -1,4 +1,5 @@
--- Which bits spell a value of a node.
+-- Which bits spell a value of a node: the order of the parts is that of X.691, unaligned (clauses 16 to 23, and 30 for
+-- characters), with ACN's alignment, inserted fields, conditions and determinants, as this profile has them.
 use Rattle.std.specs.Prelude.{◌≡◌, ℕ, zero, suc, ◌+◌, ◌-◌, ◌*◌, ◌%◌, ◌<◌, ◌≤◌, ℤ, pos, ◌-ℤ◌, int_le, nat_abs, Bool, false, List, [], ◌∷◌, ◌++◌, length, map, take, drop, Option, Some, None, if◌then◌else◌, replicate, slice_get, IsTrue}
 use Rattle.std.specs.List.{AllByRecursion, zip}
 use Rattle.acn_num.specs.Bits.{number, bits as bits_of, IsNumber}

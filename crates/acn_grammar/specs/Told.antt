@@ -1,4 +1,4 @@
--- Nothing of a value or a node is lost in the plain data that contracts speak of.
+-- Nothing of a value or a node is lost in the plain data that contracts speak of. (Of this program, not of a standard.)
 use Rattle.std.specs.Prelude.{◌≡◌}
 use Rattle.acn_grammar.specs.View.{data_of, grammar_of}
 use Rattle.acn_grammar.specs.declared.node.Node.{Node}

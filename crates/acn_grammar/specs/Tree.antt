@@ -1,12 +1,12 @@
--- Which grammars are well formed. Every rule is a test that computes.
+-- Which grammars are well formed. Every rule is a test that computes. That names in one place differ is X.680's (clauses 20, 25
+-- and 29); the rules on slots, homes and limits are this profile's own.
 use Rattle.std.specs.Prelude.{ℕ, ◌-◌, nat_eq, nat_lt, nat_le, Bool, true, false, not, ◌&&◌, ◌||◌, IsTrue, List, [], ◌∷◌, ◌++◌, length, map, filter, count_by, Option, Some, None}
 use Rattle.std.specs.List.{list_all, list_any, filter_map, range_with_len}
 use Rattle.acn_num.specs.Bits.{is_least_width}
 use Rattle.acn_grammar.specs.Grammar.{Grammar, Form, Fields, node, num, octets, bits, text, seq, list, choice, contained, no_fields, component, inserted}
 use Rattle.acn_grammar.specs.Asks.{same_name}
-use Rattle.acn_grammar.specs.Check.{conditions_of}
 use Rattle.acn_grammar.specs.Leaves.{num_fine, text_fine, sizing_fine, list_fine, all_differ}
-use Rattle.acn_grammar.specs.Walk.{Stand, Role, a_component, an_inserted, nodes_of, inside, uses, slot_of, slot_here}
+use Rattle.acn_grammar.specs.Walk.{Stand, Role, a_component, an_inserted, nodes_of, inside, uses, slot_of, slot_here, conditions_of}
 use Rattle.acn_grammar.specs.declared.node.NumKind.{NumKind}
 use Rattle.acn_grammar.specs.declared.node.NumKind.TheVariants.{Null}
 use Rattle.acn_grammar.specs.declared.node.ChoiceRule.{ChoiceRule}
@@ -14,6 +14,8 @@ use Rattle.acn_grammar.specs.declared.node.ChoiceRule.TheVariants.{Index, Tests,
 use Rattle.acn_grammar.specs.declared.node.Presence.{Presence}
 use Rattle.acn_grammar.specs.declared.node.Presence.TheVariants.{Always, Bit, When}
 use Rattle.acn_grammar.specs.declared.node.Test.{Test}
+use Rattle.acn_grammar.specs.declared.limits.TheConstants.{MOST_NODES}
+use Rattle.acn_num.specs.declared.limits.TheConstants.{MOST_STEPS}
 
 -- The rules of one node.
 
@@ -147,7 +149,7 @@ home_fine all at _ = true
 
 abbrev pub stand_rules : List Stand → Stand → List Bool
 stand_rules all at =
-    nat_le (length at.path) 64
+    nat_le (length at.path) MOST_STEPS
     ∷ is_align at.align
     ∷ form_fine at.form
     ∷ role_fine at.role at.form
@@ -159,10 +161,10 @@ stand_rules all at =
 abbrev pub all_true : List Bool → Bool
 all_true tests = list_all (λ b. b) tests
 
--- at most 65,536 nodes, the slots numbered in preorder from 0, and every node in order
+-- not too many nodes, the slots numbered in preorder from 0, and every node in order
 abbrev pub are_fine : List Stand → Bool
 are_fine all =
-    nat_le (length all) 65536
+    nat_le (length all) MOST_NODES
     && (same_numbers (slots_of all) (range_with_len 0 (length (slots_of all)))
     && list_all (λ at. all_true (stand_rules all at)) all)
 

@@ -1,4 +1,5 @@
--- What a `Node` and a `Value` stand for.
+-- What a `Node` and a `Value` stand for. Nobody need read this: it turns each variant into the one of the same name in Grammar,
+-- by folds as they are generated, and that nothing is lost on the way is a law (`data_tell_the_value`, `grammars_tell_the_node`).
 use Rattle.std.specs.Prelude.{ℕ, List, [], ◌∷◌, Option, Some, None, option_map, map}
 use Rattle.acn_grammar.specs.Grammar.{Grammar, Form, Fields, Alternatives, Data, Places, Elements, node, num, octets, bits, text, seq, list, choice, contained, no_fields, component, inserted, no_alternatives, alternative, int, boolean, item, null, octet_string, bit_string, characters, record_of, list_of, alt, no_places, empty, filled, no_elements, element}
 use Rattle.acn_grammar.specs.declared.node.Presence.{Presence}

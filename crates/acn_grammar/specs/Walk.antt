@@ -1,4 +1,4 @@
--- The nodes of a grammar in preorder, and what each uses.
+-- The nodes of a grammar in preorder, where each stands, and which slots it uses. (This profile's own.)
 use Rattle.std.specs.Prelude.{ℕ, suc, List, [], ◌∷◌, ◌++◌, Option, None, map}
 use Rattle.acn_grammar.specs.Grammar.{Grammar, Form, Fields, Alternatives, node, octets, bits, text, seq, list, choice, contained, no_fields, component, inserted, no_alternatives, alternative}
 use Rattle.acn_grammar.specs.declared.node.Presence.{Presence}
@@ -80,6 +80,11 @@ abbrev pub rule_uses : SizeRule → List Use
 rule_uses (Slot s) = size_of s ∷ []
 rule_uses (Prefix low width) = []
 rule_uses (Ended p) = []
+
+-- the name and the conditions of each alternative
+abbrev pub conditions_of : Alternatives → List (List ℕ × List Test)
+conditions_of no_alternatives = []
+conditions_of (alternative name g ts more) = (name, ts) ∷ conditions_of more
 
 abbrev pub choice_uses : ChoiceRule → List Use
 choice_uses (Item s) = item_of s ∷ []

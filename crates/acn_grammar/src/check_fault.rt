@@ -1,8 +1,9 @@
 use acn_num::{NoMemory, Path, Row};
 use std::alloc::{AllocError, AllocFailed};
 
-/// What keeps a grammar from being decoded: a path has child numbers from the root, in a list 0.
-/// `det` is the field of a slot, `user` the node that uses it. The rules are this profile's own.
+/// What keeps a grammar from being decoded, in the order in which faults are answered, want of memory apart. A path has child
+/// numbers from the root, in a list 0. `det` is the field of a slot, `user` the node that uses it. The rules are this
+/// profile's own, and so are the limits (`acn_grammar/src/limits.rt`).
 #[derive(Debug, Drop)]
 pub enum CheckFault {
     /// The determinant stands behind its use.
@@ -15,7 +16,7 @@ pub enum CheckFault {
         user: Path,
         det: Path,
     },
-    /// The codes of an inserted determinant don't all have one width of at most 64 bits.
+    /// The codes of an inserted determinant don't all have one width, or it is over `MOST_DETERMINANT_BITS`.
     DetWidth {
         det: Path,
     },
@@ -43,21 +44,21 @@ pub enum CheckFault {
     MixedChoice {
         choice: Path,
     },
-    /// The greatest bound in bits is over 524,336.
+    /// The greatest bound in bits is over `MOST_PACKET_BITS`.
     TooLong {
         bits: u64,
     },
-    /// The homes on the path to the node, itself included, have more than 256 slots.
+    /// The homes on the path to the node, itself included, have more than `MOST_OPEN_SLOTS` slots.
     TooManyOpen {
         at: Path,
         count: u32,
     },
-    /// More than 64 conditions compare the determinant with a number.
+    /// More than `MOST_CONDITIONS` conditions compare the determinant with a number.
     TooManyConditions {
         det: Path,
         count: u32,
     },
-    /// The greatest number of values of a packet is over 1,048,576.
+    /// The greatest number of values of a packet is over `MOST_VALUES`.
     TooManyValues {
         count: u64,
     },

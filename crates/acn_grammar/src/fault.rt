@@ -2,7 +2,7 @@ use crate::read_fault::ReadFault;
 use acn_num::{NoMemory, Path};
 use std::alloc::{AllocError, AllocFailed};
 
-/// Why a node can't be read.
+/// Why a node can't be read. The reasons and their order inside a node are this profile's own (`specs/Fails`).
 #[derive(Clone, Copy, Debug, PartialEq, Eq)]
 pub enum Reason {
     /// The input has fewer bits left than the node needs.
@@ -19,7 +19,7 @@ pub enum Reason {
     BadPattern,
     /// There are more octets or digits than any code has.
     TooLong,
-    /// The size isn't permitted.
+    /// The size isn't permitted. `n` counts octets, bits, characters or elements.
     SizeOutOfRange { n: u64 },
     /// No alternative is chosen.
     NoAlternative,

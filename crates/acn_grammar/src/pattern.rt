@@ -1,12 +1,15 @@
 ghost use Rattle.std.specs.Prelude.{◌≡◌, ◌<◌, ◌≤◌, length};
+ghost use Rattle.acn_grammar.specs.declared.limits.TheConstants.{MOST_PATTERN_BITS};
 
+use crate::limits::MOST_PATTERN_BITS;
 use arrayvec::ArrayVec;
 use std::marker::Model;
 
-/// A pattern, which contracts see as a list of 1 to 64 bits.
+/// A pattern of bits, as ACN gives it for values, terminators and NULLs. Contracts see it as a list of 1 to
+/// `MOST_PATTERN_BITS` bits. (The limit is this profile's own.)
 #[derive(Debug, Drop)]
 pub struct Pattern {
-    bits: ArrayVec<bool, 64>,
+    bits: ArrayVec<bool, MOST_PATTERN_BITS>,
 }
 
 impl Model for Pattern {
@@ -24,7 +27,7 @@ impl Pattern {
     /// The pattern of these bits.
     pub fn new(bits: &[bool]) -> Pattern
         requires some { 0 < length bits.now }
-        requires short { length bits.now ≤ 64 }
+        requires short { length bits.now ≤ MOST_PATTERN_BITS }
         ensures { result ≡ bits.now }
     {
         let mut copied = ArrayVec::new();
@@ -34,11 +37,11 @@ impl Pattern {
         Pattern { bits: copied }
     }
 
-    /// The bits, in order; there are 1 to 64.
+    /// The bits, in order: at least one, and at most `MOST_PATTERN_BITS`.
     pub fn bits(&self) -> &[bool]
         ensures same { result.now ≡ self.now }
         ensures some { 0 < length result.now }
-        ensures short { length result.now ≤ 64 }
+        ensures short { length result.now ≤ MOST_PATTERN_BITS }
     {
         self.bits.as_slice()
     }

@@ -1,4 +1,5 @@
-/// Why a leaf can't be read: the first reason that holds in the order of the leaf's coding.
+/// Why a leaf can't be read: the first reason that holds in the order of the leaf's coding. (This profile's own,
+/// `specs/LeafFails`.)
 #[derive(Clone, Copy, Debug, PartialEq, Eq)]
 pub enum ReadFault {
     /// The window has fewer bits left than the code needs.
@@ -15,6 +16,6 @@ pub enum ReadFault {
     BadPattern,
     /// There are more octets or digits than any code has.
     TooLong,
-    /// The size of a text isn't permitted.
+    /// The size of a text in characters isn't permitted.
     SizeOutOfRange { n: u64 },
 }

@@ -1,6 +1,6 @@
 use acn_num::Path;
 
-/// What a node of a value asks of the number of a slot.
+/// What a node of a value asks of the number of a slot, by the conditions, sizes and determinants of ACN.
 #[derive(Clone, Copy, Debug, PartialEq, Eq)]
 pub enum Ask {
     /// It is this number.
@@ -16,7 +16,7 @@ pub enum UnfitReason {
     OutOfRange {
         value: i128,
     },
-    /// The size of the string or list isn't permitted.
+    /// The size of the string or list isn't permitted. `n` counts octets, bits, characters or elements.
     SizeOutOfRange {
         n: u64,
     },
@@ -41,9 +41,10 @@ pub enum UnfitReason {
     },
 }
 
-/// The place of a value that isn't one of its node's, and why: child numbers from the root, in a list the number of the element.
+/// The place of a value that isn't one of its node's, and why.
 #[derive(Debug, Drop)]
 pub struct Unfit {
+    /// Child numbers from the root, in a list the number of the element.
     pub path: Path,
     pub reason: UnfitReason,
 }

@@ -1,4 +1,5 @@
 pub mod CodeLengths
+pub mod Differ
 pub mod NumParts
 pub mod Patterns
 pub mod Sizes

@@ -1,13 +1,15 @@
 ghost use Rattle.std.specs.Prelude.{◌≡◌, nat_abs, ◌<◌, ◌≤◌, ◌^◌, ◌+◌, ◌*◌, ◌-◌, ◌+ℤ◌, ◌-ℤ◌, ◌≤ℤ◌, cond, nat_le, not, true, IsTrue, option_map, pos, map, ◌∷◌, [], int_le};
-ghost use Rattle.std.specs.Int.{int_max, int_min};
 ghost use Rattle.std.specs.List.{flat_map, list_all};
 ghost use Rattle.acn_grammar.specs.Images.{clipped, images_by};
 ghost use Rattle.acn_grammar.specs.Interval as spans;
-ghost use Rattle.acn_grammar.specs.Leaves.{line_fine, num_fine, is_number};
+ghost use Rattle.acn_grammar.specs.Leaves.{line_fine, num_fine};
 ghost use Rattle.acn_grammar.specs.Length as lengths;
+ghost use Rattle.acn_grammar.specs.declared.limits.TheConstants.{MOST_PATTERN_BITS};
 
+use crate::size_rules::apart;
+use crate::table_rules::image;
 use acn_grammar::{Bounds, NumCoding, NumLeaf, Pattern};
-use acn_num::Name;
+use acn_num::{Name, greater, is_at_most, less};
 
 // 1 where it holds.
 fn one_if(holds: bool) -> u64
@@ -80,7 +82,7 @@ fn digit_count(k: u128) -> u64
 
 fn pattern_width(yes: &Option<Pattern>, no: &Option<Pattern>) -> u32
     ensures value { result ≡ lengths.flag_width yes.now no.now }
-    ensures small { result ≤ 64 }
+    ensures small { result ≤ MOST_PATTERN_BITS }
 {
     match yes {
         Some(pattern) => pattern.bits().len() as u32,
@@ -118,12 +120,6 @@ fn magnitude(y: &i128) -> u128
     y.unsigned_abs()
 }
 
-fn apart(high: &i128, low: &i128) -> u128
-    ensures { result ≡ nat_abs (high.now -ℤ low.now) }
-{
-    high.abs_diff(*low)
-}
-
 // The length of the code of a written number.
 fn coding_length(coding: &NumCoding, y: &i128) -> u64
     ensures value { result ≡ lengths.coding_length coding.now y.now }
@@ -131,7 +127,7 @@ fn coding_length(coding: &NumCoding, y: &i128) -> u64
 {
     match coding {
         NumCoding::Range { width, .. } => u64::from(*width),
-        NumCoding::CountedFrom { low } => 8 + 8 * least_octets(apart(y, low)),
+        NumCoding::CountedFrom { low } => 8 + 8 * least_octets(apart(low, y)),
         NumCoding::CountedSigned => 8 + 8 * least_signed_octets(y),
         NumCoding::PosInt(n) | NumCoding::Twos(n) | NumCoding::Bcd(n) => u64::from(*n),
         NumCoding::BcdEnded => 4 * (digit_count(magnitude(y)) + 1),
@@ -187,44 +183,6 @@ fn with_range(all: Bounds, coding: &NumCoding, low: &i128, high: &i128) -> Bound
     let least = nearest_length(coding, low, high);
     let greatest = coding_length(coding, low).max(coding_length(coding, high));
     hull(all, Bounds { least, greatest })
-}
-
-fn greater<'a>(a: &'a i128, b: &'a i128) -> &'a i128
-    ensures { result.now ≡ int_max a.now b.now }
-{
-    if *b < *a { a } else { b }
-}
-
-fn less<'a>(a: &'a i128, b: &'a i128) -> &'a i128
-    ensures { result.now ≡ int_min a.now b.now }
-{
-    if *b < *a { b } else { a }
-}
-
-fn is_at_most(a: &i128, b: &i128) -> bool
-    ensures { result ≡ int_le a.now b.now }
-{
-    *a <= *b
-}
-
-// The number as far from `to` as the key is from the first one.
-fn shifted(to: &i128, first: &i128, key: &i128) -> i128
-    requires to { is_number to.now ≡ true }
-    requires first { is_number first.now ≡ true }
-    requires key { is_number key.now ≡ true }
-    ensures { result ≡ to.now +ℤ (key.now -ℤ first.now) }
-{
-    *to + (*key - *first)
-}
-
-// The image of a key.
-fn image(line: &(i128, i128, i128), key: &i128) -> i128
-    requires line { line_fine line.now ≡ true }
-    requires first { line.now.0 ≤ℤ key.now }
-    requires last { key.now ≤ℤ line.now.1 }
-    ensures { result ≡ line.now.2 +ℤ (key.now -ℤ line.now.0) }
-{
-    shifted(&line.2, &line.0, key)
 }
 
 // With the codes of the images of what a range and the keys of a line share.

@@ -3,10 +3,12 @@
 
 mod leaf_rules;
 mod lengths;
+mod names;
 mod number_rules;
 mod size_rules;
 mod table_rules;
 
 pub use leaf_rules::{num_fine, same_text};
 pub use lengths::{code_lengths, fixed_width, width};
+pub use names::names_differ;
 pub use size_rules::{is_least, list_fine, sizing_fine, text_fine};

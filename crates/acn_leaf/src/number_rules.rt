@@ -8,7 +8,7 @@ ghost use Rattle.acn_grammar.specs.Leaves as leaves;
 ghost use Rattle.acn_grammar.specs.Spell.{octet_numbers};
 
 use crate::size_rules::{apart, is_least, is_pattern, is_terminator};
-use acn_grammar::{NumCoding, NumKind, Pattern};
+use acn_grammar::{MOST_INTEGER_BITS, NumCoding, NumKind, Pattern};
 use acn_num::RangeSet;
 
 pub fn takes(kind: NumKind, coding: &NumCoding) -> bool
@@ -109,7 +109,7 @@ pub fn coding_fine(coding: &NumCoding) -> bool
     ensures { result ≡ leaves.coding_fine coding.now }
 {
     match coding {
-        NumCoding::PosInt(n) | NumCoding::Twos(n) => from_to(1, 64, *n),
+        NumCoding::PosInt(n) | NumCoding::Twos(n) => from_to(1, MOST_INTEGER_BITS, *n),
         NumCoding::Bcd(n) => from_to(4, 76, *n) && *n % 4 == 0,
         NumCoding::Ascii { bits, signed } => {
             let least = if *signed { 16 } else { 8 };

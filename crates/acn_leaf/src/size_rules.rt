@@ -6,7 +6,10 @@ ghost use Rattle.acn_grammar.specs.Leaves as leaves;
 ghost use Rattle.acn_grammar.specs.Length.{ending};
 
 use acn_grammar::{Pattern, SizeRule, Sizing, TextLeaf};
-use acn_num::RangeSet;
+use acn_num::{MOST_SIZE, RangeSet};
+
+/// The greatest size, as a number of a set.
+const GREATEST_SIZE: i128 = MOST_SIZE as i128;
 
 /// Whether the width is the least in bits that holds the number.
 pub fn is_least(span: u128, width: u32) -> bool
@@ -62,11 +65,11 @@ pub fn all_within(low: &i128, high: &i128, set: &RangeSet) -> bool
     true
 }
 
-// Whether the sizes are some numbers from 0 to 65,536.
+// Whether the sizes are some numbers from 0 to `MOST_SIZE`.
 fn sizes_fine(sizes: &RangeSet) -> bool
     ensures { result ≡ leaves.sizes_fine sizes.now }
 {
-    holds_some(sizes) && all_within(&0, &65536, sizes)
+    holds_some(sizes) && all_within(&0, &GREATEST_SIZE, sizes)
 }
 
 // Whether a size in front is a range over the sizes.
@@ -125,7 +128,7 @@ fn no_size(rule: &SizeRule) -> bool
     }
 }
 
-/// Whether a pattern has 1 to 64 bits, which each has.
+/// Whether a pattern has 1 to `MOST_PATTERN_BITS` bits, which each has.
 pub fn is_pattern(pattern: &Pattern) -> bool
     ensures { result ≡ leaves.is_pattern pattern.now }
 {

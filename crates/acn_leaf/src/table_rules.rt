@@ -1,5 +1,4 @@
 ghost use Rattle.std.specs.Prelude.{◌≡◌, ◌&&◌, int_le, ◌≤ℤ◌, ◌+ℤ◌, ◌-ℤ◌, true, nat_eq, ◌∷◌, []};
-ghost use Rattle.std.specs.Int.{int_max, int_min};
 ghost use Rattle.std.specs.List.{list_all, list_any, flat_map};
 ghost use Rattle.acn_num.specs.Ranges.{count};
 ghost use Rattle.acn_leaf.specs.Ends.{ends_behind};
@@ -9,25 +8,7 @@ ghost use Rattle.acn_leaf.specs.Taken.{left_of};
 
 use crate::number_rules::is_number;
 use crate::size_rules::apart;
-use acn_num::RangeSet;
-
-fn greater<'a>(a: &'a i128, b: &'a i128) -> &'a i128
-    ensures { result.now ≡ int_max a.now b.now }
-{
-    if *b < *a { a } else { b }
-}
-
-fn less<'a>(a: &'a i128, b: &'a i128) -> &'a i128
-    ensures { result.now ≡ int_min a.now b.now }
-{
-    if *b < *a { b } else { a }
-}
-
-fn is_at_most(a: &i128, b: &i128) -> bool
-    ensures { result ≡ int_le a.now b.now }
-{
-    *a <= *b
-}
+use acn_num::{RangeSet, greater, is_at_most, less};
 
 // The number as far from `to` as the key is from the first one.
 fn shifted(to: &i128, first: &i128, key: &i128) -> i128
@@ -61,8 +42,8 @@ fn lines_fine(lines: &[(i128, i128, i128)]) -> bool
     true
 }
 
-// The image of a key.
-fn image(line: &(i128, i128, i128), key: &i128) -> i128
+/// The image of a key.
+pub fn image(line: &(i128, i128, i128), key: &i128) -> i128
     requires line { leaves.line_fine line.now ≡ true }
     requires first { line.now.0 ≤ℤ key.now }
     requires last { key.now ≤ℤ line.now.1 }

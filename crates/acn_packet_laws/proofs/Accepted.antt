@@ -3,14 +3,14 @@ use Rattle.std.proofs.Common.{◌≡◌, ℕ, zero, suc, Bool, false, List, [], 
 use Rattle.std.specs.Prelude.{slice_get, nat_lt}
 use Rattle.std.specs.List.{list_any}
 use Rattle.acn_grammar.specs.Asks.{same_name}
-use Rattle.acn_grammar.specs.Check.{CheckFault, terminator_ambiguous, EndAmbiguous, Undecodable, conditions_of}
+use Rattle.acn_grammar.specs.Check.{CheckFault, terminator_ambiguous, EndAmbiguous, Undecodable}
 use Rattle.acn_grammar.specs.Grammar.{Grammar, Fields, Alternatives, node, num, octets, bits, text, seq, list, choice, contained, no_fields, component, inserted, no_alternatives, alternative}
 use Rattle.acn_grammar.specs.Leaves.{all_differ, sizes_fine, list_rule_fine}
 use Rattle.acn_grammar.specs.Length.{ending}
 use Rattle.acn_grammar.specs.declared.node.Sizing.{Sizing}
 use Rattle.acn_grammar.specs.Scoped.{Known, with_slot, TestsIn, choose_known, with_own, EndTold, after, tests_at, Scoped, FieldsScoped, AlternativesScoped}
 use Rattle.acn_grammar.specs.Tree.{IsTree, has_tests, choice_rule_fine}
-use Rattle.acn_grammar.specs.Walk.{Stand, Role, a_component, an_inserted, an_alternative, an_element, a_content, root_node, nodes, nodes_of, form_nodes, field_nodes, alternative_nodes}
+use Rattle.acn_grammar.specs.Walk.{Stand, Role, a_component, an_inserted, an_alternative, an_element, a_content, root_node, nodes, nodes_of, form_nodes, field_nodes, alternative_nodes, conditions_of}
 use Rattle.acn_grammar.specs.declared.node.ChoiceRule.TheVariants.{Index, Tests, Item}
 use Rattle.acn_grammar.proofs.Codings.{both_are}
 use Rattle.acn_packet_laws.proofs.Overlaps.{no_overlap}

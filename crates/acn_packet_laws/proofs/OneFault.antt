@@ -2,12 +2,12 @@
 use Rattle.std.proofs.Common.{◌≡◌, ℕ, zero, suc, ◌<◌, ◌≤◌, ℤ, Bool, true, false, List, [], ◌∷◌, ◌++◌, length, map, Option, Some, None, refl, sym, ap, ◌∙◌, subst, arith, inl, inr, ◌⊎◌, nat_eq, nat_lt, ◌||◌}
 use Rattle.std.specs.Prelude.{slice_get, Contains, if◌then◌else◌}
 use Rattle.std.proofs.lemmas.Bool.Decides.{nat_tests}
-use Rattle.acn_grammar.specs.Check.{CheckFault, forward, det_kind, det_width, overlap, absent_unclear, unused, no_item, mixed_choice, too_long, too_many_open, too_many_conditions, too_many_values, terminator_ambiguous, number_of_fault, test_slot, conditions_of, open_at, IsStrictly, NodeAt, UseOf, IsChoice, equals_on, Evidence, rank, Before}
+use Rattle.acn_grammar.specs.Check.{CheckFault, forward, det_kind, det_width, overlap, absent_unclear, unused, no_item, mixed_choice, too_long, too_many_open, too_many_conditions, too_many_values, terminator_ambiguous, number_of_fault, test_slot, open_at, IsStrictly, NodeAt, UseOf, IsChoice, equals_on, Evidence, rank, Before}
 use Rattle.acn_grammar.specs.Env.{Env, at_slot, AllHold}
 use Rattle.acn_grammar.specs.Grammar.{Grammar, Form, Alternatives, num, octets, bits, text, seq, list, choice, contained}
 use Rattle.acn_grammar.specs.Interval.{span, value_count}
 use Rattle.acn_grammar.specs.Tree.{IsTree, holds, is_slot}
-use Rattle.acn_grammar.specs.Walk.{Stand, Use, uses, slot_of, slot_here, nodes_of}
+use Rattle.acn_grammar.specs.Walk.{Stand, Use, uses, slot_of, slot_here, nodes_of, conditions_of}
 use Rattle.acn_grammar.specs.declared.node.ChoiceRule.{ChoiceRule}
 use Rattle.acn_grammar.specs.declared.node.ChoiceRule.TheVariants.{Tests}
 use Rattle.acn_grammar.specs.declared.node.Test.{Test}

@@ -5,14 +5,14 @@ use Rattle.std.specs.List.{AllByRecursion, list_any}
 use Rattle.std.proofs.lemmas.Bool.Decides.{nat_tests}
 use native.Mathlib.Decide.{dec_lt}
 use Rattle.acn_num.specs.Ranges.{In}
-use Rattle.acn_grammar.specs.Check.{CheckFault, overlap, mixed_choice, Undecodable, conditions_of, test_slot, IsStrictly, NodeAt, IsChoice}
+use Rattle.acn_grammar.specs.Check.{CheckFault, overlap, mixed_choice, Undecodable, test_slot, IsStrictly, NodeAt, IsChoice}
 use Rattle.acn_grammar.specs.Env.{Env, at_slot, AllHold}
 use Rattle.acn_grammar.specs.Fails.{count_of}
 use Rattle.acn_grammar.specs.Grammar.{Grammar, Alternatives, no_alternatives, alternative}
 use Rattle.acn_grammar.specs.Scoped.{tests_at, Permitted, NoOverlap}
 use Rattle.acn_grammar.specs.Slots.{domain_of}
 use Rattle.acn_grammar.specs.Tree.{holds, has_tests}
-use Rattle.acn_grammar.specs.Walk.{Stand}
+use Rattle.acn_grammar.specs.Walk.{Stand, conditions_of}
 use Rattle.acn_grammar.specs.declared.node.ChoiceRule.TheVariants.{Tests}
 use Rattle.acn_grammar.specs.declared.node.Test.{Test}
 use Rattle.acn_grammar.specs.declared.node.Test.TheVariants.{Flag, Equals}

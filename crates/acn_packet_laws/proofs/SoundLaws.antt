@@ -1,7 +1,8 @@
 -- What follows of nodes that are sound.
 use Rattle.std.proofs.Common.{ℕ, suc, ◌++◌, List, length, map, Some, None, refl, ap, ◌∙◌, ◌&&◌, nat_lt}
 use Rattle.acn_grammar.specs.Asks.{same_name}
-use Rattle.acn_grammar.specs.Check.{too_many_open, conditions_of, open_at}
+use Rattle.acn_grammar.specs.Check.{too_many_open, open_at}
+use Rattle.acn_grammar.specs.Walk.{conditions_of}
 use Rattle.acn_grammar.specs.Grammar.{Grammar, Form, Fields, Alternatives, node, num, octets, bits, text, seq, list, choice, contained, no_fields, component, inserted, no_alternatives, alternative}
 use Rattle.acn_grammar.specs.Leaves.{all_differ}
 use Rattle.acn_grammar.specs.Scoped.{Known, PresenceIn, FineField, Scoped, FormScoped, FieldsScoped, AlternativesScoped, after, choose_known, with_own, with_slot}

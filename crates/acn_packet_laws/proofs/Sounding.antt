@@ -4,7 +4,7 @@ use Rattle.std.specs.Prelude.{slice_get, Contains}
 use Rattle.std.specs.List.{list_any}
 use Rattle.std.proofs.lemmas.Bool.Decides.{nat_tests}
 use Rattle.acn_grammar.specs.Asks.{same_name}
-use Rattle.acn_grammar.specs.Check.{CheckFault, absent_unclear, det_width, no_item, too_many_open, Undecodable, HasWidth, conditions_of}
+use Rattle.acn_grammar.specs.Check.{CheckFault, absent_unclear, det_width, no_item, too_many_open, Undecodable, HasWidth}
 use Rattle.acn_grammar.specs.Grammar.{Grammar, Form, Fields, Alternatives, node, num, octets, bits, text, seq, list, choice, contained, no_fields, component, inserted, no_alternatives, alternative}
 use Rattle.acn_grammar.specs.Interval.{width_of}
 use Rattle.acn_grammar.specs.Leaves.{all_differ, num_fine}
@@ -13,7 +13,7 @@ use Rattle.acn_grammar.specs.Scoped.{Known, with_slot, with_own, choose_known, a
 use Rattle.acn_grammar.specs.Slots.{items_of, slot_leaf, fields_leaf, alternatives_leaf, number_leaf, first_of_two}
 use Rattle.acn_grammar.specs.Sound.{field_count, PresenceSound, NothingLeaves, NothingLeavesIt, OneWidth, SaysSlot, OwnSound, RuleSound, Sound, FormSound, FieldsSound, AlternativesSound}
 use Rattle.acn_grammar.specs.Tree.{IsTree, holds, slots_of, same_numbers, is_slot, has_tests, choice_rule_fine, presence_fine, own_fine, stand_rules, all_true, near_form}
-use Rattle.acn_grammar.specs.Walk.{Stand, Role, a_component, an_inserted, an_alternative, an_element, a_content, root_node, nodes, nodes_of, form_nodes, field_nodes, alternative_nodes}
+use Rattle.acn_grammar.specs.Walk.{Stand, Role, a_component, an_inserted, an_alternative, an_element, a_content, root_node, nodes, nodes_of, form_nodes, field_nodes, alternative_nodes, conditions_of}
 use Rattle.acn_grammar.specs.declared.node.ChoiceRule.{ChoiceRule}
 use Rattle.acn_grammar.specs.declared.node.ChoiceRule.TheVariants.{Index, Tests, Item}
 use Rattle.acn_grammar.specs.declared.node.Presence.{Presence}

@@ -1,5 +1,5 @@
 -- Laws of the definitions, as contracts name them.
-use Rattle.std.specs.Prelude.{◌≡◌, ◌≢◌, ℕ, ◌+◌, ◌≤◌, ◌<◌, ℤ, Bool, true, false, List, [], ◌∷◌, ◌++◌, length, map, take, slice_get, Some, IsTrue, ◌⊎◌}
+use Rattle.std.specs.Prelude.{◌*◌, ◌≡◌, ◌≢◌, ℕ, ◌+◌, ◌≤◌, ◌<◌, ℤ, Bool, true, false, List, [], ◌∷◌, ◌++◌, length, map, take, slice_get, Some, IsTrue, ◌⊎◌}
 use Rattle.std.specs.List.{flat_map}
 use Rattle.acn_grammar.specs.Grammar.{Grammar, Fields, Data, node, seq}
 use Rattle.acn_grammar.specs.Asks.{moments, field_path}
@@ -25,20 +25,18 @@ use Rattle.acn_grammar.specs.Slots.{slot_leaf}
 use Rattle.acn_grammar.specs.Tree.{IsTree, holds, slots_of}
 use Rattle.acn_grammar.specs.Walk.{Stand, Use, inside, slot_here, slot_of, uses}
 use Rattle.acn_grammar.specs.declared.node.NumLeaf.{NumLeaf}
+use Rattle.acn_num.specs.declared.limits.TheConstants.{MOST_SIZE}
+use Rattle.acn_grammar.specs.declared.limits.TheConstants.{MOST_PACKET_BITS, MOST_OPEN_SLOTS}
 
 -- no code of a leaf that keeps its rules begins another, and the code tells the number
 abbrev pub NumbersArePrefixFree : Type 0
 NumbersArePrefixFree =
     (leaf : NumLeaf) → IsTrue (num_fine leaf) → (x z : ℤ) (a b r s : List Bool) → Code Any leaf x a → Code Any leaf z b → a ++ r ≡ b ++ s → (a ≡ b) × (x ≡ z)
 
--- the bits of the greatest space packet: a primary header of 6 octets, and 65,536 octets behind it (CCSDS 133.0-B-2)
-abbrev pub greatest_packet : ℕ
-greatest_packet = 524336
-
 -- in a tree whose greatest bound is within a packet's limit every spelling has a length between the bounds
 abbrev pub BoundsHold : Type 0
 BoundsHold =
-    (root : Grammar) (mode : Mode) (d : Data) (bs : List Bool) → IsTree root → (span root).greatest ≤ greatest_packet → Spell root mode root [] d 0 bs → ((span root).least ≤ length bs) × (length bs ≤ (span root).greatest)
+    (root : Grammar) (mode : Mode) (d : Data) (bs : List Bool) → IsTree root → (span root).greatest ≤ MOST_PACKET_BITS → Spell root mode root [] d 0 bs → ((span root).least ≤ length bs) × (length bs ≤ (span root).greatest)
 
 -- a failure other than the want of bits is the same on every input with the same bits up to where it rests
 abbrev pub FailuresRestOnBits : Type 0
@@ -85,9 +83,9 @@ SoundIsScoped = (root : Grammar) (k : ℕ) (around : List ℕ) (ks : Known) (g :
 abbrev pub KnownBehind : Type 0
 KnownBehind = (root : Grammar) (k : ℕ) (around : List ℕ) (ks : Known) (g : Grammar) → Sound root k around ks g → (s : ℕ) → after ks g s ≡ true → (ks s ≡ true) ⊎ (holds around s ≡ true)
 
--- at most 256 slots are at home on the path to a node
+-- not too many slots are at home on the path to a node
 abbrev pub FewAreOpen : Type 0
-FewAreOpen = (root : Grammar) (k : ℕ) (here : Stand) → IsAccepted root → NodeAt root k here → open_at here ≤ 256
+FewAreOpen = (root : Grammar) (k : ℕ) (here : Stand) → IsAccepted root → NodeAt root k here → open_at here ≤ MOST_OPEN_SLOTS
 
 -- a use of a slot asks for the kind of number that its leaf is
 abbrev pub UsesFitTheirSlots : Type 0
@@ -151,7 +149,7 @@ EachLengthIsTold =
 -- a value that meets its node has a length between the node's bounds, whatever the numbers of slots are, where the greatest bound is within a packet's limit
 abbrev pub ValuesLieWithinBounds : Type 0
 ValuesLieWithinBounds =
-    (root : Grammar) (k : ℕ) (here : Stand) (d : Data) (at : ℕ) → IsAccepted root → NodeAt root k here → (span (node here.align here.form)).greatest ≤ greatest_packet → Meets (node here.align here.form) d
+    (root : Grammar) (k : ℕ) (here : Stand) (d : Data) (at : ℕ) → IsAccepted root → NodeAt root k here → (span (node here.align here.form)).greatest ≤ MOST_PACKET_BITS → Meets (node here.align here.form) d
     → ((span (node here.align here.form)).least ≤ bit_length (node here.align here.form) at d) × (bit_length (node here.align here.form) at d ≤ (span (node here.align here.form)).greatest)
 
 -- a value that begins later doesn't end earlier
@@ -179,7 +177,7 @@ ReachesLieInside = (root : Grammar) (input : List Bool) (fault : Fault) (reach :
 
 -- the bits of the greatest window round contents: 65,536 octets
 abbrev pub greatest_window : ℕ
-greatest_window = 524288
+greatest_window = 8 * MOST_SIZE
 
 -- bits are wanting only where there are fewer than the greatest packet and the greatest window have
 abbrev pub ShortIsNear : Type 0

@@ -56,7 +56,7 @@ pub fn known_behind()
     ensures { KnownBehind }
 {}
 
-/// At most 256 slots are at home on the path to a node of an accepted tree.
+/// At most `MOST_OPEN_SLOTS` slots are at home on the path to a node of an accepted tree.
 pub fn few_are_open()
     ensures { FewAreOpen }
 {}

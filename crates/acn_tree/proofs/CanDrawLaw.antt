@@ -3,14 +3,13 @@ use Rattle.std.proofs.Common.{◌≡◌, ℕ, suc, ◌<◌, ◌≤◌, Bool, tru
 use Rattle.std.specs.List.{list_all, range_with_len}
 use Rattle.std.proofs.lemmas.Bool.Decides.{nat_tests}
 use Rattle.acn_tree.specs.CanDraw.{CanDraw, FormCanDraw, FieldsCanDraw, AlternativesCanDraw}
-use Rattle.acn_grammar.specs.Check.{conditions_of}
 use Rattle.acn_grammar.specs.Grammar.{Grammar, Form, Fields, Alternatives, node, num, octets, bits, text, seq, list, choice, contained, no_fields, component, inserted, no_alternatives, alternative}
 use Rattle.acn_grammar.specs.Leaves.{sizing_fine, list_fine, list_rule_fine, sizes_fine, rule_fine, all_differ}
 use Rattle.acn_grammar.specs.Length.{ending}
 use Rattle.acn_grammar.specs.Asks.{same_name}
 use Rattle.acn_tree.specs.Made.{alternative_count}
 use Rattle.acn_grammar.specs.Tree.{IsTree, form_fine, choice_rule_fine, stand_rules, all_true, same_numbers, slots_of}
-use Rattle.acn_grammar.specs.Walk.{Stand, Role, a_component, an_inserted, an_alternative, an_element, a_content, root_node, nodes, form_nodes, field_nodes, alternative_nodes, nodes_of}
+use Rattle.acn_grammar.specs.Walk.{Stand, Role, a_component, an_inserted, an_alternative, an_element, a_content, root_node, nodes, form_nodes, field_nodes, alternative_nodes, nodes_of, conditions_of}
 use Rattle.acn_grammar.specs.declared.node.ChoiceRule.{ChoiceRule}
 use Rattle.acn_grammar.specs.declared.node.Sizing.{Sizing}
 use Rattle.acn_grammar.proofs.Codings.{both_are}

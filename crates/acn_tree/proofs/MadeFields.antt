@@ -4,7 +4,7 @@ use Rattle.std.specs.Prelude.{if◌then◌else◌}
 use Rattle.std.proofs.lemmas.List.{drop_more, append-nil}
 use Rattle.acn_tree.specs.CanDraw.{CanDraw, FieldsCanDraw, AlternativesCanDraw}
 use Rattle.acn_grammar.specs.Grammar.{Grammar, Fields, Data, no_fields, component, inserted, empty, filled, element}
-use Rattle.acn_tree.specs.ItemsNamed.{items_named, fields_items_named, alternatives_items_named, ItemsNamed, FieldsItemsNamed, AlternativesItemsNamed}
+use Rattle.acn_grammar.specs.ItemsNamed.{items_named, fields_items_named, alternatives_items_named, ItemsNamed, FieldsItemsNamed, AlternativesItemsNamed}
 use Rattle.acn_tree.specs.Made.{Drawn, after, is, parts, elements, made, fields_made, presence, alternative_count, alternative_made}
 use Rattle.acn_tree.specs.MadeParts.{place_made}
 use Rattle.acn_grammar.specs.View.{OneField, a_component, an_inserted, with_field, field_of, fields_view, places_of, elements_of, alternatives_view, alternative_of, grammar_of}

@@ -2,7 +2,7 @@
 use Rattle.std.proofs.Common.{◌≡◌, ℕ, ◌<◌, ◌^◌, List, length, get_or, Option, refl, sym, ap, subst, ◌∙◌, rules}
 use Rattle.acn_tree.specs.CanDraw.{FormCanDraw, AlternativesCanDraw}
 use Rattle.acn_grammar.specs.Grammar.{seq, list, choice, record_of, list_of, alt}
-use Rattle.acn_tree.specs.ItemsNamed.{FormItemsNamed, AlternativesItemsNamed}
+use Rattle.acn_grammar.specs.ItemsNamed.{FormItemsNamed, AlternativesItemsNamed}
 use Rattle.acn_tree.specs.Made.{pick, size, made, elements, fields_made, form_made, alternative_made}
 use Rattle.acn_tree.specs.MadeParts.{choice_made}
 use Rattle.acn_grammar.specs.View.{data_of, form_of, grammar_of, fields_view, places_view, elements_view, alternatives_view}

@@ -5,6 +5,7 @@ use Rattle.acn_grammar.specs.Grammar.{Grammar, Form, Fields, Alternatives, node,
 use Rattle.acn_tree.specs.NodeAt.{node_at}
 use Rattle.acn_grammar.specs.Tree.{IsTree}
 use Rattle.acn_grammar.specs.declared.node.Sizing.{Sizing}
+use Rattle.acn_num.specs.declared.limits.TheConstants.{MOST_SIZE, MOST_STEPS}
 
 -- the node is one of a well-formed tree
 pub record InTree (g : Grammar) : Type 0 where
@@ -13,9 +14,9 @@ pub record InTree (g : Grammar) : Type 0 where
   pub formed : IsTree root
   pub leads : node_at root path ≡ Some g
 
--- no permitted size is over 65,536
+-- no permitted size is over the limit
 abbrev pub SizesAreSmall : Sizing → Type 0
-SizesAreSmall sizing = (n : ℕ) → In sizing.sizes (pos n) → n ≤ 65536
+SizesAreSmall sizing = (n : ℕ) → In sizing.sizes (pos n) → n ≤ MOST_SIZE
 
 abbrev pub field_count : Fields → ℕ
 field_count no_fields = 0
@@ -23,9 +24,9 @@ field_count (component name g presence default own fs) = suc (field_count fs)
 field_count (inserted name g slot fs) = suc (field_count fs)
 
 abbrev mutual
-  -- A node at a path of k steps: no path inside it has more than 64 steps, and each step is below 2^32.
+  -- A node at a path of k steps: no path inside it is too long, and each step is below 2^32.
   pub HasRoom : ℕ → Grammar → Type 0
-  HasRoom k (node align form) = (k ≤ 64) × FormHasRoom k form
+  HasRoom k (node align form) = (k ≤ MOST_STEPS) × FormHasRoom k form
 
   pub FormHasRoom : ℕ → Form → Type 0
   FormHasRoom k (seq fields home) = (field_count fields < 2 ^ 32) × FieldsHaveRoom (suc k) fields

@@ -59,18 +59,11 @@ fn number_meets(leaf: &NumLeaf, v: &Value) -> Result<(), Breach>
     }
 }
 
-// Whether the number is in the set.
-fn is_in(set: &RangeSet, n: u64) -> bool
-    ensures { result ≡ has set.now (pos n) }
-{
-    set.holds(i128::from(n))
-}
-
 fn size_meets(sizing: &Sizing, n: usize) -> Result<(), Breach>
     ensures { found result ≡ first_why (size_breach sizing.now n) }
 {
     let n = n as u64;
-    if is_in(&sizing.sizes, n) {
+    if sizing.sizes.holds_natural(n) {
         Ok(())
     } else {
         Err(Breach::SizeOutOfRange { n })
@@ -82,7 +75,7 @@ fn characters_meet(alphabet: &RangeSet, text: &[u8]) -> Result<(), Breach>
 {
     let mut index = 0u64;
     for c in text {
-        if !is_in(alphabet, u64::from(*c)) {
+        if !alphabet.holds_natural(u64::from(*c)) {
             return Err(Breach::BadCharacter { index });
         }
         index += 1;

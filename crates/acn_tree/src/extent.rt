@@ -4,6 +4,7 @@ ghost use Rattle.acn_tree.specs.KeptLeaves.{NumbersKept, FormKept, FieldKept, Fi
 ghost use Rattle.acn_grammar.specs.Leaves.{num_fine};
 ghost use Rattle.acn_grammar.specs.Length.{rule_width, ending, index_width};
 ghost use Rattle.acn_grammar.specs.View.{grammar_of, form_of, field_of, fields_view, alternatives_view};
+ghost use Rattle.acn_grammar.specs.declared.limits.TheConstants.{MOST_PATTERN_BITS};
 
 use crate::tree::Tree;
 use acn_grammar::{
@@ -11,7 +12,10 @@ use acn_grammar::{
     SizeRule, Sizing, TextLeaf,
 };
 use acn_leaf::{code_lengths, fixed_width};
-use acn_num::RangeSet;
+use acn_num::{MOST_SIZE, RangeSet};
+
+/// The greatest size, as a number of a set.
+const GREATEST_SIZE: i128 = MOST_SIZE as i128;
 
 /// Sums and products are held down to this.
 const MOST: u64 = 1 << 40;
@@ -73,7 +77,7 @@ fn in_octets(b: Bounds) -> Bounds
     }
 }
 
-/// A size, at most 65,536.
+/// A size, held down to `MOST_SIZE`.
 pub fn size(x: Option<i128>) -> u64
     ensures { result ≡ size_of x }
 {
@@ -82,8 +86,8 @@ pub fn size(x: Option<i128>) -> u64
         Some(n) => {
             if n < 0 {
                 0
-            } else if n > 65536 {
-                65536
+            } else if n > GREATEST_SIZE {
+                u64::from(MOST_SIZE)
             } else {
                 n as u64
             }
@@ -175,7 +179,7 @@ fn number(leaf: &NumLeaf) -> Bounds
 
 fn terminator_width(end: &Option<Pattern>) -> u64
     ensures value { result ≡ end_width end.now }
-    ensures small { result ≤ 64 }
+    ensures small { result ≤ MOST_PATTERN_BITS }
 {
     match end {
         Some(end) => end.bits().len() as u64,

@@ -1,6 +1,6 @@
 ghost use Rattle.std.specs.Prelude.{◌≡◌};
 ghost use Rattle.acn_grammar.specs.Grammar.{num};
-ghost use Rattle.acn_tree.specs.ItemsNamed as named;
+ghost use Rattle.acn_grammar.specs.ItemsNamed as named;
 ghost use Rattle.acn_grammar.specs.View.{grammar_of, form_of, field_of, fields_view, alternatives_view};
 
 use crate::tree::Tree;

@@ -2,7 +2,7 @@
 
 ghost use Rattle.std.specs.Prelude.{◌≡◌, ◌<◌, ◌^◌, IfOk, OnOk, OnErr, length, option_map};
 ghost use Rattle.acn_tree.specs.CanDraw.{CanDraw, FormCanDraw, FieldsCanDraw, AlternativesCanDraw};
-ghost use Rattle.acn_tree.specs.ItemsNamed.{ItemsNamed, FormItemsNamed, FieldsItemsNamed, AlternativesItemsNamed};
+ghost use Rattle.acn_grammar.specs.ItemsNamed.{ItemsNamed, FormItemsNamed, FieldsItemsNamed, AlternativesItemsNamed};
 ghost use Rattle.acn_tree.specs.Made as made;
 ghost use Rattle.acn_tree.specs.MadeMeets.{MeetsButForEnds, EachMadeValueMeets};
 ghost use Rattle.acn_tree.specs.MadeParts.{place_made, choice_made};

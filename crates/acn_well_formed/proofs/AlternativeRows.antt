@@ -1,6 +1,6 @@
 -- Alternatives as a row.
 use Rattle.std.proofs.Common.{◌≡◌, suc, List, [], ◌∷◌, length, refl, ap}
-use Rattle.acn_grammar.specs.Check.{conditions_of}
+use Rattle.acn_grammar.specs.Walk.{conditions_of}
 use Rattle.acn_grammar.specs.View.{alternatives_view}
 use Rattle.acn_grammar.specs.declared.node.Alternative.{Alternative}
 

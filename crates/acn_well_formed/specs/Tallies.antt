@@ -3,6 +3,7 @@ use Rattle.std.specs.Prelude.{ℕ, suc, ◌+◌, ◌-◌, nat_eq, nat_le, nat_lt
 use Rattle.acn_grammar.specs.Grammar.{Grammar, Form, Fields, Alternatives, node, seq, list, choice, contained, no_fields, component, inserted, no_alternatives, alternative}
 use Rattle.acn_grammar.specs.View.{OneField, a_component, an_inserted}
 use Rattle.acn_well_formed.specs.declared.tallies.Tally.{Tally}
+use Rattle.acn_num.specs.declared.limits.TheConstants.{MOST_STEPS}
 
 -- one node more, where one may still come
 abbrev pub spent : Tally → Option Tally
@@ -18,9 +19,9 @@ then_tally None more = None
 then_tally (Some t) more = more t
 
 abbrev mutual
-  -- none where a node is more than 64 steps away, too many nodes come or a slot has not the next number
+  -- none where a node is too many steps away, too many nodes come or a slot has not the next number
   pub tally : (steps : ℕ) → Grammar → Tally → Option Tally
-  tally steps (node align form) t = if nat_le steps 64 then then_tally (spent t) (form_tally (steps + 1) form) else None
+  tally steps (node align form) t = if nat_le steps MOST_STEPS then then_tally (spent t) (form_tally (steps + 1) form) else None
 
   pub form_tally : (steps : ℕ) → Form → Tally → Option Tally
   form_tally steps (seq fields home) t = fields_tally steps fields t

@@ -2,6 +2,7 @@
 #![tactic(auto)]
 
 mod homes;
+mod names;
 mod node_rules;
 mod tallies;
 mod well_formed;

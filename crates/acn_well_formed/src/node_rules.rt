@@ -1,77 +1,19 @@
 ghost use Rattle.std.specs.Prelude.{◌≡◌, ◌&&◌, ◌-◌, nat_lt, length, map};
 ghost use Rattle.std.specs.List.{list_all, list_any};
-ghost use Rattle.acn_grammar.specs.Asks.{same_name};
-ghost use Rattle.acn_grammar.specs.Check.{conditions_of, test_slot as test_slot_of};
+ghost use Rattle.acn_grammar.specs.Check.{test_slot as test_slot_of};
 ghost use Rattle.acn_well_formed.specs.Kept as kept;
-ghost use Rattle.acn_grammar.specs.Leaves.{all_differ};
 ghost use Rattle.acn_grammar.specs.Tree as tree;
 ghost use Rattle.acn_grammar.specs.View.{grammar_of, form_of, field_of, alternative_of, fields_view, alternatives_view};
-ghost use Rattle.acn_grammar.specs.Walk.{presence_tests, slot_of, rule_uses, choice_uses};
+ghost use Rattle.acn_grammar.specs.Walk.{presence_tests, slot_of, rule_uses, choice_uses, conditions_of};
 
+use crate::names::{alternative_names_differ, field_names_differ};
 use acn_grammar::{Alternative, Body, ChoiceRule, Field, Node, NumKind, Presence, SizeRule, Test};
-use acn_leaf::{is_least, list_fine, num_fine, same_text, sizing_fine, text_fine};
+use acn_leaf::{is_least, list_fine, num_fine, sizing_fine, text_fine};
 
 fn is_align(align: u32) -> bool
     ensures { result ≡ tree.is_align align }
 {
     align == 1 || align == 8 || align == 16 || align == 32
-}
-
-fn field_name(field: &Field) -> &[u8]
-    ensures { result.now ≡ kept.name_in (field_of field.now) }
-{
-    match field {
-        Field::Component { name, .. } => name.bytes(),
-        Field::Inserted { name, .. } => name.bytes(),
-    }
-}
-
-// Whether one of the fields has the name.
-fn names_field(name: &[u8], fields: &[Field]) -> bool
-    ensures { result ≡ list_any (same_name name.now) (tree.field_names (fields_view fields.now)) }
-{
-    for field in fields {
-        if same_text(name, field_name(field)) {
-            return true;
-        }
-    }
-    false
-}
-
-// Whether no two fields have one name.
-fn field_names_differ(fields: &[Field]) -> bool
-    ensures { result ≡ all_differ same_name (tree.field_names (fields_view fields.now)) }
-{
-    for at in 0..fields.len() {
-        if names_field(field_name(&fields[at]), &fields[at + 1..]) {
-            return false;
-        }
-    }
-    true
-}
-
-// Whether one of the alternatives has the name.
-fn names_alternative(name: &[u8], alternatives: &[Alternative]) -> bool
-    ensures { result ≡ list_any (same_name name.now) (map (λ c. c.0) (conditions_of (alternatives_view alternatives.now))) }
-{
-    for alternative in alternatives {
-        if same_text(name, alternative.name.bytes()) {
-            return true;
-        }
-    }
-    false
-}
-
-// Whether no two alternatives have one name.
-fn alternative_names_differ(alternatives: &[Alternative]) -> bool
-    ensures { result ≡ all_differ same_name (map (λ c. c.0) (conditions_of (alternatives_view alternatives.now))) }
-{
-    for at in 0..alternatives.len() {
-        if names_alternative(alternatives[at].name.bytes(), &alternatives[at + 1..]) {
-            return false;
-        }
-    }
-    true
 }
 
 // Whether an alternative has conditions.

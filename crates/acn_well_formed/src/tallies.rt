@@ -3,6 +3,7 @@ ghost use Rattle.acn_well_formed.specs.Tallies as tallies;
 ghost use Rattle.acn_grammar.specs.View.{grammar_of, form_of, field_of, fields_view, alternatives_view};
 
 use acn_grammar::{Alternative, Body, Field, Node};
+use acn_num::MOST_STEPS;
 
 /// How many nodes may still come, and the number of the next slot.
 #[derive(Clone, Copy, Debug, PartialEq, Eq)]
@@ -44,13 +45,13 @@ fn numbered(slot: &Option<u32>, before: Tally) -> Option<Tally>
     }
 }
 
-/// Counts the nodes and slots of a tree. None comes exactly where a node is more than 64 steps away,
+/// Counts the nodes and slots of a tree. None comes exactly where a node is more than `MOST_STEPS` steps away,
 /// too many nodes come or a slot doesn't have the next number.
 #[cycle(counted)]
 pub fn count_node(node: &Node, steps: u32, before: Tally) -> Option<Tally>
     ensures { result ≡ tallies.tally steps (grammar_of node.now) before }
 {
-    if steps > 64 {
+    if steps > MOST_STEPS as u32 {
         return None;
     }
     match spent(before) {

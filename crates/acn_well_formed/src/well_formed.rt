@@ -2,7 +2,7 @@
 //!
 //! The definition (specs/Tree) takes the nodes in preorder as a list. The walks don't make that list:
 //!
-//! 1. One walk counts nodes and slots. It stops where a node is more than 64 steps away, a node too many comes or a slot
+//! 1. One walk counts nodes and slots. It stops where a node is more than `MOST_STEPS` steps away, a node too many comes or a slot
 //!    doesn't have the next number. Behind it the slots of the tree are the numbers from 0 up to a count.
 //! 2. One walk tests what concerns each node by itself, and that each slot that a use or a home names is below the count
 //!    and each home rises. So nothing names a slot that step 3 doesn't look at, and a home that rises is the list of the
@@ -24,10 +24,7 @@ ghost use Rattle.acn_grammar.specs.View.{grammar_of};
 use crate::homes::{Sought, look};
 use crate::node_rules::node_kept;
 use crate::tallies::{Tally, count_node};
-use acn_grammar::Node;
-
-/// The greatest number of nodes of a tree.
-const MOST_NODES: u32 = 65536;
+use acn_grammar::{MOST_NODES, Node};
 
 // Whether the home of the slot and all its uses are right.
 fn slot_kept(root: &Node, slot: u32) -> bool

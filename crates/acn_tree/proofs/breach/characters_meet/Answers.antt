@@ -6,8 +6,8 @@ use Rattle.std.proofs.lemmas.Iterator.Adapters.{position_from-zero}
 use Rattle.acn_num.specs.Ranges.{has}
 use Rattle.acn_tree.proofs.breach.characters_meet.Goals as goal
 
-pub returns-then-not-is_in : goal.returns-then-not-is_in
-returns-then-not-is_in c =
+pub returns-then-not-holds_natural : goal.returns-then-not-holds_natural
+returns-then-not-holds_natural c =
     let text = c.args.text.now in
     let i = c.loop-c.c-index in
     let bad : ℕ → Bool = λ x. not (has c.args.alphabet.now (pos x)) in

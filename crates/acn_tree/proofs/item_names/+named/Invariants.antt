@@ -1,5 +1,5 @@
 use Rattle.std.proofs.Common.{◌≡◌, drop}
-use Rattle.acn_tree.specs.ItemsNamed.{fields_items_named, alternatives_items_named}
+use Rattle.acn_grammar.specs.ItemsNamed.{fields_items_named, alternatives_items_named}
 use Rattle.acn_grammar.specs.View.{fields_view, alternatives_view}
 use Rattle.acn_tree.proofs.item_names.+named.Given as goal
 

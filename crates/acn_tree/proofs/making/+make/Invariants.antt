@@ -1,7 +1,7 @@
 use Rattle.std.proofs.Common.{◌≡◌, ◌-◌, ◌++◌, map, drop}
 use Rattle.std.specs.Prelude.{option_map}
 use Rattle.acn_tree.specs.CanDraw.{FieldsCanDraw}
-use Rattle.acn_tree.specs.ItemsNamed.{FieldsItemsNamed}
+use Rattle.acn_grammar.specs.ItemsNamed.{FieldsItemsNamed}
 use Rattle.acn_tree.specs.Made.{made, parts}
 use Rattle.acn_grammar.specs.View.{grammar_of, data_of, fields_view}
 use Rattle.acn_tree.proofs.MadeFields.{places_made}

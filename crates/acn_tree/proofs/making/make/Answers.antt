@@ -1,5 +1,5 @@
 use Rattle.std.proofs.Common.{subst, sym, ap, ◌∙◌}
-use Rattle.acn_tree.specs.ItemsNamed.{ItemsNamed}
+use Rattle.acn_grammar.specs.ItemsNamed.{ItemsNamed}
 use Rattle.acn_tree.specs.Made.{made}
 use Rattle.acn_tree.specs.MadeMeets.{MeetsButForEnds}
 use Rattle.acn_grammar.specs.View.{grammar_of}

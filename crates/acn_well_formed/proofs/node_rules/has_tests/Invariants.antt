@@ -1,6 +1,6 @@
 use Rattle.std.proofs.Common.{◌≡◌, drop}
 use Rattle.std.specs.List.{list_any}
-use Rattle.acn_grammar.specs.Check.{conditions_of}
+use Rattle.acn_grammar.specs.Walk.{conditions_of}
 use Rattle.acn_grammar.specs.Tree.{has_tests}
 use Rattle.acn_grammar.specs.View.{alternatives_view}
 use Rattle.acn_well_formed.proofs.node_rules.has_tests.Given as goal

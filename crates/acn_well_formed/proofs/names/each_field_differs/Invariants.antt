@@ -3,7 +3,7 @@ use Rattle.acn_grammar.specs.Asks.{same_name}
 use Rattle.acn_grammar.specs.Leaves.{all_differ}
 use Rattle.acn_grammar.specs.Tree.{field_names}
 use Rattle.acn_grammar.specs.View.{fields_view}
-use Rattle.acn_well_formed.proofs.node_rules.field_names_differ.Given as goal
+use Rattle.acn_well_formed.proofs.names.each_field_differs.Given as goal
 
 abbrev pub invariant-loop-at : goal.invariant-loop-at
 invariant-loop-at l = all_differ same_name (field_names (fields_view (drop l.at l.fields))) ≡ all_differ same_name (field_names (fields_view l.fields))

@@ -1,4 +1,5 @@
--- Which grammars have enumerations whose items can be named by numbers of 32 bits. (This profile's own.)
+-- Which grammars have enumerations whose items can be named by the numbers of 32 bits that `Value::Item` holds. (This profile's
+-- own.)
 use Rattle.std.specs.Prelude.{◌^◌, nat_lt, length, Bool, true, ◌&&◌, IsTrue}
 use Rattle.acn_grammar.specs.Grammar.{Grammar, Form, Fields, Alternatives, node, num, seq, list, choice, contained, no_fields, component, inserted, no_alternatives, alternative}
 use Rattle.acn_grammar.specs.View.{OneField, a_component, an_inserted}
