@@ -7,14 +7,14 @@ use Rattle.std.proofs.lemmas.Bool.Decides.{nat_tests}
 use Rattle.acn_num.specs.Bits.{is_least_width}
 use Rattle.acn_num.specs.Ranges.{In, are_ranges, all_within}
 use Rattle.acn_grammar.specs.Asks.{same_name}
-use Rattle.acn_grammar.specs.Check.{AsksFor, conditions_of}
+use Rattle.acn_grammar.specs.Check.{AsksFor}
 use Rattle.acn_grammar.specs.Grammar.{Grammar, Form, Fields, Alternatives, node, num, octets, bits, text, seq, list, choice, contained, no_fields, component, inserted, no_alternatives, alternative}
 use Rattle.acn_grammar.specs.Leaves.{num_fine, is_range, no_items, all_differ, no_size, sizes_fine, text_fine, end_fine, is_terminator}
 use Rattle.acn_grammar.specs.Scoped.{Known, after, choose_known, with_own, with_slot}
 use Rattle.acn_grammar.specs.Slots.{slot_leaf, form_leaf, fields_leaf, alternatives_leaf, number_leaf, first_of_two, domain_of, is_slot as if_slot}
 use Rattle.acn_grammar.specs.Sound.{Sound, FormSound, FieldsSound, AlternativesSound, PresenceSound, OwnSound, SaysSlot}
 use Rattle.acn_grammar.specs.Tree.{IsTree, holds, all_true, stand_rules, has_tests, choice_fine, choice_rule_fine, role_fine}
-use Rattle.acn_grammar.specs.Walk.{Stand, Role, a_component, an_inserted, an_alternative, an_element, a_content, root_node, nodes, nodes_of, form_nodes, field_nodes, alternative_nodes, Use, condition, item_of, size_of, slot_of, uses, form_uses, own_tests, rule_uses, choice_uses, presence_tests}
+use Rattle.acn_grammar.specs.Walk.{Stand, Role, a_component, an_inserted, an_alternative, an_element, a_content, root_node, nodes, nodes_of, form_nodes, field_nodes, alternative_nodes, Use, condition, item_of, size_of, slot_of, uses, form_uses, own_tests, rule_uses, choice_uses, presence_tests, conditions_of}
 use Rattle.acn_grammar.specs.declared.node.ChoiceRule.{ChoiceRule}
 use Rattle.acn_grammar.specs.declared.node.ChoiceRule.TheVariants.{Index, Tests, Item}
 use Rattle.acn_grammar.specs.declared.node.NumKind.{NumKind}

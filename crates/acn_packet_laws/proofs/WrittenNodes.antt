@@ -8,7 +8,7 @@ use Rattle.acn_num.specs.Bits.{low_bits, bits as bits_of, octets as octets_for, 
 use Rattle.acn_num.specs.Ranges.{In, has}
 use Rattle.acn_grammar.specs.Asks.{Ask, Equal, Avoid, Moment, asks, counts, FieldPaths, field_path, with_fields, presence_asks, size_asks, own_asks, rule_asks, run_moments, moments, form_moments, fields_moments, alternative_moments, same_name, index_of}
 use Rattle.acn_grammar.specs.AsksOn.{MeetsAsk, Meetable, LeastAnswer, on, test_ask_on, presence_asks_on, size_asks_on, own_asks_on, rule_asks_on, run_asks_on, asks_on, form_asks_on, fields_asks_on, alternative_asks_on}
-use Rattle.acn_grammar.specs.Check.{conditions_of}
+use Rattle.acn_grammar.specs.Walk.{conditions_of}
 use Rattle.acn_grammar.specs.Code.{Written, Code, NumberOf}
 use Rattle.acn_grammar.specs.Env.{Env, at_slot, Holds, AllHold, MayBeThere, MayBeAway}
 use Rattle.acn_grammar.specs.Grammar.{Grammar, Form, Fields, Alternatives, Data, Places, Elements, node, num, octets, bits, text, seq, list, choice, contained, no_fields, component, inserted, no_alternatives, alternative, int, boolean, item, null, octet_string, bit_string, characters, record_of, list_of, alt, no_places, empty, filled, no_elements, element, element_count}
