@@ -4,7 +4,7 @@ use Rattle.std.proofs.lemmas.List.{length-take-le, drop-drop}
 use Rattle.std.proofs.lemmas.Int.{ints}
 use Rattle.std.proofs.lemmas.Bool.Decides.{nat_tests}
 use Rattle.acn_num.specs.Bits.{number, signed_number, IsNumber, IsSigned}
-use Rattle.acn_bits.specs.Reading.{Reading, passed}
+use Rattle.acn_bits.specs.Reading.{Reading, passed, Reads}
 use Rattle.acn_bits.proofs.BitLists.{number_below}
 use Rattle.acn_bits.proofs.Loads.{take_add}
 use Rattle.acn_grammar.specs.Code.{Any, CodingCode, Counted}
@@ -12,7 +12,7 @@ use Rattle.acn_grammar.specs.LeafFails.{NoneHas, CountedFails, Reason, short, no
 use Rattle.acn_grammar.specs.Length.{least_octets, least_signed_octets}
 use Rattle.acn_grammar.specs.declared.node.NumLeaf.{NumLeaf}
 use Rattle.acn_grammar.specs.declared.node.NumCoding.TheVariants.{CountedFrom, CountedSigned}
-use Rattle.acn_ints.specs.Reads.{Reads, IsSaid, Refuses}
+use Rattle.acn_ints.specs.Reads.{IsSaid, Refuses}
 use Rattle.acn_grammar.specs.ReadFaults.{reason_of}
 use Rattle.acn_grammar.specs.declared.read_fault.ReadFault.{ReadFault}
 use Rattle.acn_grammar.specs.declared.read_fault.ReadFault.TheVariants.{Short}

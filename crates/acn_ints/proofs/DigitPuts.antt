@@ -6,7 +6,7 @@ use Rattle.std.proofs.Math.Nat.{pow-suc, mod-eq_of_lt, pow-le-pow_right, mul-le-
 use native.Mathlib.Decide.{dec_lt}
 use Rattle.std.proofs.Math.Nat.{div-add-mod}
 use Rattle.acn_num.specs.Bits.{low_bits, number}
-use Rattle.acn_bits.specs.Writing.{Writes, place_of}
+use Rattle.acn_bits.specs.Writing.{Writes, place_of, Puts}
 use Rattle.acn_bits.specs.declared.write_cursor.WriteCursor.{WriteCursor}
 use Rattle.acn_bits.proofs.BitLists.{length-low_bits, low_bits-number, number_below}
 use Rattle.acn_grammar.specs.Code.{Written, CodingCode, decimal_number, AreDigits, IsMinimal, SignOctet, nibbles, digit_octets}
@@ -17,7 +17,6 @@ use Rattle.acn_grammar.specs.declared.node.NumCoding.TheVariants.{Bcd, BcdEnded,
 use Rattle.acn_ints.specs.DigitWrites.{low_digits}
 use Rattle.acn_ints.specs.EndedReads.{digit_codes, AreDecimal, sign_code}
 use Rattle.acn_ints.specs.Limits.{CanWrite, DigitsFit, SignedDigitsFit}
-use Rattle.acn_ints.specs.Pieces.{Puts}
 use Rattle.acn_ints.proofs.EndedCodes.{nibbles-codes, octets-codes}
 use Rattle.acn_ints.proofs.EndedLemmas.{codes-append}
 use Rattle.acn_ints.proofs.Writings.{writes_twice}

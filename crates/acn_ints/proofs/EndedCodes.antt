@@ -4,7 +4,7 @@ use Rattle.std.specs.Prelude.{Result, Ok, Err, IfOk, IfErr}
 use Rattle.std.proofs.lemmas.List.{length-take-le}
 use Rattle.std.proofs.Math.Seq.{take-append_seam}
 use Rattle.acn_num.specs.Bits.{number, low_bits}
-use Rattle.acn_bits.specs.Reading.{Reading}
+use Rattle.acn_bits.specs.Reading.{Reading, Reads}
 use Rattle.acn_bits.proofs.BitLists.{number_same, number-low_bits, length-low_bits}
 use Rattle.acn_bits.proofs.Loads.{small}
 use Rattle.acn_grammar.specs.Code.{Any, CodingCode, IsMinimal, InMinimalDigits, nibbles, digit_octets}
@@ -17,7 +17,7 @@ use Rattle.acn_grammar.specs.declared.read_fault.ReadFault.{ReadFault}
 use Rattle.acn_grammar.specs.declared.read_fault.ReadFault.TheVariants.{NotMinimal}
 use Rattle.acn_ints.specs.declared.said.Said.{Said}
 use Rattle.acn_ints.specs.EndedReads.{digit_codes, AreDecimal, NoDigit, PassedEnded, CharacterWrong, EndedWrong, IsSignedValue}
-use Rattle.acn_ints.specs.Reads.{Reads, IsSaid, Refuses}
+use Rattle.acn_ints.specs.Reads.{IsSaid, Refuses}
 use Rattle.acn_ints.proofs.SaidLemmas.{reads_map}
 
 -- the two ways to write digits are one

@@ -4,7 +4,7 @@ use Rattle.std.proofs.Math.Nat.{pow-le-pow_right, pow-suc}
 use Rattle.std.proofs.lemmas.List.{drop-drop, drop-take, take-take, length-take-le}
 use native.Mathlib.Decide.{dec_lt}
 use Rattle.acn_num.specs.Bits.{number, low_bits}
-use Rattle.acn_bits.specs.Reading.{Reading, passed}
+use Rattle.acn_bits.specs.Reading.{Reading, passed, Reads, Stays}
 use Rattle.acn_bits.proofs.BitLists.{number_same, number-low_bits, length-low_bits}
 use Rattle.acn_bits.proofs.Loads.{take_add, small}
 use Rattle.acn_grammar.specs.Code.{decimal_number, IsMinimal}
@@ -14,7 +14,6 @@ use Rattle.std.specs.Prelude.{Result, Ok, Err, IfOk, OnErr}
 use Rattle.acn_grammar.specs.declared.read_fault.ReadFault.{ReadFault}
 use Rattle.acn_ints.specs.declared.ended.Ended.{Ended}
 use Rattle.acn_ints.specs.FixedReads.{Taken}
-use Rattle.acn_ints.specs.Reads.{Reads, Stays}
 use Rattle.acn_ints.specs.EndedReads.{digit_codes, AreDecimal, NoDigit, PassedDigit, PassedEnd, PassedRest, PassedEnded, RestWrong, CharacterWrong, EndedWrong, AreSoFar, starts_with_zero}
 use Rattle.acn_ints.proofs.SaidLemmas.{reads_passed, stays_twice, taken_stays}
 

@@ -2,7 +2,7 @@
 use Rattle.std.proofs.Common.{◌≡◌, ℕ, ◌+◌, ◌≤◌, ℤ, Bool, List, [], ◌++◌, length, take, refl, sym, ap, ◌∙◌, subst, inl, inr, arith, take-append-drop, append_assoc, length-append, Result, Ok, Err, IfOk}
 use Rattle.std.specs.Prelude.{IfErr, OnErr, Some}
 use Rattle.std.proofs.lemmas.List.{length-take-le}
-use Rattle.acn_bits.specs.Reading.{Reading, passed}
+use Rattle.acn_bits.specs.Reading.{Reading, passed, Reads, Stays}
 use Rattle.acn_num.specs.Ranges.{In}
 use Rattle.acn_grammar.specs.Code.{Code, Any, CodingCode, image_of}
 use Rattle.acn_grammar.specs.LeafFails.{CodingFails, FixedFails, Reason, says, wrong, out_of_range, most_digits}
@@ -12,7 +12,7 @@ use Rattle.acn_grammar.specs.declared.read_fault.ReadFault.{ReadFault}
 use Rattle.acn_grammar.specs.declared.node.NumLeaf.{NumLeaf}
 use Rattle.acn_grammar.specs.declared.node.NumCoding.{NumCoding}
 use Rattle.acn_ints.specs.declared.said.Said.{Said}
-use Rattle.acn_ints.specs.Reads.{Reads, Stays, IsSaid, Refuses}
+use Rattle.acn_ints.specs.Reads.{IsSaid, Refuses}
 use Rattle.acn_ints.specs.FixedReads.{Taken, TooFew, FixedSaid, FixedWrong}
 
 pub reads_passed : (P : List Bool → Type 0) (n : ℕ) (old new : Reading) → n ≤ length old.rest → new ≡ passed n old → P (take n old.rest) → Reads P old new

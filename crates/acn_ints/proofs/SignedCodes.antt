@@ -3,7 +3,7 @@ use Rattle.std.proofs.Common.{◌≡◌, ℕ, zero, suc, ◌+◌, ◌*◌, ◌<�
 use Rattle.std.specs.Prelude.{Result, Ok, Err, IfOk, IfErr}
 use Rattle.std.proofs.lemmas.List.{length-take-le, drop-take, take-take}
 use Rattle.acn_num.specs.Bits.{number, low_bits}
-use Rattle.acn_bits.specs.Reading.{Reading, passed}
+use Rattle.acn_bits.specs.Reading.{Reading, passed, Reads, Stays}
 use Rattle.acn_bits.proofs.BitLists.{number_same}
 use Rattle.acn_grammar.specs.Code.{Any, CodingCode, InMinimalDigits, SignOctet, digit_octets}
 use Rattle.acn_grammar.specs.Images.{images_of}
@@ -16,7 +16,7 @@ use Rattle.acn_ints.specs.declared.said.Said.{Said}
 use Rattle.acn_ints.specs.EndedReads.{PassedEnded, EndedWrong, PassedSign, SignWrong, IsSignedValue, sign_code}
 use Rattle.acn_ints.specs.DigitReads.{groups, AreRead}
 use Rattle.acn_ints.specs.FixedReads.{FixedSaid, FixedWrong}
-use Rattle.acn_ints.specs.Reads.{Reads, Stays, IsSaid, Refuses}
+use Rattle.acn_ints.specs.Reads.{IsSaid, Refuses}
 use Rattle.acn_ints.proofs.DigitLemmas.{groups-take, octets-groups, digits_from, small_digits, octets-joined}
 use Rattle.acn_ints.proofs.EndedCodes.{octet_style, ended_wrong, ended_not_minimal, ended_out_of_range, ended_read, NotShortest}
 use Rattle.acn_ints.proofs.EndedLemmas.{passed_twice}

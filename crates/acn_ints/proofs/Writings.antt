@@ -3,7 +3,7 @@ use Rattle.std.proofs.Common.{◌≡◌, ℕ, ◌+◌, ◌*◌, ◌^◌, ◌<◌
 use Rattle.std.proofs.lemmas.List.{take_at}
 use Rattle.acn_num.specs.Bits.{number, signed_number, low_bits, bits, IsNumber, IsSigned}
 use Rattle.acn_bits.specs.Overwrite.{overwritten}
-use Rattle.acn_bits.specs.Writing.{Writes, place_of}
+use Rattle.acn_bits.specs.Writing.{Writes, place_of, Puts}
 use Rattle.acn_bits.specs.declared.write_cursor.WriteCursor.{WriteCursor}
 use Rattle.acn_bits.proofs.BitLists.{length-low_bits, number_below}
 use Rattle.acn_bits.proofs.Parts.{overwritten-append, length-overwritten}
@@ -11,7 +11,6 @@ use Rattle.acn_grammar.specs.Code.{Written, CodingCode, Counted}
 use Rattle.acn_grammar.specs.Length.{least_octets, least_signed_octets}
 use Rattle.acn_ints.specs.Limits.{CanWrite}
 use Rattle.acn_grammar.specs.declared.node.NumCoding.TheVariants.{CountedFrom, CountedSigned}
-use Rattle.acn_ints.specs.Pieces.{Puts}
 use Rattle.acn_ints.proofs.PieceLemmas.{low_is_number, low_same}
 use Rattle.acn_ints.proofs.CountedCodes.{least_octets_le, least_signed_le, signed_within}
 

@@ -2,10 +2,9 @@
 use Rattle.std.specs.Prelude.{◌≡◌, ℕ, ◌+◌, ◌-◌, ◌<◌, ◌≤◌, ℤ, pos, neg_ℤ, nat_eq, Bool, true, false, List, [], ◌∷◌, ◌++◌, length, take, drop, ◌⊎◌}
 use Rattle.std.specs.List.{AllByRecursion, flat_map}
 use Rattle.acn_num.specs.Bits.{number, low_bits}
-use Rattle.acn_bits.specs.Reading.{Reading, passed}
+use Rattle.acn_bits.specs.Reading.{Reading, passed, Reads}
 use Rattle.acn_grammar.specs.Code.{decimal_number, IsMinimal}
 use Rattle.acn_grammar.specs.LeafFails.{Reason, short, bad_digit, too_long, EndAt}
-use Rattle.acn_ints.specs.Reads.{Reads}
 use Rattle.acn_ints.specs.declared.ended.Character.{Character}
 use Rattle.acn_ints.specs.declared.ended.Character.TheVariants.{Digit, End}
 

@@ -2,8 +2,6 @@
 use Rattle.std.specs.Prelude.{◌≡◌, ℕ, ◌+◌, ◌<◌, ◌≤◌, ◌^◌, ℤ, Bool, List, length, Some}
 use Rattle.acn_num.specs.Bits.{low_bits, number}
 use Rattle.acn_num.specs.Ranges.{In}
-use Rattle.acn_bits.specs.Writing.{Writes, place_of}
-use Rattle.acn_bits.specs.declared.write_cursor.WriteCursor.{WriteCursor}
 use Rattle.acn_grammar.specs.Code.{Written, CodingCode, image_of}
 use Rattle.acn_grammar.specs.Length.{coding_length}
 use Rattle.acn_ints.specs.Limits.{CanWrite}
@@ -26,20 +24,8 @@ pub record IsPiece (coding : NumCoding) (little : Bool) (y : ℤ) (width value :
   pub long : width ≡ coding_length coding y
   pub spells : CodingCode Written coding little y (low_bits width value)
 
--- bits that have the property were written next, and nothing else changed
-pub record Puts {N : ℕ} (P : List Bool → Type 0) (old new : WriteCursor N) : Type 0 where
-  pub code : List Bool
-  pub writes : Writes old new (place_of old) code (place_of old + length code)
-  pub holds : P code
-
 -- the lowest bits of the value are these bits
 pub record IsBits (bs : List Bool) (width value : ℕ) : Type 0 where
   pub long : width ≡ length bs
   pub small : width ≤ 64
   pub same : value ≡ number bs
-
--- bits that have the property were written from a place on, and nothing else changed
-pub record Fills {N : ℕ} (P : List Bool → Type 0) (at : ℕ) (old new : WriteCursor N) : Type 0 where
-  pub code : List Bool
-  pub writes : Writes old new at code (place_of old)
-  pub holds : P code

@@ -1,22 +1,10 @@
 -- What reading a number leaf gives.
 use Rattle.std.specs.Prelude.{◌≡◌, ℕ, ◌+◌, ℤ, Bool, List, ◌++◌, length}
-use Rattle.acn_bits.specs.Reading.{Reading}
+use Rattle.acn_bits.specs.Reading.{Reading, Reads}
 use Rattle.acn_grammar.specs.Code.{Any, CodingCode}
 use Rattle.acn_grammar.specs.LeafFails.{NoneHas, Reason, LeafFails, CodingFails, out_of_range}
 use Rattle.acn_grammar.specs.declared.node.NumLeaf.{NumLeaf}
 use Rattle.acn_grammar.specs.declared.node.NumCoding.{NumCoding}
-
--- the reader has passed exactly a front that has the property
-pub record Reads (P : List Bool → Type 0) (old new : Reading) : Type 0 where
-  pub front : List Bool
-  pub split : old.rest ≡ front ++ new.rest
-  pub moved : new.at ≡ old.at + length front
-  pub window : new.origin ≡ old.origin
-  pub holds : P front
-
--- the reader stands somewhere in its window
-abbrev pub Stays : Reading → Reading → Type 0
-Stays old new = Reads (λ _. Unit {0}) old new
 
 -- the first reason why the bits are no code, and it rests on some of them
 abbrev pub Refuses : NumCoding → NumLeaf → List Bool → Reason → Type 0

@@ -6,7 +6,8 @@ ghost use Rattle.acn_ints.specs.Limits.{CanWrite};
 ghost use Rattle.acn_grammar.specs.ReadFaults.{reason_of};
 ghost use Rattle.acn_ints.specs.Limits.{IsNear, IsEnd};
 ghost use Rattle.acn_ints.specs.FixedReads.{Taken};
-ghost use Rattle.acn_ints.specs.Reads.{Stays, IsSaid, Refuses};
+ghost use Rattle.acn_bits.specs.Reading.{Stays};
+ghost use Rattle.acn_ints.specs.Reads.{IsSaid, Refuses};
 ghost use Rattle.acn_ints.specs.Counts.{CountWrong, IsCount};
 
 use crate::fixed::bits_of;

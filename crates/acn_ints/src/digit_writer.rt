@@ -1,5 +1,5 @@
 ghost use Rattle.std.specs.Prelude.{◌≡◌, ◌+◌, ◌-◌, ◌*◌, ◌/◌, ◌%◌, ◌^◌, ◌<◌, ◌≤◌, ℤ, pos, length, true, false, nat_abs, int_lt};
-ghost use Rattle.acn_bits.specs.Writing.{place_of, Writes};
+ghost use Rattle.acn_bits.specs.Writing.{place_of, Writes, Puts};
 ghost use Rattle.acn_num.specs.Bits.{low_bits};
 ghost use Rattle.acn_grammar.specs.Code.{Written, CodingCode};
 ghost use Rattle.acn_grammar.specs.Length.{coding_length, digit_count};
@@ -7,7 +7,6 @@ ghost use Rattle.acn_grammar.specs.declared.node.NumCoding.TheVariants.{Bcd, Bcd
 ghost use Rattle.acn_ints.specs.DigitWrites.{low_digits};
 ghost use Rattle.acn_ints.specs.EndedReads.{digit_codes, sign_code};
 ghost use Rattle.acn_ints.specs.Limits.{CanWrite, DigitsFit, SignedDigitsFit, EndFits};
-ghost use Rattle.acn_ints.specs.Pieces.{Puts};
 
 use crate::most::digits_of;
 use crate::ordered::pattern_number;

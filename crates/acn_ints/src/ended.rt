@@ -3,7 +3,7 @@ ghost use Rattle.acn_num.specs.Bits.{number};
 ghost use Rattle.acn_grammar.specs.Code.{IsMinimal};
 ghost use Rattle.acn_grammar.specs.ReadFaults.{reason_of};
 ghost use Rattle.acn_ints.specs.EndedReads.{AreSoFar, PassedCharacter, PassedRest, PassedEnded, RestWrong, CharacterWrong, EndedWrong};
-ghost use Rattle.acn_ints.specs.Reads.{Stays};
+ghost use Rattle.acn_bits.specs.Reading.{Stays};
 
 use crate::fixed::bits_of;
 use crate::ordered::pattern_number;

@@ -7,7 +7,8 @@ ghost use Rattle.acn_grammar.specs.declared.node.NumCoding.TheVariants.{BcdEnded
 ghost use Rattle.acn_ints.specs.EndedReads.{PassedSign, SignWrong, IsSignedValue};
 ghost use Rattle.acn_ints.specs.FixedReads.{FixedSaid, FixedWrong};
 ghost use Rattle.acn_ints.specs.Limits.{IsNear, SignedDigitsFit, EndFits};
-ghost use Rattle.acn_ints.specs.Reads.{Stays, IsSaid, Refuses};
+ghost use Rattle.acn_bits.specs.Reading.{Stays};
+ghost use Rattle.acn_ints.specs.Reads.{IsSaid, Refuses};
 
 use crate::digits::read_digits;
 use crate::ended::{Ended, read_ended};

@@ -1,12 +1,11 @@
 ghost use Rattle.std.specs.Prelude.{◌≡◌, ◌+◌, ◌*◌, ◌^◌, ◌<◌, ◌≤◌, IfOk, IsTrue, Some, length, take};
-ghost use Rattle.acn_bits.specs.Writing.{place_of, Writes};
+ghost use Rattle.acn_bits.specs.Writing.{place_of, Writes, Fills};
 ghost use Rattle.acn_num.specs.Bits.{bits, low_bits, number};
 ghost use Rattle.acn_num.specs.Ranges.{In};
 ghost use Rattle.acn_grammar.specs.Code.{Code, Written};
 ghost use Rattle.acn_grammar.specs.Interval.{width_of};
 ghost use Rattle.acn_grammar.specs.Leaves.{num_fine};
 ghost use Rattle.acn_grammar.specs.Length.{num_length};
-ghost use Rattle.acn_ints.specs.Pieces.{Fills};
 
 use crate::writer::{check_permitted, put_num};
 use acn_bits::{Hole, ReadCursor, WriteCursor};

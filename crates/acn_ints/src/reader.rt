@@ -3,7 +3,8 @@ ghost use Rattle.acn_grammar.specs.Leaves.{num_fine};
 ghost use Rattle.acn_grammar.specs.Code.{Code, Any};
 ghost use Rattle.acn_grammar.specs.ReadFaults.{reason_of};
 ghost use Rattle.acn_ints.specs.Limits.{LeafFits, IsNear};
-ghost use Rattle.acn_ints.specs.Reads.{Reads, Stays, IsSaid, Refuses, Refused};
+ghost use Rattle.acn_bits.specs.Reading.{Reads, Stays};
+ghost use Rattle.acn_ints.specs.Reads.{IsSaid, Refuses, Refused};
 
 use crate::counted::{read_counted_from, read_counted_signed};
 use crate::digits::{read_ascii, read_bcd};

@@ -1,5 +1,5 @@
 ghost use Rattle.std.specs.Prelude.{◌≡◌, ◌+◌, ◌*◌, ◌^◌, ◌<◌, ◌≤◌, ◌++◌, false, IsTrue, Some, ℕ};
-ghost use Rattle.acn_bits.specs.Writing.{place_of, Writes};
+ghost use Rattle.acn_bits.specs.Writing.{place_of, Writes, Puts};
 ghost use Rattle.acn_num.specs.Bits.{low_bits};
 ghost use Rattle.acn_num.specs.Ranges.{In};
 ghost use Rattle.acn_grammar.specs.Interval.{width_of};
@@ -8,7 +8,7 @@ ghost use Rattle.acn_grammar.specs.declared.node.NumCoding.TheVariants.{CountedF
 ghost use Rattle.acn_grammar.specs.Code.{Code, Written, CodingCode};
 ghost use Rattle.acn_grammar.specs.Length.{coding_length, num_length};
 ghost use Rattle.acn_ints.specs.Limits.{CanWrite, LeafFits, IsEnd};
-ghost use Rattle.acn_ints.specs.Pieces.{CanCode, Puts};
+ghost use Rattle.acn_ints.specs.Pieces.{CanCode};
 
 use crate::counted::{octets_for, signed_octets_for};
 use crate::digit_writer::{

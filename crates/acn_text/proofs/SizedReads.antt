@@ -5,8 +5,7 @@ use Rattle.std.proofs.Math.Seq.{take-add, take-append-add}
 use Rattle.std.proofs.Math.Nat.{mul-le-mul_left}
 use Rattle.acn_num.specs.Bits.{number}
 use Rattle.acn_num.specs.Ranges.{In}
-use Rattle.acn_bits.specs.Reading.{Reading, passed}
-use Rattle.acn_ints.specs.Reads.{Reads, Stays}
+use Rattle.acn_bits.specs.Reading.{Reading, passed, Reads, Stays}
 use Rattle.acn_grammar.specs.Env.{Env}
 use Rattle.acn_grammar.specs.Fails.{Here, RuleFails, NoText, TextFails}
 use Rattle.acn_grammar.specs.LeafFails.{Reason, short, size_out_of_range, bad_character}

@@ -1,9 +1,8 @@
 -- Texts that are written in parts.
 use Rattle.std.proofs.Common.{◌≡◌, ℕ, ◌+◌, ◌*◌, ◌<◌, Bool, List, ◌++◌, length, take, sym, ap, ◌∙◌, subst, arith, get_or}
 use Rattle.acn_num.specs.Bits.{low_bits}
-use Rattle.acn_bits.specs.Writing.{Writes, place_of}
+use Rattle.acn_bits.specs.Writing.{Writes, place_of, Puts}
 use Rattle.acn_bits.specs.declared.write_cursor.WriteCursor.{WriteCursor}
-use Rattle.acn_ints.specs.Pieces.{Puts}
 use Rattle.acn_ints.proofs.Writings.{writes_twice}
 use Rattle.acn_grammar.specs.Length.{text_length}
 use Rattle.acn_grammar.specs.Spell.{character_number}

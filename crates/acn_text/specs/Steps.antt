@@ -3,8 +3,7 @@ use Rattle.std.specs.Prelude.{◌≡◌, ℕ, ◌+◌, ◌-◌, ◌^◌, ◌<◌
 use Rattle.std.specs.List.{AllByRecursion, flat_map}
 use Rattle.acn_num.specs.Bits.{number, low_bits}
 use Rattle.acn_num.specs.Ranges.{In}
-use Rattle.acn_bits.specs.Reading.{Reading, passed}
-use Rattle.acn_ints.specs.Reads.{Reads}
+use Rattle.acn_bits.specs.Reading.{Reading, passed, Reads}
 use Rattle.acn_grammar.specs.Env.{Env}
 use Rattle.acn_grammar.specs.Fails.{Here, SizeFails, CharactersFail}
 use Rattle.acn_grammar.specs.LeafFails.{Reason}

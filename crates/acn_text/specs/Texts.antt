@@ -1,7 +1,6 @@
 -- What reading and writing a text gives.
 use Rattle.std.specs.Prelude.{◌≡◌, ℕ, pos, Bool, List, Option, Some, None, length}
-use Rattle.acn_bits.specs.Reading.{Reading}
-use Rattle.acn_ints.specs.Reads.{Reads}
+use Rattle.acn_bits.specs.Reading.{Reading, Reads}
 use Rattle.acn_grammar.specs.Env.{Env, at_slot}
 use Rattle.acn_grammar.specs.Fails.{Fault, Here, TextFails, seen}
 use Rattle.acn_grammar.specs.LeafFails.{Reason}

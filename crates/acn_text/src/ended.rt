@@ -1,7 +1,7 @@
 ghost use Rattle.std.specs.Prelude.{◌≡◌, ◌&&◌, ◌∷◌, [], ◌<◌, ◌≤◌, IsTrue, IfOk, IfErr, OnOk, OnErr, true, false, pos, List, ℕ, Some, None, ◌⊎◌};
 ghost use Rattle.std.specs.List.{FoldsTo};
 ghost use Rattle.acn_num.specs.Ranges.{In, has, greatest};
-ghost use Rattle.acn_ints.specs.Reads.{Stays};
+ghost use Rattle.acn_bits.specs.Reading.{Stays};
 ghost use Rattle.acn_grammar.specs.Interval.{size_of};
 ghost use Rattle.acn_grammar.specs.LeafFails.{size_out_of_range, bad_character};
 ghost use Rattle.acn_grammar.specs.Leaves.{text_fine};

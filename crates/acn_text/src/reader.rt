@@ -1,6 +1,6 @@
 ghost use Rattle.std.specs.Prelude.{◌≡◌, IsTrue, IfOk, IfErr, OnErr, List, ℕ};
 ghost use Rattle.std.specs.List.{FoldsTo};
-ghost use Rattle.acn_ints.specs.Reads.{Stays};
+ghost use Rattle.acn_bits.specs.Reading.{Stays};
 ghost use Rattle.acn_grammar.specs.Leaves.{text_fine};
 ghost use Rattle.acn_grammar.specs.ReadFaults.{reason_of};
 ghost use Rattle.acn_text.specs.Texts.{IsGiven, PassedText, NoTextAt};

@@ -2,8 +2,7 @@ ghost use Rattle.std.specs.Prelude.{◌≡◌, ◌<◌, ◌≤◌, IsTrue, IfOk,
 ghost use Rattle.std.specs.List.{FoldsTo};
 ghost use Rattle.acn_num.specs.Bits.{number};
 ghost use Rattle.acn_num.specs.Ranges.{In};
-ghost use Rattle.acn_bits.specs.Reading.{passed};
-ghost use Rattle.acn_ints.specs.Reads.{Stays};
+ghost use Rattle.acn_bits.specs.Reading.{passed, Stays};
 ghost use Rattle.acn_grammar.specs.Leaves.{text_fine};
 ghost use Rattle.acn_grammar.specs.ReadFaults.{reason_of};
 ghost use Rattle.acn_text.specs.Texts.{IsGiven};

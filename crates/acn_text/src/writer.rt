@@ -1,7 +1,6 @@
 ghost use Rattle.std.specs.Prelude.{◌≡◌, ◌+◌, ◌-◌, ◌*◌, ◌^◌, ◌<◌, ◌≤◌, IsTrue, length, []};
 ghost use Rattle.acn_num.specs.Bits.{low_bits, number};
-ghost use Rattle.acn_bits.specs.Writing.{place_of, Writes};
-ghost use Rattle.acn_ints.specs.Pieces.{Puts};
+ghost use Rattle.acn_bits.specs.Writing.{place_of, Writes, Puts};
 ghost use Rattle.acn_grammar.specs.Leaves.{text_fine};
 ghost use Rattle.acn_grammar.specs.Length.{text_length, rule_width};
 ghost use Rattle.acn_grammar.specs.Meets.{text_breach};

@@ -1,6 +1,6 @@
 use Rattle.std.proofs.Common.{subst}
 use Rattle.acn_ints.specs.EndedReads.{PassedCharacter}
-use Rattle.acn_ints.specs.Reads.{Stays}
+use Rattle.acn_bits.specs.Reading.{Stays}
 use Rattle.acn_ints.proofs.EndedLemmas.{value_small, upto_next, upto_stays, digit_stays, end_stays, small_at, stays_at}
 use Rattle.acn_ints.proofs.ended.read_ended.Goals as goal
 

@@ -1,7 +1,7 @@
 use Rattle.std.proofs.Common.{subst, List, Bool}
 use Rattle.acn_grammar.specs.ReadFaults.{reason_of}
 use Rattle.acn_ints.specs.EndedReads.{PassedEnded, EndedWrong}
-use Rattle.acn_ints.specs.Reads.{Stays}
+use Rattle.acn_bits.specs.Reading.{Stays}
 use Rattle.acn_ints.proofs.EndedLemmas.{stays_at}
 use Rattle.acn_ints.proofs.SignedCodes.{signed_said_at, signed_not_minimal_at, signed_wrong, sign_wrong, behind_stays, ended_stays}
 use Rattle.acn_ints.proofs.ended_codings.read_signed_ended.Goals as goal
