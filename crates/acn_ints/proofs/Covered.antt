@@ -11,6 +11,7 @@ use Rattle.acn_grammar.specs.Images.{clipped}
 use Rattle.acn_grammar.specs.Leaves.{line_fine, all_differ, share, is_number}
 use Rattle.acn_grammar.proofs.Codings.{both_are, not_is}
 use Rattle.acn_grammar.proofs.LeafLengths.{le_fact}
+use Rattle.std.proofs.lemmas.Bool.{or_parts}
 
 abbrev Line : Type 0
 Line = ℤ × ℤ × ℤ
@@ -108,12 +109,8 @@ covered_count r (l ∷ ls) = count-append (clipped r l) (flat_map (clipped r) ls
 
 -- Two lines have no key in common.
 
-neither : (a b : Bool) → (a || b) ≡ false → (a ≡ false) × (b ≡ false)
-neither true b h = cc
-neither false b h = (refl, h)
-
 apart : (a b : Line) → share a b ≡ false → (b.1 <ℤ a.0) ⊎ (a.1 <ℤ b.0)
-apart a b h = go (int_le a.0 b.1) (int_le b.0 a.1) refl refl (neither (int_le a.0 b.1 && int_le b.0 a.1) (int_le a.2 (b.2 +ℤ (b.1 -ℤ b.0)) && int_le b.2 (a.2 +ℤ (a.1 -ℤ a.0))) h).0
+apart a b h = go (int_le a.0 b.1) (int_le b.0 a.1) refl refl (or_parts (int_le a.0 b.1 && int_le b.0 a.1) (int_le a.2 (b.2 +ℤ (b.1 -ℤ b.0)) && int_le b.2 (a.2 +ℤ (a.1 -ℤ a.0))) h).0
   where
     less : (x y : ℤ) → int_le x y ≡ false → y <ℤ x
     less x y e = grind (arith, ints, nat_tests)
@@ -151,7 +148,7 @@ split_line a b low high h = go (apart a b h)
 split_lines : (a : Line) (ls : List Line) (low high : ℤ) → list_any (share a) ls ≡ false → covered low high ls ≤ covered low (before high a) ls + covered (behind low a) high ls
 split_lines a [] low high h = omega arith
 split_lines a (b ∷ ls) low high h =
-    let f = neither (share a b) (list_any (share a) ls) h in
+    let f = or_parts (share a b) (list_any (share a) ls) h in
     let one = split_line a b low high f.0 in
     let two = split_lines a ls low high f.1 in
     omega (arith, one, two)

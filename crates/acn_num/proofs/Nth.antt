@@ -5,10 +5,11 @@ use Rattle.std.proofs.Common.{inl, inr}
 use Rattle.std.proofs.lemmas.Int.{ints}
 use Rattle.acn_num.specs.Ranges.{Ranges, is_in, has, Above, AreRanges, count, nth, size_of, among, bottom, IsLeastExcept}
 use Rattle.std.specs.Int.RustNames.{unsigned_abs}
-use Rattle.acn_num.proofs.Turns.{size_is, lt_true}
+use Rattle.acn_num.proofs.Turns.{size_is}
 use Rattle.std.specs.Int.{w128}
 use mir.Val.{SFits}
 use Rattle.acn_num.proofs.Members.{in_low, in_high}
+use Rattle.std.proofs.lemmas.Bool.{lt-ltb}
 
 -- a number of the set at its place
 pub record At (s : Ranges) (x : ℤ) : Type 0 where
@@ -27,7 +28,7 @@ some_same : (a b : ℤ) → ◌≡◌ {A = Option ℤ} (Some a) (Some b) → a �
 some_same a b e = cc
 
 nth_here : (r : ℤ × ℤ) (s : Ranges) (n : ℕ) → n < size_of r → nth (r ∷ s) n ≡ Some (r.0 +ℤ pos n)
-nth_here r s n lt = rw (lt_true n (size_of r) lt) refl
+nth_here r s n lt = rw (lt-ltb n (size_of r) lt) refl
 
 nth_later : (r : ℤ × ℤ) (s : Ranges) (n : ℕ) → size_of r ≤ n → nth (r ∷ s) n ≡ nth s (n - size_of r)
 nth_later r s n le = rw (lt_false n (size_of r) le) refl

@@ -8,14 +8,12 @@ use Rattle.std.specs.Int.{w128}
 use mir.Val.{SFits}
 use Rattle.acn_num.specs.Ranges.{Ranges, Above, AreRanges, IsRange, gap, outside_from, outside, top, bottom, count, nth, size_of, greatest}
 use Rattle.acn_num.proofs.Members.{above_weaker}
+use Rattle.std.proofs.lemmas.Bool.{lt-ltb}
 
 pub ranges_above : (b : ℤ) (s : Ranges) (i : ℕ) (d : ℤ × ℤ) → (bottom -ℤ pos 1) ≤ℤ b → Above b s → i < length s → IsRange (get_or s i d)
 ranges_above b [] i d le h inside = absurd (omega arith)
 ranges_above b (r ∷ s) zero d le h inside = (let p = h.0 in record { low = omega (arith, ints); order = h.1; high = h.2 })
 ranges_above b (r ∷ s) (suc i) d le h inside = ranges_above (r.1 +ℤ pos 1) s i d (let p = h.0 in let q = h.1 in omega (arith, ints)) h.3 (omega arith)
-
-pub lt_true : (a b : ℕ) → a < b → nat_lt a b ≡ true
-lt_true a b h = grind arith
 
 -- each range of a set is one
 pub range_at : (items s : Ranges) (i : ℕ) (d : ℤ × ℤ) → items ≡ s → AreRanges s → i < length items → IsRange (get_or items i d)
@@ -63,7 +61,7 @@ count_small s h = (let k = count_above (bottom -ℤ pos 1) s (omega (arith, ints
 pub nth_turn : (items s : Ranges) (i left : ℕ) (got : Option ℤ) → items ≡ s → i < length items → left < size_of (get_or items i (pos 0, pos 0)) → nth (drop i s) left ≡ got → got ≡ Some ((get_or items i (pos 0, pos 0)).0 +ℤ pos left)
 nth_turn items s i left got e inside less so_far =
     subst (λ (z : Ranges). i < length z → left < size_of (get_or z i (pos 0, pos 0)) → got ≡ Some ((get_or z i (pos 0, pos 0)).0 +ℤ pos left)) (sym e)
-    (λ k (l : left < size_of (get_or s i (pos 0, pos 0))). sym so_far ∙ rw (drop_more s i (pos 0, pos 0) k) (rw (lt_true left _ l) refl)) inside less
+    (λ k (l : left < size_of (get_or s i (pos 0, pos 0))). sym so_far ∙ rw (drop_more s i (pos 0, pos 0) k) (rw (lt-ltb left _ l) refl)) inside less
 
 pub greatest_is : (s : Ranges) (x : ℤ × ℤ) → Some x ≡ slice_get s (length s - 1) → Some x.1 ≡ greatest s
 greatest_is [] x e = cc

@@ -10,6 +10,7 @@ use Rattle.acn_grammar.specs.LeafFails.{octet_values}
 use Rattle.acn_grammar.specs.Spell.{octet_numbers, EndsFirst}
 use Rattle.acn_text.proofs.Octets.{octets_few, octets_most, octets_count, octets-take, octets-drop, octets_tell}
 use Rattle.acn_grammar.proofs.Characters.{same_name-is, same_name-refl}
+use Rattle.std.proofs.lemmas.Bool.{false_from_ne_true}
 
 cond_true : (t : Bool) (a : ℕ) (rest : Option ℕ) → t ≡ true → cond t (Some a) rest ≡ Some a
 cond_true true a rest e = refl
@@ -56,10 +57,6 @@ passes_not p a (suc n) j e u v h = by (p a) refl e (λ f g. passes_not p (a + 1)
 pub none_passes : (p : ℕ → Bool) (n j : ℕ) → find p (range_with_len 0 n) ≡ None → j < n → p j ≡ true → ⊥
 none_passes p n j e l h = passes_not p 0 n j e (omega arith) (omega arith) h
 
-pub not_true : (b : Bool) → (b ≡ true → ⊥) → b ≡ false
-not_true true f = absurd (f refl)
-not_true false f = refl
-
 -- The end at a place of the bits, and of their octets.
 
 module _ (end : List Bool) (e : ℕ) (whole : length end ≡ 8 * e) (some : 1 ≤ e) where
@@ -99,7 +96,7 @@ module _ (end : List Bool) (e : ℕ) (whole : length end ≡ 8 * e) (some : 1 �
 
   -- a place that isn't the end's
   is_not : (rest : List Bool) (m j : ℕ) → (j + e ≤ m → 8 * j + length end ≤ length rest → take (length end) (drop (8 * j) rest) ≡ end → ⊥) → same_name (take (length (octet_numbers end)) (drop j (take m (octet_values rest)))) (octet_numbers end) ≡ false
-  is_not rest m j differs = not_true (same_name (take (length (octet_numbers end)) (drop j (take m (octet_values rest)))) (octet_numbers end)) (λ h.
+  is_not rest m j differs = false_from_ne_true (same_name (take (length (octet_numbers end)) (drop j (take m (octet_values rest)))) (octet_numbers end)) (λ h.
       let is = same_name-is (take (length (octet_numbers end)) (drop j (take m (octet_values rest)))) (octet_numbers end) h in
       let room = inside_of rest m j is in
       let near : take (length (octet_numbers end)) (drop j (octet_values rest)) ≡ octet_numbers end =

@@ -16,6 +16,7 @@ use Rattle.acn_grammar.proofs.Texts.{either, above, ranges_from, lt_fact, le_fac
 use Rattle.acn_grammar.proofs.Within.{between}
 use Rattle.acn_text.specs.Texts.{IsGiven}
 use Rattle.acn_text.specs.Steps.{RuleFits, SizeFits}
+use Rattle.std.proofs.lemmas.Bool.{ltb-true, leb-true}
 
 -- the rules by name
 pub record FineText (leaf : TextLeaf) : Type 0 where
@@ -25,19 +26,13 @@ pub record FineText (leaf : TextLeaf) : Type 0 where
   pub small : all_within (pos 0) (pos 127) leaf.alphabet ≡ true
   pub end : end_fine leaf.ended leaf ≡ true
 
-lt_nat : (a b : ℕ) → nat_lt a b ≡ true → a < b
-lt_nat a b h = grind (arith, nat_tests)
-
-le_nat : (a b : ℕ) → nat_le a b ≡ true → a ≤ b
-le_nat a b h = grind (arith, nat_tests)
-
 pub fine_text : (leaf : TextLeaf) → IsTrue (text_fine leaf) → FineText leaf
 fine_text leaf h =
     let a = both_are (sizes_fine leaf.sized.sizes) (nat_lt 0 (length leaf.alphabet) && (are_ranges leaf.alphabet && (all_within (pos 0) (pos 127) leaf.alphabet && end_fine leaf.ended leaf))) h in
     let b = both_are (nat_lt 0 (length leaf.alphabet)) (are_ranges leaf.alphabet && (all_within (pos 0) (pos 127) leaf.alphabet && end_fine leaf.ended leaf)) a.1 in
     let c = both_are (are_ranges leaf.alphabet) (all_within (pos 0) (pos 127) leaf.alphabet && end_fine leaf.ended leaf) b.1 in
     let d = both_are (all_within (pos 0) (pos 127) leaf.alphabet) (end_fine leaf.ended leaf) c.1 in
-    record { sizes = a.0; some = lt_nat 0 (length leaf.alphabet) b.0; ordered = c.0; small = d.0; end = d.1 }
+    record { sizes = a.0; some = ltb-true 0 (length leaf.alphabet) b.0; ordered = c.0; small = d.0; end = d.1 }
 
 -- the rules of one that ends
 pub record FineEnd (leaf : TextLeaf) (end : List Bool) : Type 0 where
@@ -56,8 +51,8 @@ fine_end leaf end f is =
     let c = both_are (not leaf.indexed) (is_terminator end) b.1 in
     let d = both_are (is_pattern end) (nat_eq (length end % 8) 0) c.1 in
     let p = both_are (nat_le 1 (length end)) (nat_le (length end) 64) d.0 in
-    let low = le_nat 1 (length end) p.0 in
-    let high = le_nat (length end) 64 p.1 in
+    let low = leb-true 1 (length end) p.0 in
+    let high = leb-true (length end) 64 p.1 in
     let whole = equal_numbers (length end % 8) 0 d.1 in
     record { rule = a.0; width = equal_numbers leaf.width 8 b.0; plain = not_is leaf.indexed c.0; octets = omega arith; some = omega arith; few = high }
 
@@ -143,9 +138,9 @@ width_by leaf h =
     (λ p.
     let a = both_are (holds_characters (count leaf.alphabet) leaf.width) (same_truth leaf.indexed (is_beyond leaf.width (greatest leaf.alphabet))) p in
     let b = both_are (nat_le (count leaf.alphabet) (2 ^ leaf.width)) (nat_eq leaf.width 0 || nat_lt (2 ^ (leaf.width - 1)) (count leaf.alphabet)) a.0 in
-    fewest_bits (le_nat (count leaf.alphabet) (2 ^ leaf.width) b.0)
+    fewest_bits (leb-true (count leaf.alphabet) (2 ^ leaf.width) b.0)
     (either {F = (leaf.width ≡ 0) ⊎ (2 ^ (leaf.width - 1) < count leaf.alphabet)} (nat_eq leaf.width 0) (nat_lt (2 ^ (leaf.width - 1)) (count leaf.alphabet)) b.1
-    (λ q. inl (equal_numbers leaf.width 0 q)) (λ q. inr (lt_nat (2 ^ (leaf.width - 1)) (count leaf.alphabet) q))) a.1)
+    (λ q. inl (equal_numbers leaf.width 0 q)) (λ q. inr (ltb-true (2 ^ (leaf.width - 1)) (count leaf.alphabet) q))) a.1)
 
 pub width_is : (leaf : TextLeaf) → FineText leaf → WidthIs leaf
 width_is leaf f = by leaf.ended refl
@@ -300,9 +295,9 @@ prefix_is sizes low width h t = by (least sizes) (greatest sizes) refl refl t
           most = z;
           least_is = e ∙ ap Some (sym is);
           greatest_is = f;
-          fits = subst (λ (t : ℤ). distance t z < 2 ^ width) (sym is) (lt_nat (distance a z) (2 ^ width) q.0);
+          fits = subst (λ (t : ℤ). distance t z < 2 ^ width) (sym is) (ltb-true (distance a z) (2 ^ width) q.0);
           few = omega (arith, ints);
-          narrow = narrow_of (distance a z) span (either {F = (width ≡ 0) ⊎ (2 ^ (width - 1) ≤ distance a z)} (nat_eq width 0) (nat_le (2 ^ (width - 1)) (distance a z)) q.1 (λ c. inl (equal_numbers width 0 c)) (λ c. inr (le_nat (2 ^ (width - 1)) (distance a z) c)));
+          narrow = narrow_of (distance a z) span (either {F = (width ≡ 0) ⊎ (2 ^ (width - 1) ≤ distance a z)} (nat_eq width 0) (nat_le (2 ^ (width - 1)) (distance a z)) q.1 (λ c. inl (equal_numbers width 0 c)) (λ c. inr (leb-true (2 ^ (width - 1)) (distance a z) c)));
         }
       where
         span_few : (a z : ℤ) → pos 0 ≤ℤ a → a ≤ℤ z → z ≤ℤ pos 65536 → nat_abs (z -ℤ a) ≤ 65536
