@@ -1,14 +1,13 @@
 -- Nodes that are sound, and some that are not.
-use Rattle.std.proofs.Common.{zero, pos, true, false, [], ◌∷◌, Some, None, refl, arith}
+use Rattle.std.proofs.Common.{zero, pos, false, [], ◌∷◌, None, refl, arith}
 use Rattle.acn_grammar.specs.Grammar.{Fields, no_fields, component}
 use Rattle.acn_grammar.specs.Scoped.{with_slot}
 use Rattle.acn_grammar.specs.Sound.{FieldsSound}
 use Rattle.acn_grammar.specs.declared.node.NumCoding.TheVariants.{PosInt}
 use Rattle.acn_grammar.specs.declared.node.NumKind.TheVariants.{Integer}
 use Rattle.acn_grammar.specs.declared.node.Presence.TheVariants.{When}
-use Rattle.acn_grammar.specs.declared.node.SizeRule.TheVariants.{Prefix, Slot, Ended}
 use Rattle.acn_grammar.specs.declared.node.Test.TheVariants.{Equals}
-use Rattle.acn_packet_laws.specs.RequestRows.{IsSound, behind_len, octets_by_len, leaving, without_item, UnsoundNodesAreTold}
+use Rattle.acn_packet_laws.specs.RequestRows.{IsSound, behind_len, octets_by_len, UnsoundNodesAreTold}
 use Rattle.acn_packet_laws.specs.WorkedRows.{u8}
 use Rattle.acn_packet_laws.proofs.SoundLaws.{second_three, first_five, third_five, fourth_five}
 use Rattle.acn_packet_laws.proofs.Sounding.{got_name, last_two, last_three, last_four}

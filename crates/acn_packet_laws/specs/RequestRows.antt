@@ -4,7 +4,7 @@ use Rattle.acn_num.specs.Bits.{low_bits, bits as bits_of}
 use Rattle.acn_grammar.specs.Asks.{Equal}
 use Rattle.acn_grammar.specs.Fails.{Refusal}
 use Rattle.acn_grammar.specs.Front.{IsWritten}
-use Rattle.acn_grammar.specs.Grammar.{Grammar, Fields, Data, node, num, octets, list, seq, choice, no_fields, component, inserted, no_alternatives, alternative, int, octet_string, record_of, list_of, element, no_elements, filled, no_places}
+use Rattle.acn_grammar.specs.Grammar.{Grammar, Fields, node, num, octets, list, seq, choice, no_fields, component, inserted, no_alternatives, alternative, int, octet_string, list_of, element, no_elements}
 use Rattle.acn_grammar.specs.Interval.{span, value_count}
 use Rattle.acn_grammar.specs.LeafFails.{too_long, size_out_of_range}
 use Rattle.acn_grammar.specs.Meets.{conflict}
