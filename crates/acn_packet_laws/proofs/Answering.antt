@@ -25,7 +25,8 @@ use Rattle.acn_grammar.specs.declared.node.Test.TheVariants.{Flag, Equals}
 use Rattle.acn_grammar.specs.declared.node.TextLeaf.{TextLeaf}
 use Rattle.acn_grammar.proofs.Codings.{equal_numbers}
 use Rattle.acn_grammar.proofs.SpellLength.{Steady, SteadyForm, SteadyFields, SteadyAlternatives}
-use Rattle.acn_packet_laws.proofs.AskHomes.{FormNot, NodeNot, FieldsNot, CasesNot, truth, if_yes, if_no, some_is}
+use Rattle.acn_packet_laws.proofs.Homes.{truth}
+use Rattle.acn_packet_laws.proofs.AskHomes.{FormNot, NodeNot, FieldsNot, CasesNot, if_yes, if_no, some_is}
 use Rattle.acn_packet_laws.proofs.Contents.{content_octets}
 use Rattle.acn_packet_laws.proofs.Items.{item_place}
 use Rattle.acn_packet_laws.proofs.SoundLaws.{first_three, second_three, second_four, third_four}

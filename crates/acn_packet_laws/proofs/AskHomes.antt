@@ -1,19 +1,20 @@
 -- In a tree the slots at home in a SEQUENCE have their fields near in it, and are at home in no SEQUENCE inside it.
-use Rattle.std.proofs.Common.{◌≡◌, ℕ, zero, suc, ◌≤◌, Bool, true, false, not, List, [], ◌∷◌, ◌++◌, length, Option, Some, None, refl, sym, ap, ◌∙◌, arith, nat_eq, ◌&&◌, ◌||◌}
+use Rattle.std.proofs.Common.{◌≡◌, ℕ, suc, ◌≤◌, Bool, true, false, not, List, [], ◌∷◌, ◌++◌, length, Option, Some, None, refl, sym, ap, ◌∙◌, arith, nat_eq}
+use Rattle.std.proofs.lemmas.Bool.{false_from_ne_true, or_parts}
 use Rattle.std.specs.List.{list_any, list_all, range_with_len}
 use Rattle.std.proofs.lemmas.Bool.Decides.{nat_tests}
 use Rattle.std.specs.Prelude.{option_map, if◌then◌else◌}
 use Rattle.acn_grammar.specs.Asks.{steps_to, form_steps, field_steps, at_slot, or_else}
 use Rattle.acn_grammar.specs.Grammar.{Grammar, Form, Fields, Alternatives, node, num, octets, bits, text, seq, list, choice, contained, no_fields, component, inserted, no_alternatives, alternative}
-use Rattle.acn_grammar.specs.Tree.{IsTree, holds, same_numbers, slots_of, is_slot, is_home, encloses, near, near_node, near_form, near_if, slot_list, home_fine, all_true, stand_rules}
+use Rattle.acn_grammar.specs.Tree.{IsTree, holds, same_numbers, slots_of, is_slot, encloses, near, near_node, all_true, stand_rules}
 use Rattle.acn_grammar.specs.Walk.{Stand, Role, a_component, an_inserted, an_alternative, an_element, a_content, root_node, nodes, nodes_of, form_nodes, field_nodes, alternative_nodes}
 use Rattle.acn_grammar.specs.declared.node.Presence.{Presence}
-use Rattle.acn_grammar.specs.declared.node.Presence.TheVariants.{Always, Bit, When}
 use Rattle.acn_grammar.proofs.Codings.{both_are, not_is, equal_numbers}
 use Rattle.acn_grammar.proofs.Texts.{either}
 use Rattle.acn_grammar.proofs.TreeRules.{stand_fine, list_all-append}
+use Rattle.acn_packet_laws.proofs.Homes.{truth}
 use Rattle.acn_packet_laws.proofs.Placed.{any-append, here_at, home_near, home_is, near_parts, near_if_when, tree_numbered, tree_rules}
-use Rattle.acn_packet_laws.proofs.Scoping.{same_eq, false_from}
+use Rattle.acn_packet_laws.proofs.Scoping.{same_eq}
 
 -- The slot whose field is at these steps, through SEQUENCEs alone.
 
@@ -53,10 +54,6 @@ record FormLeads (form : Form) (s : ℕ) (steps : List ℕ) : Type 0 where
 
 pub some_is : {A : Type 0} (x y : A) → Some x ≡ Some y → x ≡ y
 some_is x y e = cc
-
-pub truth : {F : Type 0} (b : Bool) → (b ≡ true → F) → (b ≡ false → F) → F
-truth true f g = f refl
-truth false f g = g refl
 
 pub if_yes : {A : Type 0} (b : Bool) (x y : A) → b ≡ true → (if b then x else y) ≡ x
 if_yes b x y e = rw e refl
@@ -202,12 +199,8 @@ abbrev mutual
   CasesHomes no_alternatives = Unit {0}
   CasesHomes (alternative name g tests more) = NodeHomes g × CasesHomes more
 
-neither : (a b : Bool) → (a || b) ≡ false → (a ≡ false) × (b ≡ false)
-neither true b h = cc
-neither false b h = (refl, h)
-
 none_apart : {A : Type 0} (p : A → Bool) (a b : List A) → list_any p (a ++ b) ≡ false → (list_any p a ≡ false) × (list_any p b ≡ false)
-none_apart p a b h = neither (list_any p a) (list_any p b) (sym (any-append p a b) ∙ h)
+none_apart p a b h = or_parts (list_any p a) (list_any p b) (sym (any-append p a b) ∙ h)
 
 module _ (all : List Stand) (numbered : same_numbers (slots_of all) (range_with_len 0 (length (slots_of all))) ≡ true) (rules : list_all (λ at. all_true (stand_rules all at)) all ≡ true) where
   abbrev passes : Stand → Bool
@@ -219,7 +212,7 @@ module _ (all : List Stand) (numbered : same_numbers (slots_of all) (range_with_
     not_form t (seq fields home) role path around align h i n m =
         let here = here_at role path around align (seq fields home) in
         let fine = stand_fine all here h in (
-          false_from (holds home t) (λ q. let e = (both_are (encloses all t here) (not (list_any (encloses all t) (field_nodes path (home ++ around) 0 fields))) (home_is all numbered rules here fields home fine.home t q)).0 in cc),
+          false_from_ne_true (holds home t) (λ q. let e = (both_are (encloses all t here) (not (list_any (encloses all t) (field_nodes path (home ++ around) 0 fields))) (home_is all numbered rules here fields home fine.home t q)).0 in cc),
           not_fields t fields path (home ++ around) 0 i m,
         )
     not_form t (list sizing g) role path around align h i n m = not_node t g an_element (path ++ 0 ∷ []) around i m
@@ -234,7 +227,7 @@ module _ (all : List Stand) (numbered : same_numbers (slots_of all) (range_with_
     not_node t (node align form) role path around h n =
         let here = here_at role path around align form in
         let a = both_are (passes here) (list_all passes (form_nodes path around form)) h in
-        let b = neither (encloses all t here) (list_any (encloses all t) (form_nodes path around form)) n in
+        let b = or_parts (encloses all t here) (list_any (encloses all t) (form_nodes path around form)) n in
         not_form t form role path around align a.0 a.1 b.0 b.1
 
     not_fields : (t : ℕ) (fs : Fields) (path around : List ℕ) (k : ℕ) → list_all passes (field_nodes path around k fs) ≡ true → list_any (encloses all t) (field_nodes path around k fs) ≡ false → FieldsNot t fs

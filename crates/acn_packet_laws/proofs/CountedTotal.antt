@@ -1,12 +1,12 @@
 -- The same of numbers with a count octet in front.
-use Rattle.std.proofs.Common.{◌≡◌, ℕ, zero, suc, ◌+◌, ◌-◌, ◌*◌, ◌^◌, ◌<◌, ◌≤◌, ℤ, pos, ◌+ℤ◌, Bool, true, false, List, [], ◌∷◌, ◌++◌, length, take, drop, Some, refl, sym, ap, ◌∙◌, arith, append_assoc, length-append, take-append-drop, inl, inr, ◌⊎◌, subst, IsTrue}
+use Rattle.std.proofs.Common.{◌≡◌, ℕ, zero, suc, ◌+◌, ◌-◌, ◌*◌, ◌^◌, ◌<◌, ◌≤◌, ℤ, pos, ◌+ℤ◌, Bool, true, List, ◌++◌, length, take, drop, Some, refl, sym, ap, ◌∙◌, arith, append_assoc, length-append, take-append-drop, inl, inr, ◌⊎◌, subst, IsTrue}
 use Rattle.std.specs.Prelude.{nat_abs}
 use Rattle.std.proofs.lemmas.Int.{ints}
 use Rattle.std.proofs.lemmas.List.{length-take-le, length-drop}
 use Rattle.std.proofs.Math.Nat.{pow-le-pow_right}
 use Rattle.acn_num.specs.Bits.{number, signed_number, IsNumber, IsSigned}
 use Rattle.acn_num.specs.Ranges.{has}
-use Rattle.acn_grammar.specs.Code.{Any, Code, CodingCode, Counted, image_of}
+use Rattle.acn_grammar.specs.Code.{Any, CodingCode, image_of}
 use Rattle.acn_grammar.specs.LeafFails.{Reason, short, out_of_range, not_minimal, too_long, NoneHas, CountedFails}
 use Rattle.acn_grammar.specs.Leaves.{num_fine}
 use Rattle.acn_grammar.specs.Length.{least_octets, least_signed_octets, fits_octets}

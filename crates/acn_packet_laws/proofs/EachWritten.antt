@@ -1,7 +1,6 @@
 -- A value of the tree's form is written, or refused.
-use Rattle.std.proofs.Common.{◌≡◌, ℕ, pos, Bool, List, [], ◌∷◌, ◌++◌, Option, Some, None, refl, sym, ap, ◌∙◌, append_assoc, false, inl, inr, ◌⊎◌, subst}
+use Rattle.std.proofs.Common.{◌≡◌, Bool, List, [], ◌∷◌, ◌++◌, Option, Some, None, refl, sym, ◌∙◌, append_assoc, false, inl, inr, ◌⊎◌, subst}
 use Rattle.std.specs.List.{AllByRecursion}
-use Rattle.acn_num.specs.Ranges.{In}
 use Rattle.acn_grammar.specs.Asks.{Moment, asks, counts, moments}
 use Rattle.acn_grammar.specs.Front.{IsWritten}
 use Rattle.acn_grammar.specs.Meets.{Unfit, breach, breaches, first_of}

@@ -1,5 +1,5 @@
 -- Failures of lists that are ended by a pattern that no element begins with.
-use Rattle.std.proofs.Common.{◌≡◌, ◌≢◌, ℕ, zero, suc, ◌+◌, ◌<◌, ◌≤◌, ℤ, pos, Bool, List, [], ◌∷◌, ◌++◌, length, take, refl, sym, ap, ◌∙◌, arith, inl, inr, ◌⊎◌, subst, length-append, max, IsTrue}
+use Rattle.std.proofs.Common.{◌≡◌, ℕ, zero, suc, ◌+◌, ◌<◌, ◌≤◌, pos, Bool, List, ◌++◌, length, take, sym, ap, ◌∙◌, arith, inl, inr, subst, length-append, max, IsTrue}
 use Rattle.std.proofs.lemmas.List.{length-take}
 use Rattle.acn_num.specs.Ranges.{In, greatest}
 use Rattle.acn_grammar.specs.Fails.{Fault, Failing, Behind, Here, NoEnd, NextFails, EndedFails}

@@ -1,6 +1,6 @@
 -- Lists that are ended by a pattern that no element begins with.
 use Rattle.std.proofs.Common.{◌≡◌, ℕ, Bool, List, [], ◌∷◌, ◌++◌, length, take, refl, sym, ap, ◌∙◌, append_assoc}
-use Rattle.acn_grammar.specs.Grammar.{Data, Elements, no_elements, element, element_count}
+use Rattle.acn_grammar.specs.Grammar.{Data, Elements, no_elements, element}
 use Rattle.acn_grammar.specs.Spell.{Part, ◌then◌, Exactly, RunPart}
 use Rattle.acn_grammar.proofs.Prefix.{Law, then_law}
 

@@ -1,28 +1,26 @@
 -- The same of texts with a terminator, and of all texts.
-use Rattle.std.proofs.Common.{◌≡◌, ℕ, zero, suc, ◌+◌, ◌-◌, ◌*◌, ◌/◌, ◌%◌, ◌<◌, ◌≤◌, pos, Bool, true, false, not, ◌&&◌, List, [], ◌∷◌, ◌++◌, length, take, drop, Option, Some, None, refl, sym, ap, ◌∙◌, arith, append_assoc, length-append, take-append-drop, inl, inr, ◌⊎◌, nat_eq, nat_lt, nat_le, subst, IsTrue}
+use Rattle.std.proofs.Common.{◌≡◌, ℕ, zero, suc, ◌+◌, ◌*◌, ◌/◌, ◌%◌, ◌<◌, ◌≤◌, pos, Bool, true, false, not, ◌&&◌, List, [], ◌∷◌, ◌++◌, length, take, drop, Option, Some, None, refl, sym, ap, ◌∙◌, arith, append_assoc, length-append, take-append-drop, inl, inr, ◌⊎◌, nat_eq, nat_lt, subst}
 use Rattle.std.specs.Prelude.{cond}
 use Rattle.std.specs.List.{find, range_with_len}
 use Rattle.std.proofs.lemmas.Bool.Decides.{nat_tests}
 use Rattle.std.proofs.lemmas.List.{take-append-le, drop-append-le, length-drop, length-take, length-take-le}
 use Rattle.std.proofs.Math.Seq.{take-append_seam, drop-append_seam}
-use Rattle.acn_num.specs.Bits.{number, bits}
+use Rattle.acn_num.specs.Bits.{bits}
 use Rattle.acn_num.specs.Ranges.{In, are_ranges, all_within, greatest}
 use Rattle.acn_grammar.specs.Asks.{same_name}
 use Rattle.acn_grammar.specs.Env.{Env}
 use Rattle.acn_grammar.specs.Fails.{Here, Fault, NoText, found_end, FoundFails, TextFails}
 use Rattle.acn_grammar.specs.Interval.{size_of}
 use Rattle.acn_grammar.specs.LeafFails.{short, too_long, bad_character, size_out_of_range, octet_values}
-use Rattle.acn_grammar.specs.Leaves.{sizes_fine, sizing_fine, text_fine, end_fine, width_fine, rule_fine, no_size, is_terminator, is_pattern}
-use Rattle.acn_grammar.specs.Scoped.{Known, RuleIn}
+use Rattle.acn_grammar.specs.Leaves.{sizes_fine, end_fine, width_fine, rule_fine, no_size, is_terminator, is_pattern}
 use Rattle.acn_grammar.specs.Spell.{CharactersPart, EndsFirst, octet_numbers, EndedPart}
 use Rattle.acn_grammar.specs.declared.node.TextLeaf.{TextLeaf}
 use Rattle.acn_grammar.proofs.Codings.{both_are, not_is, equal_numbers}
-use Rattle.acn_packet_laws.proofs.Envs.{Good, FrontOf, Stuck, says, in_or_not, ASize, size_total}
+use Rattle.acn_packet_laws.proofs.Envs.{FrontOf, Stuck, says, in_or_not, size_total}
 use Rattle.acn_packet_laws.proofs.LeafTotal.{less_or_not, octets_whole}
 use Rattle.acn_packet_laws.proofs.NodeTotal.{TextTotal}
 use Rattle.acn_packet_laws.proofs.TextLaws.{characters_octets, whole_octets}
-use Rattle.acn_packet_laws.proofs.TextTotal.{IsChar, chars_total, one_char, Result, sized_total}
-use Rattle.acn_grammar.proofs.Characters.{same_name-is, same_name-refl}
+use Rattle.acn_packet_laws.proofs.TextTotal.{chars_total, one_char, Result, sized_total}
 
 -- The first place that passes.
 

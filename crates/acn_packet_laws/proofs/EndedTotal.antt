@@ -1,13 +1,12 @@
 -- The same of numbers with an end behind them, character by character.
-use Rattle.std.proofs.Common.{◌≡◌, ℕ, zero, suc, ◌+◌, ◌-◌, ◌*◌, ◌^◌, ◌<◌, ◌≤◌, max, ℤ, pos, Bool, true, false, List, [], ◌∷◌, ◌++◌, length, take, drop, Some, refl, sym, ap, ◌∙◌, arith, append_assoc, append-nil, length-append, take-append-drop, inl, inr, ◌⊎◌, subst, IsTrue}
+use Rattle.std.proofs.Common.{◌≡◌, ℕ, zero, suc, ◌+◌, ◌<◌, ◌≤◌, max, ℤ, pos, Bool, true, false, List, [], ◌∷◌, ◌++◌, length, take, drop, Some, refl, sym, ap, ◌∙◌, arith, append_assoc, append-nil, length-append, take-append-drop, inl, inr, ◌⊎◌, subst, IsTrue}
 use Rattle.std.specs.Prelude.{neg_ℤ}
-use Rattle.std.specs.List.{AllByRecursion}
-use Rattle.std.proofs.lemmas.List.{length-take-le, length-drop}
+use Rattle.std.proofs.lemmas.List.{length-take-le}
 use Rattle.acn_num.specs.Bits.{number, low_bits}
 use Rattle.acn_num.specs.Ranges.{has}
-use Rattle.acn_grammar.specs.Code.{Any, Code, CodingCode, SignOctet, image_of, decimal_number, IsMinimal, nibbles, digit_octets, InMinimalDigits}
+use Rattle.acn_grammar.specs.Code.{Any, CodingCode, SignOctet, image_of, decimal_number, IsMinimal, nibbles, digit_octets}
 use Rattle.acn_grammar.specs.Images.{images_of}
-use Rattle.acn_grammar.specs.LeafFails.{Reason, short, out_of_range, not_minimal, bad_digit, too_long, NoneHas, DigitAt, EndAt, CharacterFails, EndedFails, Positive, Negative, BehindSign, AsciiEndedFails, most_digits}
+use Rattle.acn_grammar.specs.LeafFails.{Reason, short, out_of_range, not_minimal, bad_digit, too_long, NoneHas, DigitAt, EndAt, CharacterFails, EndedFails, Positive, Negative, AsciiEndedFails, most_digits}
 use Rattle.acn_grammar.specs.Leaves.{num_fine}
 use Rattle.acn_grammar.specs.declared.node.NumCoding.{NumCoding}
 use Rattle.acn_grammar.specs.declared.node.NumCoding.TheVariants.{BcdEnded, AsciiEnded}

@@ -1,14 +1,15 @@
 -- Envs whose numbers move: the same slots, other permitted numbers.
-use Rattle.std.proofs.Common.{◌≡◌, ℕ, zero, suc, ◌+◌, ◌-◌, ◌*◌, ◌%◌, ◌<◌, ◌≤◌, ℤ, pos, negsuc, Bool, true, false, not, ◌&&◌, ◌||◌, List, [], ◌∷◌, ◌++◌, length, take, drop, Option, Some, None, refl, sym, ap, ◌∙◌, arith, inl, inr, ◌⊎◌, nat_eq, subst, take-append-drop, IsTrue}
+use Rattle.std.proofs.Common.{◌≡◌, ℕ, suc, ◌+◌, ◌<◌, ◌≤◌, ℤ, pos, negsuc, Bool, true, false, not, ◌&&◌, ◌||◌, List, [], ◌∷◌, ◌++◌, length, take, drop, Option, Some, None, refl, sym, ap, ◌∙◌, arith, inl, inr, ◌⊎◌, nat_eq, subst, take-append-drop}
+use Rattle.std.proofs.lemmas.Bool.{or_left, or_parts, or_right}
 use Rattle.std.specs.Prelude.{if◌then◌else◌, ◌<ℤ◌, ◌≤ℤ◌, int_le}
 use Rattle.std.specs.List.{zip, AllByRecursion}
 use Rattle.std.proofs.lemmas.Int.{ints}
-use Rattle.std.proofs.lemmas.List.{length-take, length-take-le, length-drop}
-use Rattle.acn_num.specs.Bits.{number, IsNumber}
+use Rattle.std.proofs.lemmas.List.{length-take-le}
+use Rattle.acn_num.specs.Bits.{number}
 use Rattle.acn_num.specs.Ranges.{In, has, are_ranges, all_within}
 use Rattle.acn_grammar.specs.Env.{Env, at_slot}
-use Rattle.acn_grammar.specs.Fails.{Failing, Here, Fault, Short, Says, seen, RuleFails, SizeFails, kept}
-use Rattle.acn_grammar.specs.Grammar.{Grammar, Data}
+use Rattle.acn_grammar.specs.Fails.{Failing, Here, Fault, seen, RuleFails, SizeFails, kept}
+use Rattle.acn_grammar.specs.Grammar.{Grammar}
 use Rattle.acn_grammar.specs.LeafFails.{Reason, short, size_out_of_range}
 use Rattle.acn_grammar.specs.Leaves.{sizes_fine, sizing_fine, rule_fine}
 use Rattle.acn_grammar.specs.Scoped.{Known, RuleIn, Permitted}
@@ -20,7 +21,7 @@ use Rattle.acn_grammar.specs.declared.node.SizeRule.{SizeRule}
 use Rattle.acn_grammar.specs.declared.node.SizeRule.TheVariants.{Prefix, Slot, Ended}
 use Rattle.acn_grammar.proofs.Codings.{both_are, equal_numbers}
 use Rattle.acn_packet_laws.proofs.LeafTotal.{less_or_not}
-use Rattle.acn_packet_laws.proofs.Moves.{or_left, or_right, or_none, or_either, self_eq}
+use Rattle.acn_packet_laws.proofs.Moves.{or_either, self_eq}
 
 abbrev pub SameKeys : Env → Env → Type 0
 SameKeys [] [] = Unit {0}
@@ -62,7 +63,7 @@ keys_none (e ∷ env) (e' ∷ env') s k h = by (nat_eq e.0 s) refl h (λ g. keys
 extended : (home : List ℕ) (xs : List ℤ) (env : Env) (s : ℕ) → holds home s ≡ false → at_slot (with_home home xs env) s ≡ at_slot env s
 extended [] xs env s h = refl
 extended (k ∷ home) [] env s h = refl
-extended (k ∷ home) (x ∷ xs) env s h = (let n = or_none (nat_eq k s) (holds home s) h in rw n.0 (extended home xs env s n.1))
+extended (k ∷ home) (x ∷ xs) env s h = (let n = or_parts (nat_eq k s) (holds home s) h in rw n.0 (extended home xs env s n.1))
 
 home_has : (home : List ℕ) (xs : List ℤ) (env : Env) (s : ℕ) → length xs ≡ length home → holds home s ≡ true → (x : ℤ) × (at_slot (with_home home xs env) s ≡ Some x)
 home_has [] xs env s l h = cc
@@ -137,7 +138,7 @@ module _ (root : Grammar) where
   good_home keys home n env g = record {
     permitted = permitted_whole home n.numbers env n.permitted g.permitted;
     have = λ s h. by s (holds home s) refl h;
-    only = λ s h. (let o = or_none (holds home s) (keys s) h in extended home n.numbers env s o.0 ∙ g.only s o.1);
+    only = λ s h. (let o = or_parts (holds home s) (keys s) h in extended home n.numbers env s o.0 ∙ g.only s o.1);
   }
     where
       by : (s : ℕ) (t : Bool) → holds home s ≡ t → (t || keys s) ≡ true → (x : ℤ) × (at_slot (with_home home n.numbers env) s ≡ Some x)

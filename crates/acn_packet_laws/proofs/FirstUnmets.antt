@@ -1,5 +1,5 @@
 -- Each moment of a walk can be met after those before it, or one is the first that can't.
-use Rattle.std.proofs.Common.{◌≡◌, ℕ, suc, ◌+◌, ℤ, pos, Bool, true, false, List, [], ◌∷◌, ◌++◌, length, Option, Some, None, refl, sym, ap, ◌∙◌, arith, append_assoc, append-nil, inl, inr, ◌⊎◌, subst, int_eq, length-append}
+use Rattle.std.proofs.Common.{◌≡◌, ℤ, pos, List, [], ◌∷◌, ◌++◌, length, Option, Some, None, refl, sym, ap, ◌∙◌, arith, append_assoc, append-nil, inl, inr, ◌⊎◌, subst, int_eq, length-append}
 use Rattle.acn_num.specs.Ranges.{In, has}
 use Rattle.acn_grammar.specs.Asks.{Ask, Equal, Avoid, Moment, asks, counts}
 use Rattle.acn_grammar.specs.AsksOn.{Meetable, LeastAnswer}
@@ -8,7 +8,7 @@ use Rattle.acn_grammar.specs.Meets.{Unfit, conflict, content_size}
 use Rattle.acn_grammar.specs.Refused.{asks_of, IsAsked, Contradicts, Earlier, Says, CanBeMet, FirstUnmet}
 use Rattle.acn_grammar.specs.Slots.{domain_of}
 use Rattle.acn_grammar.proofs.LeafLengths.{eq_fact}
-use Rattle.acn_packet_laws.proofs.AskHomes.{truth}
+use Rattle.acn_packet_laws.proofs.Homes.{truth}
 use Rattle.acn_packet_laws.proofs.LeastAnswers.{least_or_none, eq_same}
 use Rattle.acn_packet_laws.proofs.OneRefusals.{EachMet, Splits, at_one, first_before, first_behind, splits}
 

@@ -1,5 +1,6 @@
 -- Every permitted number of a leaf that keeps its rules has an image.
-use Rattle.std.proofs.Common.{◌≡◌, ℕ, suc, ◌+◌, ◌<◌, ◌≤◌, ℤ, pos, ◌+ℤ◌, Bool, true, false, not, List, [], ◌∷◌, ◌++◌, Option, Some, None, refl, sym, ap, ◌∙◌, arith, inl, inr, ◌⊎◌, nat_eq, ◌&&◌, ◌||◌}
+use Rattle.std.proofs.Common.{◌≡◌, ℕ, suc, ◌+◌, ◌<◌, ◌≤◌, ℤ, pos, ◌+ℤ◌, Bool, true, false, not, List, [], ◌∷◌, ◌++◌, Option, Some, None, refl, sym, ap, ◌∙◌, arith, inl, inr, ◌⊎◌, nat_eq, ◌&&◌}
+use Rattle.std.proofs.lemmas.Bool.{or_parts}
 use Rattle.std.specs.Prelude.{◌-ℤ◌, ◌≤ℤ◌, ◌<ℤ◌, int_le, int_lt, nat_abs, if◌then◌else◌}
 use Rattle.std.specs.Int.{int_max, int_min}
 use Rattle.std.specs.List.{list_all, list_any, flat_map}
@@ -68,17 +69,13 @@ abbrev total : ℤ → ℤ → List Line → ℕ
 total a b [] = 0
 total a b (l ∷ ls) = span_of (int_max a l.0) (int_min b l.1) + total a b ls
 
-pub neither : (a b : Bool) → (a || b) ≡ false → (a ≡ false) × (b ≡ false)
-neither true b h = cc
-neither false b h = (refl, h)
-
 not_both : (a b : Bool) → (a && b) ≡ false → (a ≡ false) ⊎ (b ≡ false)
 not_both true b h = inr h
 not_both false b h = inl refl
 
 -- two lines that share no key
 pub key_sides : (l m : Line) → share l m ≡ false → (m.1 <ℤ l.0) ⊎ (l.1 <ℤ m.0)
-key_sides l m h = by (not_both (int_le l.0 m.1) (int_le m.0 l.1) (neither (int_le l.0 m.1 && int_le m.0 l.1) (int_le l.2 (m.2 +ℤ (m.1 -ℤ m.0)) && int_le m.2 (l.2 +ℤ (l.1 -ℤ l.0))) h).0)
+key_sides l m h = by (not_both (int_le l.0 m.1) (int_le m.0 l.1) (or_parts (int_le l.0 m.1 && int_le m.0 l.1) (int_le l.2 (m.2 +ℤ (m.1 -ℤ m.0)) && int_le m.2 (l.2 +ℤ (l.1 -ℤ l.0))) h).0)
   where
     by : (int_le l.0 m.1 ≡ false) ⊎ (int_le m.0 l.1 ≡ false) → (m.1 <ℤ l.0) ⊎ (l.1 <ℤ m.0)
     by (inl e) = inl (le_not l.0 m.1 e)
@@ -109,7 +106,7 @@ split_one a b c d l0 l1 m0 m1 ac lc db dl cd (inr h) =
 split_all : (a b c d : ℤ) (l : Line) (ls : List Line) → a ≤ℤ c → l.0 ≤ℤ c → d ≤ℤ b → d ≤ℤ l.1 → c ≤ℤ d → list_any (share l) ls ≡ false → total a b ls ≡ total a (c -ℤ pos 1) ls + total (d +ℤ pos 1) b ls
 split_all a b c d l [] ac lc db dl cd h = omega arith
 split_all a b c d l (m ∷ ls) ac lc db dl cd h =
-    let f = neither (share l m) (list_any (share l) ls) h in
+    let f = or_parts (share l m) (list_any (share l) ls) h in
     let one = split_one a b c d l.0 l.1 m.0 m.1 ac lc db dl cd (key_sides l m f.0) in
     let rest = split_all a b c d l ls ac lc db dl cd f.1 in
     omega arith

@@ -1,5 +1,6 @@
 -- Each slot of an accepted tree is at home round its field.
 use Rattle.std.proofs.Common.{◌≡◌, ℕ, suc, ◌+◌, ◌≤◌, Bool, true, false, not, List, [], ◌∷◌, ◌++◌, map, refl, ap, ◌∙◌, arith, inl, inr, ◌⊎◌, nat_eq}
+use Rattle.std.proofs.lemmas.Bool.{and_from, or_left, or_right}
 use Rattle.std.specs.Prelude.{cond, filter, count_by}
 use Rattle.std.specs.List.{list_any, list_all, flat_map}
 use Rattle.std.proofs.lemmas.List.Sums.{sum_by-append, sum_by-cons}
@@ -10,9 +11,8 @@ use Rattle.acn_grammar.specs.Walk.{Stand, Role, a_component, an_inserted, an_alt
 use Rattle.acn_grammar.proofs.Codings.{both_are, equal_numbers}
 use Rattle.acn_grammar.proofs.Texts.{either}
 use Rattle.acn_packet_laws.proofs.Overlaps.{contains_holds}
-use Rattle.acn_packet_laws.proofs.Placed.{or_left, or_right, any_left, any_right, any_either, holds_left, holds_right, holds_either, slots-field, list_all-holds, field_is, has_field, here_at, home_is, place_fine, to_fields, to_one, to_cases, first_component, next_component, first_inserted, next_inserted, first_case, next_case, root_place, is_number}
-use Rattle.acn_packet_laws.proofs.Scoping.{At, FieldsAt, CasesAt, numbers, rules, used, named, both_true, not_true, find_field}
-use Rattle.acn_grammar.proofs.Characters.{same_name-is}
+use Rattle.acn_packet_laws.proofs.Placed.{any_left, any_right, any_either, holds_left, holds_right, holds_either, same_name-is, slots-field, list_all-holds, field_is, has_field, here_at, home_is, place_fine, to_fields, to_one, to_cases, first_component, next_component, first_inserted, next_inserted, first_case, next_case, root_place, is_number}
+use Rattle.acn_packet_laws.proofs.Scoping.{At, FieldsAt, CasesAt, numbers, rules, used, named, not_true, find_field}
 
 pub out : {A B F : Type 0} → A ⊎ B → (A → F) → (B → F) → F
 out (inl a) f g = f a
@@ -206,7 +206,7 @@ module _ (root : Grammar) (tree : IsTree root) (sound : (f : CheckFault) → Und
       (λ o. inl (holds_right home around s o))
       (λ e. either {F = IsHomed (home ++ around) (field_nodes path (home ++ around) 0 fields) s} (encloses all s here) (list_any (encloses all s) inner) e
       (λ q. truth {F = IsHomed (home ++ around) (field_nodes path (home ++ around) 0 fields) s} (list_any (encloses all s) inner) (λ t. inr t) (λ t.
-      let is = both_true (encloses all s here) (not (list_any (encloses all s) inner)) q (not_true (list_any (encloses all s) inner) t) in
+      let is = and_from (encloses all s here) (not (list_any (encloses all s) inner)) q (not_true (list_any (encloses all s) inner) t) in
       let same = same_name-is home (filter (λ r. is_home all r here) (slots_of all)) (both_are (same_numbers home (filter (λ r. is_home all r here) (slots_of all))) (list_all (holds (near fields)) home) fine.home).0 in
       inl (holds_left home around s (ap (λ l. holds l s) same ∙ filter_holds (λ r. is_home all r here) (slots_of all) s is (slots-field s all ∙ there)))))
       (λ q. inr q))

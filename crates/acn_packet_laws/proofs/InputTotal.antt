@@ -1,10 +1,10 @@
 -- Every input has a value of an accepted tree at its front, or a failure.
-use Rattle.std.proofs.Common.{◌≡◌, ℕ, ◌+◌, ◌≤◌, Bool, false, List, [], ◌∷◌, ◌++◌, length, take, refl, sym, ap, ◌∙◌, arith, inl, inr, ◌⊎◌, subst, length-append}
+use Rattle.std.proofs.Common.{ℕ, Bool, false, List, [], ◌∷◌, length, take, refl, sym, ap, ◌∙◌, arith, inl, inr, ◌⊎◌, subst, length-append}
 use Rattle.acn_grammar.specs.Code.{Any}
 use Rattle.acn_grammar.specs.Env.{Env}
 use Rattle.acn_grammar.specs.Fails.{Fault, Refusal, Fails}
 use Rattle.acn_grammar.specs.Front.{Front}
-use Rattle.acn_grammar.specs.Grammar.{Grammar, Data}
+use Rattle.acn_grammar.specs.Grammar.{Data}
 use Rattle.acn_grammar.specs.Spell.{Spell}
 use Rattle.acn_grammar.proofs.TreeRules.{tree_fine}
 use Rattle.acn_packet_laws.specs.Laws.{EachInputIsReadOrFails}

@@ -1,23 +1,22 @@
 -- A failure other than the want of bits rests on bits that are there.
-use Rattle.std.proofs.Common.{◌≡◌, ℕ, zero, suc, ◌+◌, ◌-◌, ◌*◌, ◌%◌, ◌<◌, ◌≤◌, Bool, true, false, not, ◌&&◌, List, [], ◌∷◌, ◌++◌, length, take, drop, max, Option, Some, None, refl, sym, ap, ◌∙◌, arith, inl, inr, ◌⊎◌, IsTrue, nat_eq, length-append}
+use Rattle.std.proofs.Common.{◌≡◌, ℕ, zero, suc, ◌+◌, ◌*◌, ◌%◌, ◌≤◌, Bool, true, false, not, ◌&&◌, List, [], ◌∷◌, ◌++◌, length, take, drop, Option, Some, None, refl, ap, ◌∙◌, arith, inl, inr, ◌⊎◌, nat_eq, length-append}
 use Rattle.std.proofs.lemmas.List.{length-take, length-drop}
 use Rattle.acn_num.specs.Ranges.{greatest}
 use Rattle.acn_grammar.specs.Asks.{same_name}
 use Rattle.acn_grammar.specs.Check.{lead, LeadAmbiguous}
 use Rattle.acn_grammar.specs.Code.{Any}
 use Rattle.acn_grammar.specs.Env.{Env}
-use Rattle.acn_grammar.specs.Fails.{Fault, Failing, Behind, Here, Short, After, RuleFails, SizeFails, Sized, PartsFail, CharactersFail, FoundFails, TextFails, found_end, RunFails, EndFails, NoEnd, NextFails, EndedFails, ListFails, Fails, FormFails, FieldsFail, AlternativeFails, IndexFails, Overlong, Refusal, flags_behind, presence_count}
+use Rattle.acn_grammar.specs.Fails.{Fault, Failing, Behind, Here, Short, After, RuleFails, SizeFails, Sized, PartsFail, CharactersFail, FoundFails, TextFails, found_end, RunFails, EndFails, NoEnd, EndedFails, ListFails, Fails, FormFails, FieldsFail, AlternativeFails, IndexFails, Overlong, flags_behind, presence_count}
 use Rattle.acn_grammar.specs.Grammar.{Grammar, Form, Fields, Alternatives, Data, node, num, octets, bits, text, seq, list, choice, contained, no_fields, component, inserted, no_alternatives, alternative, null}
 use Rattle.acn_grammar.specs.Interval.{size_of}
 use Rattle.acn_grammar.specs.LeafFails.{short, octet_values}
-use Rattle.acn_grammar.specs.Leaves.{text_fine, end_fine, no_size, is_terminator, is_pattern}
+use Rattle.acn_grammar.specs.Leaves.{end_fine, no_size, is_terminator, is_pattern}
 use Rattle.acn_grammar.specs.Length.{index_width, ending}
-use Rattle.acn_grammar.specs.Scoped.{Known, FineField, Scoped, FormScoped, FieldsScoped, AlternativesScoped, EndTold, after, choose_known, with_own, with_slot}
+use Rattle.acn_grammar.specs.Scoped.{Known, Scoped, FormScoped, FieldsScoped, AlternativesScoped, EndTold, after, choose_known, with_own, with_slot}
 use Rattle.acn_grammar.specs.Spell.{Part, Where, Padding, SizePart, Carries, Spell, SlotField, octet_numbers, with_home}
 use Rattle.acn_grammar.specs.declared.node.ChoiceRule.{ChoiceRule}
 use Rattle.acn_grammar.specs.declared.node.ChoiceRule.TheVariants.{Index, Tests, Item}
 use Rattle.acn_grammar.specs.declared.node.NumLeaf.{NumLeaf}
-use Rattle.acn_grammar.specs.declared.node.Presence.{Presence}
 use Rattle.acn_grammar.specs.declared.node.Sizing.{Sizing}
 use Rattle.acn_grammar.specs.declared.node.SizeRule.{SizeRule}
 use Rattle.acn_grammar.specs.declared.node.SizeRule.TheVariants.{Prefix, Slot, Ended}

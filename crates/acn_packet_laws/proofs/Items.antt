@@ -1,5 +1,6 @@
 -- An item of a slot by its name is the one by its place, since the names differ.
 use Rattle.std.proofs.Common.{◌≡◌, ℕ, zero, suc, ◌-◌, ℤ, pos, Bool, true, false, not, List, [], ◌∷◌, length, Option, Some, None, refl, sym, ap, ◌∙◌, arith, ◌&&◌, nat_eq, nat_lt, int_eq}
+use Rattle.std.proofs.lemmas.Bool.{false_from_ne_true, or_left, or_right}
 use Rattle.std.specs.Prelude.{slice_get, unwrap_or, option_map}
 use Rattle.std.specs.List.{list_any}
 use Rattle.acn_num.specs.Ranges.{are_ranges}
@@ -19,8 +20,8 @@ use Rattle.acn_grammar.proofs.Codings.{both_are, not_is, equal_numbers}
 use Rattle.acn_grammar.proofs.FineLeaves.{rules_of}
 use Rattle.acn_packet_laws.proofs.AskHomes.{if_yes, if_no}
 use Rattle.acn_packet_laws.proofs.OneFault.{some_same}
-use Rattle.acn_packet_laws.proofs.Placed.{or_left, or_right}
-use Rattle.acn_packet_laws.proofs.Scoping.{false_from}
+use Rattle.acn_packet_laws.proofs.Placed.{same_name-is}
+use Rattle.acn_packet_laws.proofs.PrefixNodes.{same_name-refl}
 use Rattle.acn_packet_laws.proofs.Used.{slot_leaf_fine}
 use Rattle.acn_grammar.proofs.Characters.{same_name-is, same_name-refl}
 
@@ -43,7 +44,7 @@ index_at name (n ∷ items) zero x d e =
     if_yes (same_name name n.0) 0 (suc (index_of (same_name name) items)) is
 index_at name (n ∷ items) (suc i) x d e =
     let f = both_are (not (list_any (same_named n) items)) (all_differ same_named items) d in
-    let other : same_name name n.0 ≡ false = false_from (same_name name n.0) (λ q.
+    let other : same_name name n.0 ≡ false = false_from_ne_true (same_name name n.0) (λ q.
     let same : n.0 ≡ name = sym (same_name-is name n.0 q) in
     let there = is_there n items i (name, x) e (ap (λ y. same_name y name) same ∙ same_name-refl name) in
     let not_there = not_is (list_any (same_named n) items) f.0 in

@@ -1,17 +1,16 @@
 -- In a tree without a fault each slot's field stands where its home is open, and its numbers are the slot's.
-use Rattle.std.proofs.Common.{◌≡◌, ℕ, zero, suc, ◌-◌, ℤ, pos, Bool, true, false, not, ◌&&◌, ◌||◌, List, [], ◌∷◌, ◌++◌, length, map, Option, Some, None, refl, sym, ap, ◌∙◌, arith, inl, inr, ◌⊎◌, nat_eq, nat_lt, subst, IsTrue, append_assoc}
+use Rattle.std.proofs.Common.{◌≡◌, ℕ, suc, ◌-◌, ℤ, pos, true, false, not, ◌&&◌, ◌||◌, List, [], ◌∷◌, ◌++◌, length, Option, Some, None, refl, sym, ap, ◌∙◌, arith, nat_eq, nat_lt, subst, IsTrue, append_assoc}
+use Rattle.std.proofs.lemmas.Bool.{false_from_ne_true, or_left, or_right}
 use Rattle.std.specs.Prelude.{unwrap_or, option_map, int_le, ◌≤ℤ◌}
-use Rattle.std.specs.List.{list_any}
 use Rattle.std.proofs.lemmas.Int.{ints}
 use Rattle.std.proofs.lemmas.Bool.Decides.{nat_tests}
 use Rattle.acn_num.specs.Ranges.{In, has, are_ranges}
 use Rattle.acn_grammar.specs.Check.{CheckFault, Undecodable}
 use Rattle.acn_grammar.specs.Grammar.{Grammar, Form, Fields, Alternatives, node, num, octets, bits, text, seq, list, choice, contained, no_fields, component, inserted, no_alternatives, alternative}
-use Rattle.acn_grammar.specs.Images.{ends}
 use Rattle.acn_grammar.specs.Leaves.{num_fine, set_fine, is_range, no_items, items_fine, integer_set_fine}
-use Rattle.acn_grammar.specs.Scoped.{Known, FineField}
+use Rattle.acn_grammar.specs.Scoped.{Known}
 use Rattle.acn_grammar.specs.Slots.{slot_leaf, fields_leaf, alternatives_leaf, number_leaf, first_of_two, domain_of}
-use Rattle.acn_grammar.specs.Tree.{IsTree, holds, near, near_node, near_form, is_slot, presence_fine, own_fine, slots_of}
+use Rattle.acn_grammar.specs.Tree.{IsTree, holds, near, near_node, near_form, is_slot, presence_fine, own_fine}
 use Rattle.acn_grammar.specs.Walk.{Stand, Role, root_node, a_component, an_inserted, an_alternative, an_element, a_content, nodes, form_nodes, field_nodes, alternative_nodes, nodes_of, slot_here}
 use Rattle.acn_grammar.specs.declared.node.NumKind.{NumKind}
 use Rattle.acn_grammar.specs.declared.node.NumKind.TheVariants.{Integer, Boolean, Enumerated, Null}
@@ -20,23 +19,20 @@ use Rattle.acn_grammar.specs.declared.node.Presence.{Presence}
 use Rattle.acn_grammar.proofs.Codings.{both_are, equal_numbers}
 use Rattle.acn_grammar.proofs.FineLeaves.{rules_of}
 use Rattle.acn_grammar.proofs.LeafLengths.{int_ends}
-use Rattle.acn_grammar.proofs.SpanLaw.{Fine, FormFine, FieldsFine, AlternativesFine}
+use Rattle.acn_grammar.proofs.SpanLaw.{Fine, FieldsFine, AlternativesFine}
+use Rattle.acn_grammar.proofs.Texts.{either}
 use Rattle.acn_grammar.proofs.TreeRules.{tree_fine}
 use Rattle.acn_packet_laws.proofs.Codes.{set_ordered}
 use Rattle.acn_packet_laws.proofs.HasImage.{Ordered}
 use Rattle.acn_packet_laws.proofs.Lengths.{Finds, finds_first, finds_rest, finds_behind, own_behind, no_leaf, no_fields_leaf, no_cases_leaf, if_same, only_null}
-use Rattle.acn_packet_laws.proofs.Moves.{is_own, opens, form_opens, fields_opens, Shut, SlotLaid, OwnLaid, NullLaid, Others, Laid, FormLaid, FieldsLaid, CasesLaid}
+use Rattle.acn_packet_laws.proofs.Moves.{is_own, opens, form_opens, fields_opens, Shut, SlotLaid, OwnLaid, Laid, FieldsLaid, CasesLaid}
 use Rattle.acn_packet_laws.proofs.OpenFields.{open_field, field_is_open}
-use Rattle.acn_packet_laws.proofs.Placed.{here_at, twice, place_fine, inside_near, to_fields, to_one, to_cases, first_component, next_component, first_inserted, next_inserted, first_case, next_case, any_left, any_right, any_either, field_is, has_field, root_place, parts_apart, or_left, or_right, own_number, is_number, slot_in, near_parts, near_if_when, home_near, holds-append, holds_either}
-use Rattle.acn_packet_laws.proofs.Scoping.{At, FieldsAt, CasesAt, numbers, rules, inserted_is, false_from, same_eq, outer_home}
+use Rattle.acn_packet_laws.proofs.Placed.{here_at, twice, place_fine, inside_near, to_fields, to_one, to_cases, first_component, next_component, first_inserted, next_inserted, first_case, next_case, any_left, any_right, any_either, field_is, has_field, root_place, parts_apart, own_number, is_number, slot_in, near_parts, near_if_when, home_near, holds-append, holds_either}
+use Rattle.acn_packet_laws.proofs.Scoping.{At, FieldsAt, CasesAt, numbers, rules, inserted_is, same_eq, outer_home}
 
 own_slot : (own : Option ℕ) (s : ℕ) → is_own own s ≡ true → is_slot s own ≡ true
 own_slot None s h = cc
 own_slot (Some t) s h = h
-
-or_parts : {F : Type 0} (a b : Bool) → (a || b) ≡ true → (a ≡ true → F) → (b ≡ true → F) → F
-or_parts true b h f g = f refl
-or_parts false b h f g = g h
 
 mutual
   opens_has : (g : Grammar) (role : Role) (path around : List ℕ) (s : ℕ) → opens g s ≡ true → has_field s (nodes role path around g) ≡ true
@@ -57,19 +53,19 @@ mutual
   fields_has (component name g presence default own fs) path around k s h =
       let a = nodes (a_component name presence own) (path ++ k ∷ []) around g in
       let b = field_nodes path around (suc k) fs in
-      or_parts {F = has_field s (nodes (a_component name presence own) (path ++ k ∷ []) around g ++ field_nodes path around (suc k) fs) ≡ true} (is_own own s) (opens g s || fields_opens fs s) h
+      either {F = has_field s (nodes (a_component name presence own) (path ++ k ∷ []) around g ++ field_nodes path around (suc k) fs) ≡ true} (is_own own s) (opens g s || fields_opens fs s) h
       (λ q. any_left (field_is s) a b (slot_in (a_component name presence own) (path ++ k ∷ []) around g s (own_slot own s q)))
-      (λ q. or_parts {F = has_field s (nodes (a_component name presence own) (path ++ k ∷ []) around g ++ field_nodes path around (suc k) fs) ≡ true} (opens g s) (fields_opens fs s) q
+      (λ q. either {F = has_field s (nodes (a_component name presence own) (path ++ k ∷ []) around g ++ field_nodes path around (suc k) fs) ≡ true} (opens g s) (fields_opens fs s) q
       (λ r. any_left (field_is s) a b (opens_has g (a_component name presence own) (path ++ k ∷ []) around s r)) (λ r. any_right (field_is s) a b (fields_has fs path around (suc k) s r)))
   fields_has (inserted name g slot fs) path around k s h =
       let a = nodes (an_inserted name slot) (path ++ k ∷ []) around g in
       let b = field_nodes path around (suc k) fs in
-      or_parts {F = has_field s (nodes (an_inserted name slot) (path ++ k ∷ []) around g ++ field_nodes path around (suc k) fs) ≡ true} (is_own slot s) (fields_opens fs s) h
+      either {F = has_field s (nodes (an_inserted name slot) (path ++ k ∷ []) around g ++ field_nodes path around (suc k) fs) ≡ true} (is_own slot s) (fields_opens fs s) h
       (λ q. any_left (field_is s) a b (slot_in (an_inserted name slot) (path ++ k ∷ []) around g s (own_slot slot s q))) (λ q. any_right (field_is s) a b (fields_has fs path around (suc k) s q))
 
 open_has : (s : ℕ) (l : List Stand) → open_field s l ≡ true → has_field s l ≡ true
 open_has s [] h = cc
-open_has s (at ∷ l) h = or_parts {F = has_field s (at ∷ l) ≡ true} (field_is s at && holds at.around s) (open_field s l) h (λ q. or_left (field_is s at) (has_field s l) (both_are (field_is s at) (holds at.around s) q).0) (λ q. or_right (field_is s at) (has_field s l) (open_has s l q))
+open_has s (at ∷ l) h = either {F = has_field s (at ∷ l) ≡ true} (field_is s at && holds at.around s) (open_field s l) h (λ q. or_left (field_is s at) (has_field s l) (both_are (field_is s at) (holds at.around s) q).0) (λ q. or_right (field_is s at) (has_field s l) (open_has s l q))
 
 -- A leaf that keeps its rules has some number.
 
@@ -113,7 +109,7 @@ module _ (root : Grammar) where
         (λ q. node_some g keys fine.0 laid.0 s (near_if_when presence (near_node g) s q).1)
         (λ q. near_some fs keys fine.1 laid.4 s q)
     near_some (inserted name g (Some t) fs) keys fine laid s h =
-        or_parts {F = (x : ℤ) × In (domain_of root s) x} (nat_eq t s) (holds (near fs) s) h
+        either {F = (x : ℤ) × In (domain_of root s) x} (nat_eq t s) (holds (near fs) s) h
         (λ q. subst (λ (z : ℕ). (x : ℤ) × In (domain_of root z) x) (equal_numbers t s q) (slot_some keys t g fine.0 laid.0)) (λ q. near_some fs keys fine.1 laid.2 s q)
     near_some (inserted name g None fs) keys fine laid s h = near_some fs keys fine.1 laid.3 s h
 
@@ -138,7 +134,7 @@ module _ (root : Grammar) (tree : IsTree root) (sound : (f : CheckFault) → Und
       by : open_field s (pre ++ (here_at role path around align form ∷ (form_nodes path around form ++ post))) ≡ true → holds around s ≡ true
       by o = any_either {F = holds around s ≡ true} (λ at. field_is s at && holds at.around s) pre (here_at role path around align form ∷ (form_nodes path around form ++ post)) o
           (λ q. absurd (twice (nodes_of root) (numbers root tree sound) (rules root tree sound) pre (here ∷ (form_nodes path around form ++ post)) p.whole s (open_has s pre q) (or_left (is_slot s (slot_here role)) (has_field s (form_nodes path around form ++ post)) h)))
-          (λ q. or_parts {F = holds around s ≡ true} (is_slot s (slot_here role) && holds around s) (open_field s (form_nodes path around form ++ post)) q
+          (λ q. either {F = holds around s ≡ true} (is_slot s (slot_here role) && holds around s) (open_field s (form_nodes path around form ++ post)) q
           (λ r. (both_are (is_slot s (slot_here role)) (holds around s) r).1)
           (λ r. absurd (twice (nodes_of root) (numbers root tree sound) (rules root tree sound) (pre ++ here ∷ []) (form_nodes path around form ++ post) (p.whole ∙ sym (append_assoc pre (here ∷ []) (form_nodes path around form ++ post))) s
           (any_right (field_is s) pre (here ∷ []) (or_left (is_slot s (slot_here role)) false h)) (open_has s (form_nodes path around form ++ post) r))))
@@ -165,13 +161,13 @@ module _ (root : Grammar) (tree : IsTree root) (sound : (f : CheckFault) → Und
     fields_around no_fields pre path around k post p s h = cc
     fields_around (component name g presence default own fs) pre path around k post p s h =
         let first = first_component (nodes_of root) (numbers root tree sound) (rules root tree sound) pre path around k name g presence default own fs post p in
-        or_parts {F = holds around s ≡ true} (is_own own s) (opens g s || fields_opens fs s) h
+        either {F = holds around s ≡ true} (is_own own s) (opens g s || fields_opens fs s) h
         (λ q. node_here pre (a_component name presence own) (path ++ k ∷ []) around g (field_nodes path around (suc k) fs ++ post) first s (own_slot own s q))
-        (λ q. or_parts {F = holds around s ≡ true} (opens g s) (fields_opens fs s) q
+        (λ q. either {F = holds around s ≡ true} (opens g s) (fields_opens fs s) q
         (λ r. opens_around g pre (a_component name presence own) (path ++ k ∷ []) around (field_nodes path around (suc k) fs ++ post) first s r)
         (λ r. fields_around fs (pre ++ nodes (a_component name presence own) (path ++ k ∷ []) around g) path around (suc k) post (next_component (nodes_of root) (numbers root tree sound) (rules root tree sound) pre path around k name g presence default own fs post p) s r))
     fields_around (inserted name g slot fs) pre path around k post p s h =
-        or_parts {F = holds around s ≡ true} (is_own slot s) (fields_opens fs s) h
+        either {F = holds around s ≡ true} (is_own slot s) (fields_opens fs s) h
         (λ q. node_here pre (an_inserted name slot) (path ++ k ∷ []) around g (field_nodes path around (suc k) fs ++ post) (first_inserted (nodes_of root) (numbers root tree sound) (rules root tree sound) pre path around k name g slot fs post p) s (own_slot slot s q))
         (λ r. fields_around fs (pre ++ nodes (an_inserted name slot) (path ++ k ∷ []) around g) path around (suc k) post (next_inserted (nodes_of root) (numbers root tree sound) (rules root tree sound) pre path around k name g slot fs post p) s r)
 
@@ -181,7 +177,7 @@ module _ (root : Grammar) (tree : IsTree root) (sound : (f : CheckFault) → Und
   -- nothing that is open round a list, a content or an alternative has its field inside
   shut_one : (pre : List Stand) (role : Role) (path around : List ℕ) (align : ℕ) (form : Form) (post : List Stand) → At root tree sound pre role path around (node align form) post → near_form form ≡ [] → (role' : Role) (path' : List ℕ) (g : Grammar) → form_nodes path around form ≡ nodes role' path' around g
       → At root tree sound (pre ++ here_at role path around align form ∷ []) role' path' around g post → Shut g
-  shut_one pre role path around align form post p empty role' path' g same inner s = false_from (opens g s) (λ q.
+  shut_one pre role path around align form post p empty role' path' g same inner s = false_from_ne_true (opens g s) (λ q.
       let o = opens_around g (pre ++ here_at role path around align form ∷ []) role' path' around post inner s q in
       let n = inside_near (nodes_of root) (numbers root tree sound) (rules root tree sound) pre role path around align form post p s o (ap (has_field s) same ∙ opens_has g role' path' around s q) in
       let none : holds (near_form form) s ≡ false = ap (λ l. holds l s) empty in
@@ -218,7 +214,7 @@ module _ (root : Grammar) (tree : IsTree root) (sound : (f : CheckFault) → Und
         (λ s h. f s (or_right (is_slot s (slot_here role)) (has_field s (field_nodes path (home ++ around) 0 fields)) h)) fine.1 (λ s. holds home s || keys s) (λ s. ap (λ b. holds home s || b) (same s) ∙ sym (holds-append home around s)) in (
           inner,
           (λ s h. near_some root fields (λ t. holds home t || keys t) fine.1 inner s (home_near (nodes_of root) (numbers root tree sound) (rules root tree sound) here fields home stand.home s h)),
-          (λ s h. false_from (keys s) (λ k. (let o = outer_home root tree sound pre role path around align fields home post p s (sym (same s) ∙ k) in cc))),
+          (λ s h. false_from_ne_true (keys s) (λ k. (let o = outer_home root tree sound pre role path around align fields home post p s (sym (same s) ∙ k) in cc))),
         )
     laid (node align (list sizing g)) pre role path around post p f fine keys same =
         let inner = to_one (nodes_of root) (numbers root tree sound) (rules root tree sound) pre role path around align (list sizing g) post an_element (path ++ 0 ∷ []) g refl refl p in (
@@ -244,7 +240,7 @@ module _ (root : Grammar) (tree : IsTree root) (sound : (f : CheckFault) → Und
               (finds_first root tree sound a b (slot_leaf g) (fields_leaf fs) apart (no_fields_leaf fs path around (suc k)) f) fine.0 keys same,
           tt,
           (λ s h. cc),
-          (λ s h. false_from (fields_opens fs s) (λ q. apart s (opens_has g (a_component name presence None) (path ++ k ∷ []) around s h) (fields_has fs path around (suc k) s q))),
+          (λ s h. false_from_ne_true (fields_opens fs s) (λ q. apart s (opens_has g (a_component name presence None) (path ++ k ∷ []) around s h) (fields_has fs path around (suc k) s q))),
           laid_fields fs (pre ++ a) path around (suc k) post (next_component (nodes_of root) (numbers root tree sound) (rules root tree sound) pre path around k name g presence default None fs post p)
               (finds_rest root tree sound a b (slot_leaf g) (fields_leaf fs) apart (no_leaf g (a_component name presence None) (path ++ k ∷ []) around) f) fine.1 keys same,
         )
@@ -258,8 +254,8 @@ module _ (root : Grammar) (tree : IsTree root) (sound : (f : CheckFault) → Und
         let n = own_is_number pre path around k name g presence default t fs post p keys key (f t (any_left (field_is t) a b here) ∙ if_same t (number_leaf g) (first_of_two (slot_leaf g t) (fields_leaf fs t))) in (
           n.0,
           n.1,
-          (λ s h. false_from (fields_opens fs s) (λ q. apart s (slot_in (a_component name presence (Some t)) (path ++ k ∷ []) around g s h) (fields_has fs path around (suc k) s q))),
-          (λ s h. false_from (fields_opens fs s) (λ q. apart s (opens_has g (a_component name presence (Some t)) (path ++ k ∷ []) around s h) (fields_has fs path around (suc k) s q))),
+          (λ s h. false_from_ne_true (fields_opens fs s) (λ q. apart s (slot_in (a_component name presence (Some t)) (path ++ k ∷ []) around g s h) (fields_has fs path around (suc k) s q))),
+          (λ s h. false_from_ne_true (fields_opens fs s) (λ q. apart s (opens_has g (a_component name presence (Some t)) (path ++ k ∷ []) around s h) (fields_has fs path around (suc k) s q))),
           laid_fields fs (pre ++ a) path around (suc k) post (next_component (nodes_of root) (numbers root tree sound) (rules root tree sound) pre path around k name g presence default (Some t) fs post p)
               (own_behind root tree sound pre path around k name g presence default t fs post p f) fine.1 keys same,
         )
@@ -270,7 +266,7 @@ module _ (root : Grammar) (tree : IsTree root) (sound : (f : CheckFault) → Und
         let first = first_inserted (nodes_of root) (numbers root tree sound) (rules root tree sound) pre path around k name (node align (num leaf)) (Some t) fs post p in
         let key = same t ∙ node_here pre (an_inserted name (Some t)) (path ++ k ∷ []) around (node align (num leaf)) (b ++ post) first t (same_eq t) in (
           (key, in_domain t leaf (f t (or_left (nat_eq t t) (has_field t b) (same_eq t)) ∙ if_same t (Some leaf) (first_of_two None (fields_leaf fs t)))),
-          (λ s h. false_from (fields_opens fs s) (λ q. apart s (or_left (nat_eq t s) false h) (fields_has fs path around (suc k) s q))),
+          (λ s h. false_from_ne_true (fields_opens fs s) (λ q. apart s (or_left (nat_eq t s) false h) (fields_has fs path around (suc k) s q))),
           laid_fields fs (pre ++ a) path around (suc k) post (next_inserted (nodes_of root) (numbers root tree sound) (rules root tree sound) pre path around k name (node align (num leaf)) (Some t) fs post p)
               (finds_behind root tree sound name align leaf t fs (path ++ k ∷ []) around b (λ s e q. apart s (or_left (nat_eq t s) false e) q) f) fine.1 keys same,
         )
@@ -297,7 +293,7 @@ module _ (root : Grammar) (tree : IsTree root) (sound : (f : CheckFault) → Und
         let apart = parts_apart (nodes_of root) (numbers root tree sound) (rules root tree sound) pre a b post p.whole in
         let first = first_case (nodes_of root) (numbers root tree sound) (rules root tree sound) pre path around k name g tests more post p in (
           laid g pre (an_alternative name tests) (path ++ k ∷ []) around (b ++ post) first (finds_first root tree sound a b (slot_leaf g) (alternatives_leaf more) apart (no_cases_leaf more path around (suc k)) f) fine.0 keys same,
-          (λ s. false_from (opens g s) (λ q. p.none s (opens_around g pre (an_alternative name tests) (path ++ k ∷ []) around (b ++ post) first s q) (any_left (field_is s) a b (opens_has g (an_alternative name tests) (path ++ k ∷ []) around s q)))),
+          (λ s. false_from_ne_true (opens g s) (λ q. p.none s (opens_around g pre (an_alternative name tests) (path ++ k ∷ []) around (b ++ post) first s q) (any_left (field_is s) a b (opens_has g (an_alternative name tests) (path ++ k ∷ []) around s q)))),
           laid_cases more (pre ++ a) path around (suc k) post (next_case (nodes_of root) (numbers root tree sound) (rules root tree sound) pre path around k name g tests more post p)
               (finds_rest root tree sound a b (slot_leaf g) (alternatives_leaf more) apart (no_leaf g (an_alternative name tests) (path ++ k ∷ []) around) f) fine.1 keys same,
         )

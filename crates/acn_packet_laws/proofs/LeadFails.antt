@@ -1,22 +1,18 @@
 -- A node that fails for another reason than the want of bits has as many bits before it as lead its spellings.
-use Rattle.std.proofs.Common.{◌≡◌, ℕ, zero, suc, ◌+◌, ◌<◌, ◌≤◌, Bool, true, false, not, ◌&&◌, List, [], ◌∷◌, ◌++◌, length, drop, Option, Some, None, refl, sym, ap, ◌∙◌, arith, inl, inr, ◌⊎◌, nat_eq, nat_le, IsTrue, length-append}
-use Rattle.std.specs.Prelude.{if◌then◌else◌}
+use Rattle.std.proofs.Common.{◌≡◌, ℕ, ◌+◌, ◌≤◌, Bool, true, false, not, ◌&&◌, List, [], ◌∷◌, ◌++◌, length, drop, Some, None, ap, ◌∙◌, arith, inl, inr, ◌⊎◌, nat_eq, nat_le, length-append}
 use Rattle.std.proofs.lemmas.List.{length-drop}
 use Rattle.std.proofs.lemmas.Bool.Decides.{nat_tests}
 use Rattle.acn_grammar.specs.Check.{is_wide, has_no_table, is_lead, lead, form_lead, fields_lead}
-use Rattle.acn_grammar.specs.Code.{Any}
 use Rattle.acn_grammar.specs.Env.{Env}
-use Rattle.acn_grammar.specs.Fails.{Fault, Behind, Here, Fails, FormFails, FieldsFail, presence_count, flags_behind}
-use Rattle.acn_grammar.specs.Grammar.{Grammar, Form, Fields, Data, null, node, num, octets, bits, text, seq, list, choice, contained, no_fields, component, inserted}
-use Rattle.acn_grammar.specs.LeafFails.{Reason, short, LeafFails, CodingFails}
-use Rattle.acn_grammar.specs.Leaves.{num_fine}
+use Rattle.acn_grammar.specs.Fails.{Fault, Fails, FormFails, FieldsFail, presence_count}
+use Rattle.acn_grammar.specs.Grammar.{Grammar, Form, Fields, null, node, num, octets, bits, text, seq, list, choice, contained, no_fields, component, inserted}
+use Rattle.acn_grammar.specs.LeafFails.{Reason, short, CodingFails}
 use Rattle.acn_grammar.specs.Length.{flag_width}
 use Rattle.acn_grammar.specs.Scoped.{Known, FineField, Scoped, FormScoped, FieldsScoped}
 use Rattle.acn_grammar.specs.Spell.{with_home}
 use Rattle.acn_grammar.specs.declared.node.NumCoding.{NumCoding}
 use Rattle.acn_grammar.specs.declared.node.NumCoding.TheVariants.{Range, CountedFrom, CountedSigned, PosInt, Twos, Bcd, BcdEnded, Ascii, AsciiEnded, Flag, Fixed}
 use Rattle.acn_grammar.specs.declared.node.NumLeaf.{NumLeaf}
-use Rattle.acn_grammar.specs.declared.node.Presence.{Presence}
 use Rattle.acn_grammar.specs.declared.node.Presence.TheVariants.{Always, Bit, When}
 use Rattle.acn_grammar.proofs.Codings.{both_are}
 use Rattle.acn_packet_laws.proofs.Leads.{Leads, chosen, slot_leads, node_leads}

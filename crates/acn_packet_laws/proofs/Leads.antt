@@ -1,20 +1,19 @@
 -- Every spelling of a node begins with a code of its lead.
-use Rattle.std.proofs.Common.{◌≡◌, ℕ, zero, suc, ◌+◌, ◌<◌, ◌≤◌, ℤ, pos, Bool, true, false, not, ◌&&◌, List, [], ◌∷◌, ◌++◌, length, take, Option, Some, None, refl, sym, ap, ◌∙◌, arith, append_assoc, subst, length-append, nat_eq, nat_le, IsTrue}
+use Rattle.std.proofs.Common.{◌≡◌, ℕ, zero, suc, ◌+◌, ◌<◌, ◌≤◌, ℤ, Bool, true, false, not, ◌&&◌, List, [], ◌∷◌, ◌++◌, length, take, Option, Some, None, refl, sym, ap, ◌∙◌, arith, append_assoc, subst, nat_eq, IsTrue}
 use Rattle.std.specs.Prelude.{if◌then◌else◌}
 use Rattle.std.proofs.lemmas.Bool.Decides.{nat_tests}
 use Rattle.acn_grammar.specs.Check.{is_wide, has_no_table, is_lead, lead, form_lead, fields_lead, LeadAmbiguous}
-use Rattle.acn_grammar.specs.Code.{Any, Code, NumberOf}
+use Rattle.acn_grammar.specs.Code.{Any, Code}
 use Rattle.acn_grammar.specs.Env.{Env}
 use Rattle.acn_grammar.specs.Fails.{presence_count}
-use Rattle.acn_grammar.specs.Grammar.{Grammar, Form, Fields, Alternatives, Data, Places, node, num, octets, bits, text, seq, list, choice, contained, no_fields, component, inserted, null, record_of, no_places, empty, filled}
+use Rattle.acn_grammar.specs.Grammar.{Grammar, Form, Fields, Data, Places, node, num, octets, bits, text, seq, list, choice, contained, no_fields, component, inserted, null, record_of, no_places, empty, filled}
 use Rattle.acn_grammar.specs.Leaves.{num_fine}
-use Rattle.acn_grammar.specs.Length.{coding_length, presence_bits, bit_before}
-use Rattle.acn_grammar.specs.Scoped.{Known, with_slot, with_own, choose_known, after, FineField, Scoped, FormScoped, FieldsScoped}
+use Rattle.acn_grammar.specs.Length.{coding_length, presence_bits}
+use Rattle.acn_grammar.specs.Scoped.{Known, FineField, Scoped, FormScoped, FieldsScoped}
 use Rattle.acn_grammar.specs.Spell.{Part, ◌then◌, Padding, Spell, FormPart, FieldsPart, SlotField}
 use Rattle.acn_grammar.specs.declared.node.NumLeaf.{NumLeaf}
 use Rattle.acn_grammar.specs.declared.node.NumCoding.{NumCoding}
 use Rattle.acn_grammar.specs.declared.node.NumCoding.TheVariants.{Range, CountedFrom, CountedSigned, PosInt, Twos, Bcd, BcdEnded, Ascii, AsciiEnded, Flag, Fixed}
-use Rattle.acn_grammar.specs.declared.node.Presence.{Presence}
 use Rattle.acn_grammar.specs.declared.node.Presence.TheVariants.{Always, Bit, When}
 use Rattle.acn_grammar.proofs.Codings.{both_are}
 use Rattle.acn_grammar.proofs.FineLeaves.{rules_of}

@@ -1,21 +1,21 @@
 -- Every input begins with a code of a number leaf, or the leaf fails: codes of one width, and counted ones.
-use Rattle.std.proofs.Common.{◌≡◌, ℕ, zero, suc, ◌+◌, ◌-◌, ◌*◌, ◌/◌, ◌%◌, ◌^◌, ◌<◌, ◌≤◌, ℤ, pos, negsuc, ◌+ℤ◌, Bool, true, false, not, ◌&&◌, List, [], ◌∷◌, ◌++◌, length, map, take, drop, Option, Some, None, refl, sym, ap, ◌∙◌, arith, append_assoc, append-nil, length-append, take-append-drop, inl, inr, ◌⊎◌, nat_eq, nat_le, subst, IsTrue}
-use Rattle.std.specs.Prelude.{neg_ℤ, nat_abs, if◌then◌else◌}
+use Rattle.std.proofs.Common.{◌≡◌, ℕ, zero, suc, ◌+◌, ◌-◌, ◌*◌, ◌/◌, ◌%◌, ◌^◌, ◌<◌, ◌≤◌, ℤ, pos, Bool, true, false, List, [], ◌∷◌, ◌++◌, length, map, take, drop, Option, Some, None, refl, sym, ap, ◌∙◌, arith, append-nil, take-append-drop, inl, inr, ◌⊎◌, nat_eq, subst, IsTrue}
+use Rattle.std.specs.Prelude.{neg_ℤ}
 use Rattle.std.specs.List.{AllByRecursion}
 use Rattle.std.proofs.lemmas.Bool.Decides.{nat_tests}
-use Rattle.std.proofs.lemmas.List.{length-take, length-take-le, length-drop}
+use Rattle.std.proofs.lemmas.List.{length-take-le}
 use native.Mathlib.Decide.{dec_lt}
-use Rattle.acn_num.specs.Bits.{number, signed_number, low_bits, bits, IsNumber, IsSigned}
-use Rattle.acn_num.specs.Ranges.{In, has}
-use Rattle.acn_grammar.specs.Code.{Any, Code, CodingCode, Counted, FlagCode, decimal_number, nibbles, digit_octets, SignOctet, image_of, in_order, in_octets, AreDigits, InDigits}
+use Rattle.acn_num.specs.Bits.{number, low_bits, bits}
+use Rattle.acn_num.specs.Ranges.{has}
+use Rattle.acn_grammar.specs.Code.{Any, CodingCode, nibbles, digit_octets, SignOctet, image_of}
 use Rattle.acn_grammar.specs.Images.{images_of}
-use Rattle.acn_grammar.specs.LeafFails.{Reason, short, out_of_range, not_minimal, too_long, bad_digit, bad_pattern, Wire, says, wrong, nibbles_of, octet_values, AllDigits, value_of, SignedWire, DigitsWire, PatternWire, OnePatternWire, FixedWire, NoneHas, WireFails, FixedFails, CountedFails, CodingFails}
-use Rattle.acn_grammar.specs.Leaves.{num_fine, coding_fine, same_bits, flag_patterns_fine, is_pattern, from_to}
-use Rattle.acn_grammar.specs.Length.{least_octets, least_signed_octets, flag_width}
+use Rattle.acn_grammar.specs.LeafFails.{Reason, short, out_of_range, not_minimal, bad_digit, bad_pattern, Wire, says, wrong, nibbles_of, octet_values, AllDigits, value_of, OnePatternWire, FixedWire, NoneHas, FixedFails}
+use Rattle.acn_grammar.specs.Leaves.{num_fine, same_bits}
+use Rattle.acn_grammar.specs.Length.{flag_width}
 use Rattle.acn_grammar.specs.declared.node.NumCoding.{NumCoding}
-use Rattle.acn_grammar.specs.declared.node.NumCoding.TheVariants.{Range, CountedFrom, CountedSigned, PosInt, Twos, Bcd, BcdEnded, Ascii, AsciiEnded, Flag, Fixed}
+use Rattle.acn_grammar.specs.declared.node.NumCoding.TheVariants.{Bcd, Ascii, Flag, Fixed}
 use Rattle.acn_grammar.specs.declared.node.NumLeaf.{NumLeaf}
-use Rattle.acn_grammar.proofs.Codings.{both_are, equal_numbers, patterns_differ}
+use Rattle.acn_grammar.proofs.Codings.{equal_numbers, patterns_differ}
 use Rattle.acn_grammar.proofs.Numbers.{number-below}
 use Rattle.acn_grammar.proofs.Octets.{low_bits-length, low_bits-number}
 use Rattle.acn_grammar.proofs.Within.{image_has}

@@ -1,17 +1,18 @@
 -- Whether a number of a set meets all that is asked, and the least that does.
-use Rattle.std.proofs.Common.{◌≡◌, ℕ, zero, suc, ℤ, pos, ◌+ℤ◌, ◌-ℤ◌, nat_abs, Bool, true, false, not, List, [], ◌∷◌, refl, sym, ap, ◌∙◌, arith, inl, inr, ◌⊎◌, ◌&&◌, ◌||◌, int_eq}
+use Rattle.std.proofs.Common.{◌≡◌, ℕ, zero, suc, ℤ, pos, ◌+ℤ◌, ◌-ℤ◌, nat_abs, Bool, true, false, not, List, [], ◌∷◌, refl, sym, ap, ◌∙◌, arith, inl, inr, ◌⊎◌, ◌&&◌, int_eq}
+use Rattle.std.proofs.lemmas.Bool.{and_from, false_from_ne_true}
 use Rattle.std.specs.Prelude.{◌≤ℤ◌, int_le}
 use Rattle.std.specs.List.{AllByRecursion, list_all}
 use Rattle.std.proofs.lemmas.Int.{ints}
 use Rattle.std.proofs.lemmas.Bool.Decides.{nat_tests}
-use Rattle.acn_num.specs.Ranges.{In, has}
+use Rattle.acn_num.specs.Ranges.{has}
 use Rattle.acn_grammar.specs.Asks.{Ask, Equal, Avoid}
 use Rattle.acn_grammar.specs.AsksOn.{MeetsAsk, Answers, Meetable, LeastAnswer}
 use Rattle.acn_grammar.proofs.Codings.{both_are, not_is}
 use Rattle.acn_grammar.proofs.LeafLengths.{eq_fact, le_fact}
 use Rattle.acn_grammar.proofs.Texts.{either}
-use Rattle.acn_packet_laws.proofs.AskHomes.{truth}
-use Rattle.acn_packet_laws.proofs.Scoping.{both_true, not_true, false_from}
+use Rattle.acn_packet_laws.proofs.Homes.{truth}
+use Rattle.acn_packet_laws.proofs.Scoping.{not_true}
 
 -- The least number from a bound on that passes, if there is one within a distance.
 
@@ -115,7 +116,7 @@ ask_is x (Avoid n) h = λ e. (let no = not_is (int_eq x n) h in let yes' = ap (i
 
 is_ask : (x : ℤ) (a : Ask) → MeetsAsk x a → meets_ask x a ≡ true
 is_ask x (Equal n) h = ap (int_eq x) (sym h) ∙ eq_same x
-is_ask x (Avoid n) h = not_true (int_eq x n) (false_from (int_eq x n) (λ e. h (eq_fact x n e)))
+is_ask x (Avoid n) h = not_true (int_eq x n) (false_from_ne_true (int_eq x n) (λ e. h (eq_fact x n e)))
 
 asks_are : (x : ℤ) (wanted : List Ask) → list_all (meets_ask x) wanted ≡ true → AllByRecursion (MeetsAsk x) wanted
 asks_are x [] h = tt
@@ -123,13 +124,13 @@ asks_are x (a ∷ wanted) h = let b = both_are (meets_ask x a) (list_all (meets_
 
 are_asks : (x : ℤ) (wanted : List Ask) → AllByRecursion (MeetsAsk x) wanted → list_all (meets_ask x) wanted ≡ true
 are_asks x [] h = refl
-are_asks x (a ∷ wanted) h = both_true (meets_ask x a) (list_all (meets_ask x) wanted) (is_ask x a h.0) (are_asks x wanted h.1)
+are_asks x (a ∷ wanted) h = and_from (meets_ask x a) (list_all (meets_ask x) wanted) (is_ask x a h.0) (are_asks x wanted h.1)
 
 answers_are : (set : List (ℤ × ℤ)) (wanted : List Ask) (x : ℤ) → answers set wanted x ≡ true → Answers set wanted x
 answers_are set wanted x h = let b = both_are (has set x) (list_all (meets_ask x) wanted) h in record { permitted = b.0; meets = asks_are x wanted b.1 }
 
 are_answers : (set : List (ℤ × ℤ)) (wanted : List Ask) (x : ℤ) → Answers set wanted x → answers set wanted x ≡ true
-are_answers set wanted x a = both_true (has set x) (list_all (meets_ask x) wanted) a.permitted (are_asks x wanted a.meets)
+are_answers set wanted x a = and_from (has set x) (list_all (meets_ask x) wanted) a.permitted (are_asks x wanted a.meets)
 
 high_is : (low y high : ℤ) → low ≤ℤ y → y ≤ℤ high → y ≤ℤ (low +ℤ pos (nat_abs (high -ℤ low)))
 high_is low y high h k = omega (arith, ints)

@@ -1,5 +1,6 @@
 -- In a tree without a fault every slot's leaf has one width, so a spelling has the length that is told.
-use Rattle.std.proofs.Common.{◌≡◌, ℕ, zero, suc, ◌≤◌, ℤ, pos, Bool, true, false, List, [], ◌∷◌, ◌++◌, length, Option, Some, None, refl, sym, ap, ◌∙◌, arith, nat_eq, ◌&&◌, ◌||◌, IsTrue, subst}
+use Rattle.std.proofs.Common.{◌≡◌, ℕ, zero, suc, ◌≤◌, ℤ, pos, Bool, true, false, List, [], ◌∷◌, ◌++◌, length, Option, Some, None, refl, sym, ap, ◌∙◌, arith, nat_eq, ◌&&◌, IsTrue, subst}
+use Rattle.std.proofs.lemmas.Bool.{false_from_ne_true, or_left, or_parts, or_right}
 use Rattle.std.specs.Prelude.{slice_get, ◌≤ℤ◌, int_le}
 use Rattle.std.proofs.lemmas.Int.{ints}
 use Rattle.std.proofs.lemmas.Bool.Decides.{nat_tests}
@@ -24,15 +25,11 @@ use Rattle.acn_packet_laws.proofs.HasImage.{Ordered}
 use Rattle.acn_grammar.proofs.LeafLengths.{code-length}
 use Rattle.acn_packet_laws.proofs.LengthLaw.{length_law}
 use Rattle.acn_packet_laws.proofs.NodeLaws.{in_either, some_one, accepted_sound}
-use Rattle.acn_packet_laws.proofs.Placed.{here_at, place_fine, to_fields, to_one, to_cases, first_component, next_component, first_inserted, next_inserted, first_case, next_case, any_left, any_right, field_is, has_field, root_place, parts_apart, or_left, or_right, own_number, is_number, slot_in}
-use Rattle.acn_packet_laws.proofs.Scoping.{At, FieldsAt, CasesAt, numbers, rules, get_here, inserted_is, false_from, same_eq}
+use Rattle.acn_packet_laws.proofs.Placed.{here_at, place_fine, to_fields, to_one, to_cases, first_component, next_component, first_inserted, next_inserted, first_case, next_case, any_left, any_right, field_is, has_field, root_place, parts_apart, own_number, is_number, slot_in}
+use Rattle.acn_packet_laws.proofs.Scoping.{At, FieldsAt, CasesAt, numbers, rules, get_here, inserted_is, same_eq}
 use Rattle.acn_grammar.proofs.SpellLength.{OneWidth, Steady, SteadyLeaf, SteadyFields, SteadyAlternatives}
 
 -- A slot without a field has no leaf.
-
-neither : (a b : Bool) → (a || b) ≡ false → (a ≡ false) × (b ≡ false)
-neither true b h = cc
-neither false b h = (refl, h)
 
 none_of_two : (x y : Option NumLeaf) → x ≡ None → y ≡ None → first_of_two x y ≡ None
 none_of_two x y p q = rw (p, q) refl
@@ -46,23 +43,23 @@ own_other (Some t) s a b e = if_other t s a b e
 
 -- where a node has no field of the slot, it isn't the field itself
 not_here : (role : Role) (path around : List ℕ) (g : Grammar) (s : ℕ) → has_field s (nodes role path around g) ≡ false → is_slot s (slot_here role) ≡ false
-not_here role path around (node align form) s h = (neither (is_slot s (slot_here role)) (has_field s (form_nodes path around form)) h).0
+not_here role path around (node align form) s h = (or_parts (is_slot s (slot_here role)) (has_field s (form_nodes path around form)) h).0
 
 pub if_same : (t : ℕ) (a b : Option NumLeaf) → if_slot (Some t) t a b ≡ a
 if_same t a b = rw (same_eq t) refl
 
 none_left : (s : ℕ) (a b : List Stand) → has_field s (a ++ b) ≡ false → has_field s a ≡ false
-none_left s a b h = false_from (has_field s a) (λ q. let e = any_left (field_is s) a b q in cc)
+none_left s a b h = false_from_ne_true (has_field s a) (λ q. let e = any_left (field_is s) a b q in cc)
 
 none_right : (s : ℕ) (a b : List Stand) → has_field s (a ++ b) ≡ false → has_field s b ≡ false
-none_right s a b h = false_from (has_field s b) (λ q. let e = any_right (field_is s) a b q in cc)
+none_right s a b h = false_from_ne_true (has_field s b) (λ q. let e = any_right (field_is s) a b q in cc)
 
 mutual
   pub no_leaf : (g : Grammar) (role : Role) (path around : List ℕ) (s : ℕ) → has_field s (nodes role path around g) ≡ false → slot_leaf g s ≡ None
-  no_leaf (node align (seq fields home)) role path around s h = no_fields_leaf fields path (home ++ around) 0 s (neither (is_slot s (slot_here role)) (has_field s (field_nodes path (home ++ around) 0 fields)) h).1
-  no_leaf (node align (list sizing g)) role path around s h = no_leaf g an_element (path ++ 0 ∷ []) around s (neither (is_slot s (slot_here role)) (has_field s (nodes an_element (path ++ 0 ∷ []) around g)) h).1
-  no_leaf (node align (contained sizing g)) role path around s h = no_leaf g a_content (path ++ 0 ∷ []) around s (neither (is_slot s (slot_here role)) (has_field s (nodes a_content (path ++ 0 ∷ []) around g)) h).1
-  no_leaf (node align (choice cases rule)) role path around s h = no_cases_leaf cases path around 0 s (neither (is_slot s (slot_here role)) (has_field s (alternative_nodes path around 0 cases)) h).1
+  no_leaf (node align (seq fields home)) role path around s h = no_fields_leaf fields path (home ++ around) 0 s (or_parts (is_slot s (slot_here role)) (has_field s (field_nodes path (home ++ around) 0 fields)) h).1
+  no_leaf (node align (list sizing g)) role path around s h = no_leaf g an_element (path ++ 0 ∷ []) around s (or_parts (is_slot s (slot_here role)) (has_field s (nodes an_element (path ++ 0 ∷ []) around g)) h).1
+  no_leaf (node align (contained sizing g)) role path around s h = no_leaf g a_content (path ++ 0 ∷ []) around s (or_parts (is_slot s (slot_here role)) (has_field s (nodes a_content (path ++ 0 ∷ []) around g)) h).1
+  no_leaf (node align (choice cases rule)) role path around s h = no_cases_leaf cases path around 0 s (or_parts (is_slot s (slot_here role)) (has_field s (alternative_nodes path around 0 cases)) h).1
   no_leaf (node align (num leaf)) role path around s h = refl
   no_leaf (node align (octets sizing)) role path around s h = refl
   no_leaf (node align (bits sizing)) role path around s h = refl
@@ -80,7 +77,7 @@ mutual
       let b = field_nodes path around (suc k) fs in
       none_of_two (slot_leaf g s) (fields_leaf fs s) (no_leaf g (an_inserted name None) (path ++ k ∷ []) around s (none_left s a b h)) (no_fields_leaf fs path around (suc k) s (none_right s a b h))
   no_fields_leaf (inserted name (node align form) (Some t) fs) path around k s h =
-      let f = neither (nat_eq t s) (has_field s (form_nodes (path ++ k ∷ []) around form ++ field_nodes path around (suc k) fs)) h in
+      let f = or_parts (nat_eq t s) (has_field s (form_nodes (path ++ k ∷ []) around form ++ field_nodes path around (suc k) fs)) h in
       let a = nodes (an_inserted name (Some t)) (path ++ k ∷ []) around (node align form) in
       let b = field_nodes path around (suc k) fs in
       if_other t s (number_leaf (node align form)) (first_of_two (slot_leaf (node align form) s) (fields_leaf fs s)) f.0
@@ -151,19 +148,19 @@ module _ (root : Grammar) (tree : IsTree root) (sound : (f : CheckFault) → Und
   Finds nodes' f = (s : ℕ) → has_field s nodes' ≡ true → slot_leaf root s ≡ f s
 
   pub finds_first : (a b : List Stand) (f g : ℕ → Option NumLeaf) → ((s : ℕ) → has_field s a ≡ true → has_field s b ≡ true → ⊥) → ((s : ℕ) → has_field s b ≡ false → g s ≡ None) → Finds (a ++ b) (λ s. first_of_two (f s) (g s)) → Finds a f
-  finds_first a b f g apart none h s q = h s (any_left (field_is s) a b q) ∙ (ap (first_of_two (f s)) (none s (false_from (has_field s b) (apart s q))) ∙ first_none (f s))
+  finds_first a b f g apart none h s q = h s (any_left (field_is s) a b q) ∙ (ap (first_of_two (f s)) (none s (false_from_ne_true (has_field s b) (apart s q))) ∙ first_none (f s))
     where
       first_none : (o : Option NumLeaf) → first_of_two o None ≡ o
       first_none None = refl
       first_none (Some x) = refl
 
   pub finds_rest : (a b : List Stand) (f g : ℕ → Option NumLeaf) → ((s : ℕ) → has_field s a ≡ true → has_field s b ≡ true → ⊥) → ((s : ℕ) → has_field s a ≡ false → f s ≡ None) → Finds (a ++ b) (λ s. first_of_two (f s) (g s)) → Finds b g
-  finds_rest a b f g apart none h s q = h s (any_right (field_is s) a b q) ∙ ap (λ o. first_of_two o (g s)) (none s (false_from (has_field s a) (λ p. apart s p q)))
+  finds_rest a b f g apart none h s q = h s (any_right (field_is s) a b q) ∙ ap (λ o. first_of_two o (g s)) (none s (false_from_ne_true (has_field s a) (λ p. apart s p q)))
 
   -- behind the field of a slot
   pub finds_behind : (name : List ℕ) (align : ℕ) (leaf : NumLeaf) (t : ℕ) (fs : Fields) (path around : List ℕ) (b : List Stand) → ((s : ℕ) → nat_eq t s ≡ true → has_field s b ≡ true → ⊥) → Finds (nodes (an_inserted name (Some t)) path around (node align (num leaf)) ++ b) (fields_leaf (inserted name (node align (num leaf)) (Some t) fs)) → Finds b (fields_leaf fs)
   finds_behind name align leaf t fs path around b apart h s q =
-      h s (any_right (field_is s) (nodes (an_inserted name (Some t)) path around (node align (num leaf))) b q) ∙ if_other t s (Some leaf) (first_of_two None (fields_leaf fs s)) (false_from (nat_eq t s) (λ p. apart s p q))
+      h s (any_right (field_is s) (nodes (an_inserted name (Some t)) path around (node align (num leaf))) b q) ∙ if_other t s (Some leaf) (first_of_two None (fields_leaf fs s)) (false_from_ne_true (nat_eq t s) (λ p. apart s p q))
 
   -- the leaf of a slot has one width
   slot_width : (pre : List Stand) (path around : List ℕ) (k : ℕ) (name : List ℕ) (align : ℕ) (leaf : NumLeaf) (t : ℕ) (fs : Fields) (post : List Stand) → FieldsAt root tree sound pre path around k (inserted name (node align (num leaf)) (Some t) fs) post → slot_leaf root t ≡ Some leaf → OneWidth leaf
@@ -196,8 +193,8 @@ module _ (root : Grammar) (tree : IsTree root) (sound : (f : CheckFault) → Und
       let b = field_nodes path around (suc k) fs in
       let apart = parts_apart (nodes_of root) (numbers root tree sound) (rules root tree sound) pre a b post p.whole in
       h s (any_right (field_is s) a b q)
-      ∙ (if_other t s (number_leaf g) (first_of_two (slot_leaf g s) (fields_leaf fs s)) (false_from (nat_eq t s) (λ e. apart s (slot_in (a_component name presence (Some t)) (path ++ k ∷ []) around g s e) q))
-      ∙ ap (λ o. first_of_two o (fields_leaf fs s)) (no_leaf g (a_component name presence (Some t)) (path ++ k ∷ []) around s (false_from (has_field s a) (λ e. apart s e q))))
+      ∙ (if_other t s (number_leaf g) (first_of_two (slot_leaf g s) (fields_leaf fs s)) (false_from_ne_true (nat_eq t s) (λ e. apart s (slot_in (a_component name presence (Some t)) (path ++ k ∷ []) around g s e) q))
+      ∙ ap (λ o. first_of_two o (fields_leaf fs s)) (no_leaf g (a_component name presence (Some t)) (path ++ k ∷ []) around s (false_from_ne_true (has_field s a) (λ e. apart s e q))))
 
   mutual
     pub steady : (g : Grammar) (pre : List Stand) (role : Role) (path around : List ℕ) (post : List Stand) → At root tree sound pre role path around g post → Finds (nodes role path around g) (slot_leaf g) → Steady g

@@ -27,7 +27,6 @@ mod InsideReaches
 mod Items
 pub mod LaidOut
 mod LaterStarts
-pub mod LawRows
 mod LeadFails
 pub mod Leads
 pub mod LeafExclusion

@@ -1,15 +1,15 @@
 -- A spelling depends on the numbers of known slots and of those whose fields stand in it, so other numbers may move.
-use Rattle.std.proofs.Common.{◌≡◌, ℕ, zero, suc, ◌+◌, ◌<◌, ℤ, pos, Bool, true, false, not, ◌&&◌, ◌||◌, List, [], ◌∷◌, ◌++◌, length, Option, Some, None, refl, sym, ap, ◌∙◌, arith, inl, inr, ◌⊎◌, nat_eq, subst, IsTrue}
-use Rattle.std.specs.List.{zip, AllByRecursion}
+use Rattle.std.proofs.Common.{◌≡◌, ℕ, zero, suc, ◌+◌, ℤ, Bool, true, false, not, ◌&&◌, ◌||◌, List, [], ◌∷◌, length, Option, Some, None, refl, sym, ◌∙◌, arith, inl, inr, ◌⊎◌, nat_eq}
+use Rattle.std.proofs.lemmas.Bool.{or_left, or_right}
 use Rattle.std.proofs.lemmas.Bool.Decides.{nat_tests}
-use Rattle.acn_num.specs.Ranges.{In, has}
+use Rattle.acn_num.specs.Ranges.{In}
 use Rattle.acn_grammar.specs.Code.{Any}
-use Rattle.acn_grammar.specs.Env.{Env, at_slot, AllHold, MayBeThere, MayBeAway}
+use Rattle.acn_grammar.specs.Env.{Env, at_slot, MayBeThere, MayBeAway}
 use Rattle.acn_grammar.specs.Grammar.{Grammar, Form, Fields, Alternatives, Data, Places, Elements, node, num, octets, bits, text, seq, list, choice, contained, no_fields, component, inserted, no_alternatives, alternative, octet_string, bit_string, characters, record_of, list_of, alt, null, no_places, empty, filled, no_elements, element, element_count}
 use Rattle.acn_grammar.specs.Length.{ending}
-use Rattle.acn_grammar.specs.Scoped.{Known, with_slot, with_own, Agree, RuleIn, PresenceIn, TestsIn, Apart, choose_known, after, form_after, fields_after, tests_at, Permitted, Scoped, FormScoped, FieldsScoped, AlternativesScoped, EndTold}
+use Rattle.acn_grammar.specs.Scoped.{Known, with_slot, with_own, Agree, RuleIn, PresenceIn, TestsIn, choose_known, after, form_after, fields_after, tests_at, Scoped, FormScoped, FieldsScoped, AlternativesScoped}
 use Rattle.acn_grammar.specs.Slots.{domain_of}
-use Rattle.acn_grammar.specs.Spell.{Part, ◌then◌, Where, SizePart, RulePart, Carries, ListPart, RunPart, Window, Fill, EndedPart, Spell, FormPart, FieldsPart, SlotField, AlternativePart, Chosen, with_home}
+use Rattle.acn_grammar.specs.Spell.{Part, SizePart, RulePart, Carries, ListPart, RunPart, EndedPart, Spell, FormPart, FieldsPart, SlotField, AlternativePart, Chosen, with_home}
 use Rattle.acn_grammar.specs.Tree.{holds}
 use Rattle.acn_grammar.specs.declared.node.ChoiceRule.{ChoiceRule}
 use Rattle.acn_grammar.specs.declared.node.ChoiceRule.TheVariants.{Index, Tests, Item}
@@ -21,7 +21,6 @@ use Rattle.acn_grammar.specs.declared.node.SizeRule.{SizeRule}
 use Rattle.acn_grammar.specs.declared.node.SizeRule.TheVariants.{Prefix, Slot, Ended}
 use Rattle.acn_grammar.specs.declared.node.Test.{Test}
 use Rattle.acn_grammar.specs.declared.node.TextLeaf.{TextLeaf}
-use Rattle.acn_grammar.proofs.Codings.{equal_numbers}
 use Rattle.acn_packet_laws.proofs.PrefixNodes.{agree_inside, agree_back, all_hold_too}
 
 -- Slots whose fields stand in a node and whose homes are round it.
@@ -47,18 +46,6 @@ abbrev pub Shut : Grammar → Type 0
 Shut g = (s : ℕ) → opens g s ≡ false
 
 -- Tests.
-
-pub or_left : (a b : Bool) → a ≡ true → (a || b) ≡ true
-or_left true b h = refl
-or_left false b h = cc
-
-pub or_right : (a b : Bool) → b ≡ true → (a || b) ≡ true
-or_right true b h = refl
-or_right false b h = h
-
-pub or_none : (a b : Bool) → (a || b) ≡ false → (a ≡ false) × (b ≡ false)
-or_none true b h = cc
-or_none false b h = (refl, h)
 
 pub or_either : (a b : Bool) → (a || b) ≡ true → (a ≡ true) ⊎ (b ≡ true)
 or_either true b h = inl refl

@@ -24,7 +24,7 @@ use Rattle.acn_grammar.specs.declared.node.Sizing.{Sizing}
 use Rattle.acn_grammar.specs.declared.node.TextLeaf.{TextLeaf}
 use Rattle.acn_packet_laws.proofs.EndedListFails.{ended_excl, ended_same}
 use Rattle.acn_packet_laws.proofs.Leads.{not_begun}
-use Rattle.acn_packet_laws.proofs.Exclusion.{Excl, Same, whole_of, take_n, drop_n, excl_first, excl_given, where_law, excl_behind, same_behind, clash_behind, excl_short, same_short, sized_excl, sized_same, run_excl, run_same}
+use Rattle.acn_packet_laws.proofs.Exclusion.{Excl, Same, whole_of, take_n, drop_n, excl_first, excl_given, excl_behind, same_behind, clash_behind, excl_short, same_short, sized_excl, sized_same, run_excl, run_same}
 use Rattle.acn_grammar.proofs.Prefix.{Law, same_front, padding_law}
 use Rattle.acn_packet_laws.proofs.PrefixNodes.{spell_law, slot_law, own_law, agree_inside, permitted_home, after_there, after_away, all_hold_too, agree_back, chosen_at, item_at, same_item_name, names_one}
 use Rattle.acn_grammar.proofs.SpellLength.{Padding-length, bits-length}

@@ -1,5 +1,6 @@
 -- The prefix law of each node of an accepted tree, and of whole packets.
 use Rattle.std.proofs.Common.{◌≡◌, ℕ, zero, suc, ◌+◌, true, false, List, [], ◌∷◌, ◌++◌, length, map, Some, refl, sym, ap, ◌∙◌, arith, nat_eq, ◌&&◌, ◌||◌, subst, length-append}
+use Rattle.std.proofs.lemmas.Bool.{and_from, or_left}
 use Rattle.std.specs.Prelude.{slice_get}
 use Rattle.std.specs.List.{flat_map}
 use Rattle.acn_grammar.specs.Check.{CheckFault, Undecodable}
@@ -13,7 +14,7 @@ use Rattle.acn_grammar.proofs.Codings.{both_are}
 use Rattle.acn_packet_laws.proofs.FirstFaults.{none_without_first}
 use Rattle.acn_packet_laws.proofs.Placed.{here_at, to_fields, to_one, to_cases, first_component, next_component, first_inserted, next_inserted, first_case, next_case, has_field, root_place, inside_near, slots-field}
 use Rattle.acn_packet_laws.proofs.PrefixNodes.{spell_law, slot_law}
-use Rattle.acn_packet_laws.proofs.Scoping.{At, FieldsAt, CasesAt, numbers, rules, Knows, used, named, used_left, used_right, find_field, both_true, near_after}
+use Rattle.acn_packet_laws.proofs.Scoping.{At, FieldsAt, CasesAt, numbers, rules, Knows, used, named, used_left, used_right, find_field, near_after}
 use Rattle.acn_grammar.proofs.Texts.{either}
 
 pub accepted_sound : (root : Grammar) → IsAccepted root → (f : CheckFault) → Undecodable root f → ⊥
@@ -105,7 +106,7 @@ module _ (root : Grammar) (tree : IsTree root) (sound : (f : CheckFault) → Und
 
   knows_before : (pre : List Stand) (here : Stand) → Knows (known_before pre here) pre here.around (here ∷ inside here)
   knows_before pre here = record {
-    known = λ s o h m. both_true (holds here.around s) (has_field s pre && named s (here ∷ inside here)) o (both_true (has_field s pre) (named s (here ∷ inside here)) h m);
+    known = λ s o h m. and_from (holds here.around s) (has_field s pre && named s (here ∷ inside here)) o (and_from (has_field s pre) (named s (here ∷ inside here)) h m);
     fresh = λ s h. (both_are (has_field s pre) (named s (here ∷ inside here)) (both_are (holds here.around s) (has_field s pre && named s (here ∷ inside here)) h).1).0;
   }
 
@@ -125,7 +126,7 @@ slot_fields_prefix_free root g env env' slot at a b r s fine p q e =
     (h.0, h.1 slot (same slot))
   where
     same : (s : ℕ) → (nat_eq s s || false) ≡ true
-    same s = Rattle.acn_packet_laws.proofs.Placed.or_left (nat_eq s s) false (Rattle.acn_packet_laws.proofs.Scoping.same_eq s)
+    same s = or_left (nat_eq s s) false (Rattle.acn_packet_laws.proofs.Scoping.same_eq s)
 
 pub each_node_prefix_free : EachNodeIsPrefixFree
 each_node_prefix_free root k here env env' d d' at a b r s accepted is_at ok agree p q e =

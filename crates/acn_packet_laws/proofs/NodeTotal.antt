@@ -1,25 +1,26 @@
 -- Every input begins with a spelling of a node, or the node fails, under numbers that may move at slots whose fields stand in it.
-use Rattle.std.proofs.Common.{◌≡◌, ℕ, zero, suc, ◌+◌, ◌-◌, ◌*◌, ◌/◌, ◌%◌, ◌^◌, ◌<◌, ◌≤◌, max, ℤ, pos, negsuc, Bool, true, false, not, ◌&&◌, ◌||◌, List, [], ◌∷◌, ◌++◌, length, map, take, drop, Option, Some, None, refl, sym, ap, ◌∙◌, arith, append_assoc, length-append, inl, inr, ◌⊎◌, nat_eq, nat_le, subst, take-append-drop, IsTrue}
-use Rattle.std.specs.Prelude.{slice_get, ◌≤ℤ◌, int_le, nat_lt}
+use Rattle.std.proofs.Common.{◌≡◌, ℕ, zero, suc, ◌+◌, ◌-◌, ◌*◌, ◌/◌, ◌%◌, ◌^◌, ◌<◌, ◌≤◌, max, ℤ, pos, negsuc, Bool, true, false, not, ◌&&◌, ◌||◌, List, [], ◌∷◌, ◌++◌, length, take, drop, Option, Some, None, refl, sym, ap, ◌∙◌, arith, append_assoc, length-append, inl, inr, ◌⊎◌, nat_eq, subst, take-append-drop, IsTrue}
+use Rattle.std.proofs.lemmas.Bool.{or_parts, or_right}
+use Rattle.std.specs.Prelude.{slice_get, ◌≤ℤ◌, nat_lt}
 use Rattle.std.specs.List.{zip, AllByRecursion}
 use Rattle.std.specs.Ordering.{int_eq}
 use Rattle.std.proofs.lemmas.Int.{ints}
 use Rattle.std.proofs.lemmas.Bool.Decides.{nat_tests}
-use Rattle.std.proofs.lemmas.List.{length-take-le, length-drop}
+use Rattle.std.proofs.lemmas.List.{length-take-le}
 use Rattle.std.proofs.lemmas.Nat.{div-add-mod', mod-mul-add}
 use Rattle.std.proofs.Math.Nat.{mod-lt, mod-eq_of_lt}
-use Rattle.acn_num.specs.Bits.{number, bits as bits_of, IsNumber}
+use Rattle.acn_num.specs.Bits.{number}
 use Rattle.acn_num.specs.Ranges.{In, has, greatest}
 use Rattle.acn_grammar.specs.Asks.{same_name}
-use Rattle.acn_grammar.specs.Code.{Any, Code, NumberOf}
+use Rattle.acn_grammar.specs.Code.{Any, NumberOf}
 use Rattle.acn_grammar.specs.Env.{Env, at_slot, Holds, AllHold, MayBeThere, MayBeAway}
-use Rattle.acn_grammar.specs.Fails.{Failing, Behind, Here, Fault, Short, SizeFails, Sized, PartsFail, TextFails, presence_count, IsThere, flags_behind, count_of, RunFails, EndFails, NoEnd, NextFails, EndedFails, ListFails, After, Overlong, NoneChosen, IndexFails, IndexIs, Fails, FormFails, FieldsFail, AlternativeFails}
+use Rattle.acn_grammar.specs.Fails.{Failing, Behind, Here, Fault, Short, SizeFails, PartsFail, TextFails, presence_count, IsThere, flags_behind, count_of, RunFails, EndFails, EndedFails, ListFails, Overlong, NoneChosen, IndexFails, IndexIs, Fails, FormFails, FieldsFail, AlternativeFails}
 use Rattle.acn_grammar.specs.Grammar.{Grammar, Form, Fields, Alternatives, Data, Places, Elements, node, num, octets, bits, text, seq, list, choice, contained, no_fields, component, inserted, no_alternatives, alternative, int, boolean, item, null, octet_string, bit_string, characters, record_of, list_of, alt, no_places, empty, filled, no_elements, element, element_count}
 use Rattle.acn_grammar.specs.Interval.{size_of}
 use Rattle.acn_grammar.specs.LeafFails.{Reason, short, too_long, size_out_of_range, no_alternative, content_size, octet_values, LeafFails}
-use Rattle.acn_grammar.specs.Leaves.{num_fine, text_fine, sizing_fine, sizes_fine, list_fine, list_rule_fine, set_fine, is_range, no_items, items_fine}
+use Rattle.acn_grammar.specs.Leaves.{num_fine, text_fine, sizing_fine, sizes_fine, list_rule_fine, set_fine, is_range, no_items, items_fine}
 use Rattle.acn_grammar.specs.Length.{padding, presence_bits, bit_before, number_of, ending, index_width}
-use Rattle.acn_grammar.specs.Scoped.{Known, with_slot, with_own, Agree, RuleIn, PresenceIn, TestIn, TestsIn, choose_known, after, Permitted, Scoped, FormScoped, FieldsScoped, AlternativesScoped, EndTold}
+use Rattle.acn_grammar.specs.Scoped.{Known, with_slot, with_own, Agree, RuleIn, PresenceIn, choose_known, after, Scoped, FormScoped, FieldsScoped, AlternativesScoped}
 use Rattle.acn_grammar.specs.Shaped.{are_octets}
 use Rattle.acn_grammar.specs.Slots.{domain_of, items_of}
 use Rattle.acn_grammar.specs.Spell.{Part, ◌then◌, Where, Exactly, Padding, Fill, SizePart, EndedPart, Carries, RunPart, ListPart, Window, Spell, FormPart, FieldsPart, SlotField, AlternativePart, Chosen, IndexPart, with_home}
@@ -41,9 +42,9 @@ use Rattle.acn_grammar.proofs.Numbers.{number-below}
 use Rattle.acn_grammar.proofs.SpanLaw.{Fine, FormFine, FieldsFine, AlternativesFine}
 use Rattle.acn_packet_laws.specs.Laws.{CodeAtFront}
 use Rattle.acn_packet_laws.proofs.Codes.{range_within}
-use Rattle.acn_packet_laws.proofs.Envs.{Good, Moved, unmoved, moved_more, moved_as, MovedTo, move_to, Numbers, some_numbers, good_home, Outside, outside, FrontOf, Stuck, says, in_or_not, ASize, size_total}
+use Rattle.acn_packet_laws.proofs.Envs.{Good, Moved, unmoved, moved_more, moved_as, move_to, Numbers, some_numbers, good_home, outside, FrontOf, Stuck, says, in_or_not, ASize, size_total}
 use Rattle.acn_packet_laws.proofs.LeafTotal.{less_or_not, same_or_not, octets_whole}
-use Rattle.acn_packet_laws.proofs.Moves.{is_own, opens, form_opens, fields_opens, Shut, or_left, or_right, or_none, or_either, self_eq, RuleKnown, SlotLaid, OwnLaid, NullLaid, Others, Laid, FormLaid, FieldsLaid, CasesLaid, after_within, chosen_within, size_moves, there_moves, away_moves, own_moves, spell_moves, chosen_moves, CasesKnown, cases_known}
+use Rattle.acn_packet_laws.proofs.Moves.{is_own, opens, form_opens, fields_opens, Shut, or_either, self_eq, RuleKnown, SlotLaid, OwnLaid, Others, Laid, FormLaid, FieldsLaid, CasesLaid, after_within, chosen_within, size_moves, there_moves, own_moves, spell_moves, chosen_moves, CasesKnown, cases_known}
 use Rattle.acn_packet_laws.proofs.NumberTotal.{each_input_is_a_number_or_fails}
 
 -- Padding.
@@ -743,7 +744,7 @@ module _ (root : Grammar) (text_total : TextTotal) where
   known_apart presence own g fs ks a b apart s h = by (chosen_within root presence own g ks s (after_within root g ks s) h)
     where
       by : (ks s ≡ true) ⊎ ((is_own own s || opens g s) ≡ true) → fields_opens fs s ≡ false
-      by (inl k) = (or_none (opens g s) (fields_opens fs s) (or_none (is_own own s) (opens g s || fields_opens fs s) (apart s k)).1).1
+      by (inl k) = (or_parts (opens g s) (fields_opens fs s) (or_parts (is_own own s) (opens g s || fields_opens fs s) (apart s k)).1).1
       by (inr k) = more (or_either (is_own own s) (opens g s) k)
         where
           more : (is_own own s ≡ true) ⊎ (opens g s ≡ true) → fields_opens fs s ≡ false
@@ -762,16 +763,16 @@ module _ (root : Grammar) (text_total : TextTotal) where
     Rest now at' back = FieldsOutcome keys (fields_opens fs) now fs (flags_behind presence flags) here origin (suc k) at' back
 
     apart_own : (s : ℕ) → ks s ≡ true → is_own own s ≡ false
-    apart_own s h = (or_none (is_own own s) (opens g s || fields_opens fs s) (apart s h)).0
+    apart_own s h = (or_parts (is_own own s) (opens g s || fields_opens fs s) (apart s h)).0
 
     apart_node : (s : ℕ) → ks s ≡ true → opens g s ≡ false
-    apart_node s h = (or_none (opens g s) (fields_opens fs s) (or_none (is_own own s) (opens g s || fields_opens fs s) (apart s h)).1).0
+    apart_node s h = (or_parts (opens g s) (fields_opens fs s) (or_parts (is_own own s) (opens g s || fields_opens fs s) (apart s h)).1).0
 
     apart_fields : (s : ℕ) → ks s ≡ true → fields_opens fs s ≡ false
-    apart_fields s h = (or_none (opens g s) (fields_opens fs s) (or_none (is_own own s) (opens g s || fields_opens fs s) (apart s h)).1).1
+    apart_fields s h = (or_parts (opens g s) (fields_opens fs s) (or_parts (is_own own s) (opens g s || fields_opens fs s) (apart s h)).1).1
 
     each_part : (s : ℕ) → fields_opens (component name g presence default own fs) s ≡ false → (is_own own s ≡ false) × (opens g s ≡ false) × (fields_opens fs s ≡ false)
-    each_part s h = (let a = or_none (is_own own s) (opens g s || fields_opens fs s) h in let b = or_none (opens g s) (fields_opens fs s) a.1 in (a.0, b.0, b.1))
+    each_part s h = (let a = or_parts (is_own own s) (opens g s || fields_opens fs s) h in let b = or_parts (opens g s) (fields_opens fs s) a.1 in (a.0, b.0, b.1))
 
     -- the component is away
     away_done : (IsThere env presence flags → ⊥) → Rest env at rest → Whole
@@ -798,7 +799,7 @@ module _ (root : Grammar) (text_total : TextTotal) where
         let o = more w.moved.now w.moved.good (at + length f.front) f.back in
         record {
           moved = moved_more root keys (opens g) (λ s. is_own own s || fields_opens fs s) (fields_opens (component name g presence default own fs)) env m
-              (moved_more root keys (is_own own) (fields_opens fs) (λ s. is_own own s || fields_opens fs s) m.now w.moved o.moved (λ s e. or_none (is_own own s) (fields_opens fs s) e))
+              (moved_more root keys (is_own own) (fields_opens fs) (λ s. is_own own s || fields_opens fs s) m.now w.moved o.moved (λ s e. or_parts (is_own own s) (fields_opens fs s) e))
               (λ s e. (let p = each_part s e in (p.1, both_false (is_own own s) (fields_opens fs s) p.0 p.2)));
           result = by w.moved w.carries o.moved o.result;
         }
@@ -852,7 +853,7 @@ module _ (root : Grammar) (text_total : TextTotal) where
         let o = more w.moved.now w.moved.good (at + length f.front) f.back in
         record {
           moved = moved_more root keys none (λ t. nat_eq s t || fields_opens fs t) (fields_opens (inserted name (node align (num leaf)) (Some s) fs)) env m
-              (moved_more root keys (nat_eq s) (fields_opens fs) (λ t. nat_eq s t || fields_opens fs t) m.now w.moved o.moved (λ t e. or_none (nat_eq s t) (fields_opens fs t) e)) (λ t e. (refl, e));
+              (moved_more root keys (nat_eq s) (fields_opens fs) (λ t. nat_eq s t || fields_opens fs t) m.now w.moved o.moved (λ t e. or_parts (nat_eq s t) (fields_opens fs t) e)) (λ t e. (refl, e));
           result = by w.moved w.is o.moved o.result;
         }
       where
@@ -937,7 +938,7 @@ module _ (root : Grammar) (text_total : TextTotal) where
     where
       by : (nat_eq s t ≡ true) ⊎ (ks t ≡ true) → fields_opens fs t ≡ false
       by (inl e) = other t e
-      by (inr k) = (or_none (nat_eq s t) (fields_opens fs t) (apart t k)).1
+      by (inr k) = (or_parts (nat_eq s t) (fields_opens fs t) (apart t k)).1
 
   mutual
     pub node_total : (g : Grammar) (keys ks : Known) → Fine g → Laid root keys g → Scoped root ks g → ((s : ℕ) → ks s ≡ true → keys s ≡ true) → ((s : ℕ) → ks s ≡ true → opens g s ≡ false) → (env : Env) → Good root keys env → (inside : Bool) (origin : ℕ) (path : List ℕ) (at : ℕ) (rest : List Bool)
@@ -990,7 +991,7 @@ module _ (root : Grammar) (text_total : TextTotal) where
         → FieldsOutcome keys (fields_opens fs) env fs flags here origin k at rest
     fields_total no_fields keys ks fine laid scoped within apart env good flags long here origin k at rest = record { moved = unmoved root keys (fields_opens no_fields) env good; result = inl (no_places, no_flags flags long, record { front = []; back = rest; whole = refl; spelled = refl }) }
     fields_total (component name g presence default own fs) keys ks fine laid scoped within apart env good flags long here origin k at rest =
-        let o = node_total g keys ks fine.0 laid.0 scoped.1 within (λ s h. (or_none (opens g s) (fields_opens fs s) (or_none (is_own own s) (opens g s || fields_opens fs s) (apart s h)).1).0) env good here.inside origin (here.path ++ k ∷ []) at rest in
+        let o = node_total g keys ks fine.0 laid.0 scoped.1 within (λ s h. (or_parts (opens g s) (fields_opens fs s) (or_parts (is_own own s) (opens g s || fields_opens fs s) (apart s h)).1).0) env good here.inside origin (here.path ++ k ∷ []) at rest in
         component_done name g presence default own fs keys ks laid scoped apart env good flags long here origin k at rest (there_or_not env presence flags) o.moved o.result (λ now good' at' back.
         fields_total fs keys (component_known ks presence own g) fine.1 laid.4 scoped.2 (known_keys presence own g ks keys laid.0 laid.1 within) (known_apart presence own g fs ks laid.2 laid.3 apart) now good' (flags_behind presence flags) (flags_left presence name g default own fs flags long).1 here origin (suc k) at' back)
     fields_total (inserted name (node align (num leaf)) (Some s) fs) keys ks fine laid scoped within apart env good flags long here origin k at rest =

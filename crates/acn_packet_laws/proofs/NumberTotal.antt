@@ -1,5 +1,5 @@
 -- Every input begins with a code of a number leaf that keeps its rules, or the leaf fails.
-use Rattle.std.proofs.Common.{◌≡◌, ℕ, zero, suc, ◌+◌, ◌-◌, ◌*◌, ◌/◌, ◌%◌, ◌<◌, ◌≤◌, ℤ, pos, ◌+ℤ◌, Bool, true, false, ◌&&◌, List, [], length, refl, sym, ap, ◌∙◌, arith, inl, inr, ◌⊎◌, nat_eq, nat_le, subst, IsTrue}
+use Rattle.std.proofs.Common.{◌≡◌, ℕ, ◌-◌, ◌*◌, ◌/◌, ◌%◌, ◌≤◌, pos, ◌+ℤ◌, Bool, true, false, ◌&&◌, List, length, refl, ◌∙◌, arith, ◌⊎◌, nat_eq, IsTrue}
 use Rattle.std.specs.Prelude.{nat_abs}
 use Rattle.std.proofs.lemmas.Bool.Decides.{nat_tests}
 use Rattle.acn_num.specs.Bits.{number, signed_number}
@@ -16,7 +16,7 @@ use Rattle.acn_packet_laws.specs.Laws.{EachInputIsANumberOrFails, CodeAtFront}
 use Rattle.acn_packet_laws.proofs.CountedTotal.{from_low, from_signed, counted_total}
 use Rattle.acn_packet_laws.proofs.EndedTotal.{bcd_total, ascii_total}
 use Rattle.acn_packet_laws.proofs.LeafLaws.{coded_nibbles, coded_octets}
-use Rattle.acn_packet_laws.proofs.LeafTotal.{WireOf, bcd_wire, ascii_wire, signed_wire, flag_wire, fixed_wire, fixed_total}
+use Rattle.acn_packet_laws.proofs.LeafTotal.{bcd_wire, ascii_wire, signed_wire, flag_wire, fixed_wire, fixed_total}
 
 four_of : (n : ℕ) (t : Bool) → (t && nat_eq (n % 4) 0) ≡ true → n ≡ 4 * (n / 4)
 four_of n t h = let e = equal_numbers (n % 4) 0 (both_are t (nat_eq (n % 4) 0) h).1 in omega arith

@@ -1,17 +1,17 @@
 -- The moments of the whole walk that are of one field are the asks of one occurrence on one slot.
 use Rattle.std.proofs.Common.{◌≡◌, ℕ, zero, suc, ◌≤◌, Bool, true, false, List, [], ◌∷◌, ◌++◌, Option, Some, None, refl, sym, ap, ◌∙◌, arith, nat_eq, ◌||◌, append_assoc, append-nil, subst, pos}
+use Rattle.std.proofs.lemmas.Bool.{false_from_ne_true, or_parts}
 use Rattle.std.specs.Prelude.{map, unwrap_or, if◌then◌else◌, length}
 use Rattle.std.specs.List.{flat_map}
 use Rattle.std.proofs.lemmas.Grind.{flat_map-append}
-use Rattle.std.proofs.lemmas.Bool.Decides.{nat_tests}
 use Rattle.acn_num.specs.Bits.{octets as octets_for}
-use Rattle.acn_grammar.specs.Asks.{Ask, Equal, Avoid, Moment, asks, counts, FieldPaths, field_of, field_steps, field_path, with_fields, asked, test_asks, presence_asks, size_asks, own_asks, rule_asks, run_moments, moments, form_moments, fields_moments, alternative_moments, same_name, index_of}
+use Rattle.acn_grammar.specs.Asks.{Ask, Equal, Avoid, Moment, counts, FieldPaths, field_of, field_steps, field_path, with_fields, asked, test_asks, presence_asks, size_asks, own_asks, rule_asks, run_moments, moments, form_moments, fields_moments, alternative_moments, same_name}
 use Rattle.acn_grammar.specs.AsksOn.{on, test_ask_on, presence_asks_on, size_asks_on, own_asks_on, rule_asks_on, run_asks_on, asks_on, form_asks_on, fields_asks_on, alternative_asks_on}
 use Rattle.acn_grammar.specs.Grammar.{Grammar, Form, Fields, Alternatives, Data, Places, Elements, node, num, octets, bits, text, seq, list, choice, contained, no_fields, component, inserted, no_alternatives, alternative, octet_string, bit_string, characters, record_of, list_of, alt, no_places, empty, filled, no_elements, element, element_count}
 use Rattle.acn_grammar.specs.Length.{bit_length, number_of}
-use Rattle.acn_grammar.specs.PartAt.{Occurrence, occurrence, part_at, form_part, field_part, alternative_part, element_part}
+use Rattle.acn_grammar.specs.PartAt.{Occurrence, occurrence, part_at, field_part, alternative_part, element_part}
 use Rattle.acn_grammar.specs.Refused.{of_field, asks_of}
-use Rattle.acn_grammar.specs.Tree.{IsTree, holds, near}
+use Rattle.acn_grammar.specs.Tree.{holds, near}
 use Rattle.acn_grammar.specs.declared.node.Presence.{Presence}
 use Rattle.acn_grammar.specs.declared.node.Presence.TheVariants.{Always, Bit, When}
 use Rattle.acn_grammar.specs.declared.node.Test.{Test}
@@ -22,9 +22,11 @@ use Rattle.acn_grammar.specs.declared.node.ChoiceRule.{ChoiceRule}
 use Rattle.acn_grammar.specs.declared.node.ChoiceRule.TheVariants.{Index, Tests, Item}
 use Rattle.acn_grammar.proofs.Codings.{equal_numbers}
 use Rattle.acn_packet_laws.specs.Laws.{EachOccurrenceAsks}
-use Rattle.acn_packet_laws.proofs.AskHomes.{form_slot, field_slot, node_slot, differs, field_leads, near_steps, FormNot, NodeNot, FieldsNot, CasesNot, FormHomes, NodeHomes, FieldsHomes, CasesHomes, tree_homes, truth, if_yes, if_no, some_is}
-use Rattle.acn_packet_laws.proofs.Scoping.{same_eq, false_from}
-use Rattle.acn_grammar.proofs.Characters.{same_name-is, same_name-refl}
+use Rattle.acn_packet_laws.proofs.Homes.{truth}
+use Rattle.acn_packet_laws.proofs.AskHomes.{form_slot, field_slot, node_slot, differs, field_leads, near_steps, FormNot, NodeNot, FieldsNot, CasesNot, FormHomes, NodeHomes, FieldsHomes, CasesHomes, tree_homes, if_yes, if_no, some_is}
+use Rattle.acn_packet_laws.proofs.Placed.{same_name-is}
+use Rattle.acn_packet_laws.proofs.PrefixNodes.{same_name-refl}
+use Rattle.acn_packet_laws.proofs.Scoping.{same_eq}
 
 -- Lists.
 
@@ -36,15 +38,11 @@ cancel [] a b e = e
 cancel (x ∷ p) a b e = let h : p ++ a ≡ p ++ b = cc in cancel p a b h
 
 differ : (a b : List ℕ) → (a ≡ b → ⊥) → same_name a b ≡ false
-differ a b h = false_from (same_name a b) (λ q. h (same_name-is a b q))
+differ a b h = false_from_ne_true (same_name a b) (λ q. h (same_name-is a b q))
 
 or_rest : (a b : Bool) → a ≡ false → (a || b) ≡ true → b ≡ true
 or_rest true b e h = cc
 or_rest false b e h = h
-
-or_none : (a b : Bool) → (a || b) ≡ false → (a ≡ false) × (b ≡ false)
-or_none true b h = cc
-or_none false b h = (refl, h)
 
 pub field_in : (v : ℕ → List ℕ) (home : List ℕ) (paths : FieldPaths) (t : ℕ) → holds home t ≡ true → field_of (map (λ s. (s, v s)) home ++ paths) t ≡ v t
 field_in v [] paths t h = cc
@@ -55,7 +53,7 @@ field_in v (s ∷ home) paths t h = truth {F = field_of (map (λ s. (s, v s)) (s
 pub field_out : (v : ℕ → List ℕ) (home : List ℕ) (paths : FieldPaths) (t : ℕ) → holds home t ≡ false → field_of (map (λ s. (s, v s)) home ++ paths) t ≡ field_of paths t
 field_out v [] paths t h = refl
 field_out v (s ∷ home) paths t h =
-    let n = or_none (nat_eq s t) (holds home t) h in
+    let n = or_parts (nat_eq s t) (holds home t) h in
     if_no (nat_eq s t) (v s) (field_of (map (λ s. (s, v s)) home ++ paths) t) n.0 ∙ field_out v home paths t n.1
 
 -- where the field of a slot at home is
@@ -85,7 +83,7 @@ parts_one a b x y d e h =
     (ap (λ (z : Occurrence). form_of z.0) p, ap (λ (z : Occurrence). z.1) p)
 
 not_eq : (t s : ℕ) → (t ≡ s → ⊥) → nat_eq t s ≡ false
-not_eq t s h = false_from (nat_eq t s) (λ q. h (equal_numbers t s q))
+not_eq t s h = false_from_ne_true (nat_eq t s) (λ q. h (equal_numbers t s q))
 
 module _ (root : Grammar) (f : List ℕ) where
   split : (a b : List Moment) → asks_of f (a ++ b) ≡ asks_of f a ++ asks_of f b

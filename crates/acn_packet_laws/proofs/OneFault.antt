@@ -1,5 +1,6 @@
 -- One fault comes first.
 use Rattle.std.proofs.Common.{◌≡◌, ℕ, zero, suc, ◌<◌, ◌≤◌, ℤ, Bool, true, false, List, [], ◌∷◌, ◌++◌, length, map, Option, Some, None, refl, sym, ap, ◌∙◌, subst, arith, inl, inr, ◌⊎◌, nat_eq, nat_lt, ◌||◌}
+use Rattle.std.proofs.lemmas.Bool.{or_left, or_right}
 use Rattle.std.specs.Prelude.{slice_get, Contains, if◌then◌else◌}
 use Rattle.std.proofs.lemmas.Bool.Decides.{nat_tests}
 use Rattle.acn_grammar.specs.Check.{CheckFault, forward, det_kind, det_width, overlap, absent_unclear, unused, no_item, mixed_choice, too_long, too_many_open, too_many_conditions, too_many_values, terminator_ambiguous, number_of_fault, test_slot, open_at, IsStrictly, NodeAt, UseOf, IsChoice, equals_on, Evidence, rank, Before}
@@ -18,7 +19,7 @@ use Rattle.acn_packet_laws.specs.Laws.{OneFirstFault}
 use Rattle.acn_packet_laws.proofs.FirstFaults.{five}
 use Rattle.acn_packet_laws.proofs.Homes.{truth}
 use Rattle.acn_packet_laws.proofs.Overlaps.{contains_holds, holds_contains}
-use Rattle.acn_packet_laws.proofs.Placed.{or_left, or_right, has_field, field_is, twice, tree_numbered, tree_rules}
+use Rattle.acn_packet_laws.proofs.Placed.{has_field, field_is, twice, tree_numbered, tree_rules}
 use Rattle.acn_packet_laws.proofs.Scoping.{same_eq}
 
 -- Numbers of slots in ascending order.

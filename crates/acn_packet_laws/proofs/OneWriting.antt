@@ -1,17 +1,15 @@
 -- A value is written in one way: in mode Written the bits are determined, part by part.
-use Rattle.std.proofs.Common.{◌≡◌, ℕ, zero, suc, ◌+◌, ◌-◌, ◌*◌, ◌/◌, ◌%◌, ◌^◌, ◌<◌, ◌≤◌, ℤ, pos, negsuc, ◌+ℤ◌, Bool, true, false, List, [], ◌∷◌, ◌++◌, length, replicate, Option, Some, None, refl, sym, ap, ◌∙◌, arith, inl, inr, IsTrue, length-append, append-nil}
-use Rattle.std.specs.Prelude.{◌≤ℤ◌}
+use Rattle.std.proofs.Common.{◌≡◌, ℕ, zero, suc, ◌+◌, ◌-◌, ◌*◌, ◌/◌, ◌^◌, ◌<◌, ℤ, pos, negsuc, ◌+ℤ◌, Bool, true, false, List, [], ◌∷◌, ◌++◌, length, replicate, Option, Some, None, refl, sym, ap, ◌∙◌, arith, inl, inr, IsTrue, length-append}
 use Rattle.std.specs.List.{AllByRecursion, zip}
 use Rattle.std.proofs.lemmas.Int.{ints}
 use Rattle.std.proofs.Math.Nat.{suc-mul}
 use Rattle.acn_num.specs.Bits.{number, signed_number, low_bits, IsNumber, IsSigned}
 use Rattle.acn_grammar.specs.AsksOn.{LeastAnswer}
 use Rattle.acn_grammar.specs.Asks.{Ask}
-use Rattle.acn_grammar.specs.Code.{Written, Code, CodingCode, Counted, AreDigits, SignOctet, FlagCode, OtherPattern, decimal_number, nibbles, digit_octets, in_order}
+use Rattle.acn_grammar.specs.Code.{Written, Code, CodingCode, Counted, AreDigits, SignOctet, FlagCode, decimal_number, nibbles, digit_octets, in_order}
 use Rattle.acn_grammar.specs.Env.{Env, at_slot}
-use Rattle.acn_grammar.specs.Front.{IsWritten}
 use Rattle.acn_grammar.specs.Grammar.{Grammar, Form, Fields, Alternatives, Data, Places, Elements, node, num, octets, bits, text, seq, list, choice, contained, no_fields, component, inserted, no_alternatives, alternative, octet_string, bit_string, characters, record_of, list_of, alt, null, no_places, empty, filled, no_elements, element}
-use Rattle.acn_grammar.specs.Leaves.{num_fine, coding_fine, implies, can_be_little}
+use Rattle.acn_grammar.specs.Leaves.{num_fine, implies, can_be_little}
 use Rattle.acn_grammar.specs.Length.{ending}
 use Rattle.acn_grammar.specs.Spell.{Part, ◌then◌, Padding, Fill, Spell, FormPart, FieldsPart, SlotField, RulePart, SizePart, RunPart, ListPart, CharactersPart, EndedPart, Window, IndexPart, AlternativePart, with_home}
 use Rattle.acn_grammar.specs.declared.node.ChoiceRule.{ChoiceRule}

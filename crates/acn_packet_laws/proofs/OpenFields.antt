@@ -1,15 +1,15 @@
 -- In a tree without a fault each slot's field stands where its home is open.
-use Rattle.std.proofs.Common.{◌≡◌, ℕ, zero, suc, ◌+◌, ◌<◌, Bool, true, false, not, ◌&&◌, ◌||◌, List, [], ◌∷◌, ◌++◌, length, map, get_or, Option, Some, None, refl, sym, ap, ◌∙◌, arith, inl, inr, ◌⊎◌, nat_eq, subst}
-use Rattle.std.specs.Prelude.{slice_get, Contains}
-use Rattle.std.specs.List.{list_any, list_all, flat_map, range_with_len}
+use Rattle.std.proofs.Common.{◌≡◌, ℕ, zero, suc, ◌<◌, Bool, true, false, ◌&&◌, ◌||◌, List, [], ◌∷◌, ◌++◌, length, map, get_or, refl, sym, arith, inl, inr, ◌⊎◌, nat_eq, subst}
+use Rattle.std.proofs.lemmas.Bool.{and_from, or_left, or_right}
+use Rattle.std.specs.List.{list_any, list_all, flat_map}
 use Rattle.acn_grammar.specs.Check.{CheckFault, Undecodable, unused}
 use Rattle.acn_grammar.specs.Grammar.{Grammar, Form, Fields, Alternatives, node, num, octets, bits, text, seq, list, choice, contained, no_fields, component, inserted, no_alternatives, alternative}
-use Rattle.acn_grammar.specs.Tree.{IsTree, holds, home_fine, names_open, near, stand_rules, all_true, same_numbers, slots_of, is_slot}
-use Rattle.acn_grammar.specs.Walk.{Stand, Role, root_node, a_component, an_inserted, an_alternative, an_element, a_content, nodes, form_nodes, field_nodes, alternative_nodes, nodes_of, slot_here, slot_of, uses, Use}
-use Rattle.acn_grammar.proofs.Codings.{both_are, equal_numbers}
+use Rattle.acn_grammar.specs.Tree.{IsTree, holds, home_fine, stand_rules, all_true}
+use Rattle.acn_grammar.specs.Walk.{Stand, Role, root_node, a_component, an_inserted, an_alternative, an_element, a_content, nodes, form_nodes, field_nodes, alternative_nodes, nodes_of, slot_of, uses, Use}
+use Rattle.acn_grammar.proofs.Codings.{both_are}
 use Rattle.acn_grammar.proofs.TreeRules.{StandFine, stand_fine}
-use Rattle.acn_packet_laws.proofs.Placed.{or_left, or_right, any_left, any_right, any_either, holds_left, holds_right, holds_either, has_field, field_is, near_has, home_near, tree_numbered, tree_rules, here_at, list_all-holds}
-use Rattle.acn_packet_laws.proofs.Scoping.{find_field, used_left, same_eq, false_from}
+use Rattle.acn_packet_laws.proofs.Placed.{any_left, any_right, holds_left, holds_right, holds_either, has_field, field_is, near_has, home_near, tree_numbered, tree_rules, here_at, list_all-holds}
+use Rattle.acn_packet_laws.proofs.Scoping.{find_field, same_eq}
 
 -- what holds of each of a list
 abbrev pub Each : {A : Type 0} → (A → Type 0) → List A → Type 0
@@ -67,16 +67,12 @@ mutual
 abbrev pub open_field : ℕ → List Stand → Bool
 open_field s l = list_any (λ at. field_is s at && holds at.around s) l
 
-both_true : (a b : Bool) → a ≡ true → b ≡ true → (a && b) ≡ true
-both_true true b h k = k
-both_true false b h k = cc
-
 with_around : (l : List Stand) (around : List ℕ) (s : ℕ) → Each (Inside around) l → holds around s ≡ true → has_field s l ≡ true → open_field s l ≡ true
 with_around [] around s e o h = cc
 with_around (at ∷ l) around s e o h = by (field_is s at) refl h (λ g. with_around l around s e.1 o g)
   where
     by : (t : Bool) → field_is s at ≡ t → (t || has_field s l) ≡ true → (has_field s l ≡ true → open_field s l ≡ true) → open_field s (at ∷ l) ≡ true
-    by true q h' f = or_left (field_is s at && holds at.around s) (open_field s l) (both_true (field_is s at) (holds at.around s) q (e.0 s o))
+    by true q h' f = or_left (field_is s at && holds at.around s) (open_field s l) (and_from (field_is s at) (holds at.around s) q (e.0 s o))
     by false q h' f = or_right (field_is s at && holds at.around s) (open_field s l) (f h')
 
 split_uses : {F : Type 0} (xs ys : List Use) (s : ℕ) → holds (map slot_of (xs ++ ys)) s ≡ true → (holds (map slot_of xs) s ≡ true → F) → (holds (map slot_of ys) s ≡ true → F) → F

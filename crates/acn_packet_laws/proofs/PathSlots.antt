@@ -1,9 +1,9 @@
 -- What a path of a packet leads to: the slot whose field is there is told by the grammar and the path alone, so two moments of one field are of one slot.
 use Rattle.std.proofs.Common.{◌≡◌, ℕ, zero, suc, ◌≤◌, Bool, true, false, List, [], ◌∷◌, ◌++◌, length, map, Option, Some, None, refl, sym, ap, ◌∙◌, arith, append_assoc, subst, nat_eq}
-use Rattle.std.specs.Prelude.{if◌then◌else◌, unwrap_or}
+use Rattle.std.specs.Prelude.{if◌then◌else◌}
 use Rattle.std.specs.List.{AllByRecursion}
 use Rattle.acn_num.specs.Bits.{octets as octets_for}
-use Rattle.acn_grammar.specs.Asks.{Ask, Moment, asks, counts, FieldPaths, field_of, field_steps, field_path, with_fields, asked, test_asks, presence_asks, size_asks, own_asks, rule_asks, run_moments, moments, form_moments, fields_moments, alternative_moments}
+use Rattle.acn_grammar.specs.Asks.{Moment, asks, counts, FieldPaths, field_of, field_path, with_fields, test_asks, presence_asks, size_asks, own_asks, rule_asks, run_moments, moments, form_moments, fields_moments, alternative_moments}
 use Rattle.acn_grammar.specs.Grammar.{Grammar, Form, Fields, Alternatives, Data, Places, Elements, node, num, octets, bits, text, seq, list, choice, contained, no_fields, component, inserted, no_alternatives, alternative, octet_string, bit_string, characters, record_of, list_of, alt, no_places, empty, filled, no_elements, element, element_count}
 use Rattle.acn_grammar.specs.Length.{bit_length}
 use Rattle.acn_grammar.specs.Tree.{holds, near}
@@ -15,8 +15,9 @@ use Rattle.acn_grammar.specs.declared.node.SizeRule.{SizeRule}
 use Rattle.acn_grammar.specs.declared.node.SizeRule.TheVariants.{Prefix, Slot, Ended}
 use Rattle.acn_grammar.specs.declared.node.Test.{Test}
 use Rattle.acn_grammar.specs.declared.node.Test.TheVariants.{Flag, Equals}
-use Rattle.acn_packet_laws.proofs.AskHomes.{form_slot, field_slot, node_slot, differs, FormHomes, NodeHomes, FieldsHomes, CasesHomes, truth, if_yes, if_no}
-use Rattle.acn_packet_laws.proofs.Occurrences.{Told, told, field_in, field_out}
+use Rattle.acn_packet_laws.proofs.Homes.{truth}
+use Rattle.acn_packet_laws.proofs.AskHomes.{form_slot, field_slot, node_slot, differs, FormHomes, NodeHomes, FieldsHomes, CasesHomes, if_yes, if_no}
+use Rattle.acn_packet_laws.proofs.Occurrences.{told, field_in, field_out}
 use Rattle.acn_packet_laws.proofs.Placed.{holds_either}
 use Rattle.acn_packet_laws.proofs.Scoping.{same_eq}
 use Rattle.acn_packet_laws.proofs.SoundLaws.{first_two, first_three, second_three, first_four, second_four, third_four}

@@ -1,5 +1,6 @@
 -- Where a node stands in a tree, and what the rules of a tree say of the slots there.
 use Rattle.std.proofs.Common.{◌≡◌, ℕ, zero, suc, ◌+◌, ◌≤◌, Bool, true, false, not, List, [], ◌∷◌, ◌++◌, length, Option, Some, None, refl, sym, ap, ◌∙◌, arith, append_assoc, append-nil, inl, inr, ◌⊎◌, nat_eq, nat_le, ◌&&◌, ◌||◌}
+pub use Rattle.std.proofs.lemmas.Bool.{or_left, or_right}
 use Rattle.std.specs.Prelude.{cond, filter}
 use Rattle.std.specs.List.{list_any, list_all, range_with_len, cons_option}
 use Rattle.acn_grammar.specs.Asks.{same_name}
@@ -16,14 +17,6 @@ use Rattle.acn_grammar.proofs.TreeRules.{StandFine, stand_fine, list_all-append}
 use Rattle.acn_grammar.proofs.Characters.{same_name-is}
 
 -- Tests on lists.
-
-pub or_left : (a b : Bool) → a ≡ true → (a || b) ≡ true
-or_left true b h = refl
-or_left false b h = cc
-
-pub or_right : (a b : Bool) → b ≡ true → (a || b) ≡ true
-or_right true b h = refl
-or_right false b h = h
 
 pub or_assoc : (a b c : Bool) → (a || (b || c)) ≡ ((a || b) || c)
 or_assoc true b c = refl

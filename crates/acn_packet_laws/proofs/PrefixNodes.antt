@@ -1,5 +1,6 @@
 -- No spelling of a node begins another, from laws of the leaves.
 use Rattle.std.proofs.Common.{◌≡◌, ℕ, zero, suc, ◌+◌, ◌-◌, ◌<◌, ℤ, pos, Bool, true, false, List, [], ◌∷◌, ◌++◌, length, Option, Some, None, refl, sym, ap, ◌∙◌, arith, nat_eq, ◌||◌, ◌&&◌, not, IsTrue, ◌*◌}
+use Rattle.std.proofs.lemmas.Bool.{not-true, or_parts}
 use Rattle.std.proofs.lemmas.Bool.Decides.{nat_tests}
 use Rattle.std.specs.Prelude.{slice_get}
 use Rattle.std.specs.List.{list_any, zip, AllByRecursion}
@@ -40,19 +41,21 @@ use Rattle.acn_grammar.proofs.Characters.{same_name-refl}
 law_map : {P Q : Part} {F G : Type 0} → (F → G) → Law P Q F → Law P Q G
 law_map h law at a b r s p q e = let x = law at a b r s p q e in (x.0, h x.1)
 
-neither_is : (a b : Bool) → (a || b) ≡ false → (a ≡ false) × (b ≡ false)
-neither_is true b h = cc
-neither_is false b h = (refl, h)
+pub same_name-refl : (n : List ℕ) → same_name n n ≡ true
+same_name-refl [] = refl
+same_name-refl (c ∷ cs) =
+    let t : nat_eq c c ≡ true = grind (arith, nat_tests) in
+    rw t (same_name-refl cs)
 
 -- names that differ tell their places
 no_other_name : (n : List ℕ) (ns : List (List ℕ)) (j : ℕ) → list_any (same_name n) ns ≡ false → slice_get ns j ≡ Some n → ⊥
 no_other_name n [] j h e = cc
 no_other_name n (m ∷ ns) zero h e =
-    let f = (neither_is (same_name n m) (list_any (same_name n) ns) h).0 in
+    let f = (or_parts (same_name n m) (list_any (same_name n) ns) h).0 in
     let is : m ≡ n = cc in
     let t : same_name n m ≡ true = rw is (same_name-refl n) in
     cc
-no_other_name n (m ∷ ns) (suc j) h e = no_other_name n ns j (neither_is (same_name n m) (list_any (same_name n) ns) h).1 e
+no_other_name n (m ∷ ns) (suc j) h e = no_other_name n ns j (or_parts (same_name n m) (list_any (same_name n) ns) h).1 e
 
 pub names_one : (ns : List (List ℕ)) (i j : ℕ) (n : List ℕ) → all_differ same_name ns ≡ true → slice_get ns i ≡ Some n → slice_get ns j ≡ Some n → i ≡ j
 names_one [] i j n h p q = cc
@@ -73,10 +76,6 @@ holds_true b h = h
 and_true : (a b : Bool) → (a && b) ≡ true → (a ≡ true) × (b ≡ true)
 and_true true b h = (refl, h)
 and_true false b h = cc
-
-not_true : (b : Bool) → not b ≡ true → b ≡ false
-not_true true h = cc
-not_true false h = refl
 
 same_int : (y : ℤ) (d : Data) (x : ℤ) → x ≡ y → NumberOf Integer d x → int y ≡ d
 same_int y (int z) x p q = cc
@@ -136,10 +135,6 @@ or_rest : (a b : Bool) → a ≡ false → (a || b) ≡ true → b ≡ true
 or_rest true b e h = cc
 or_rest false b e h = h
 
-or_none : (a b : Bool) → (a || b) ≡ false → (a ≡ false) × (b ≡ false)
-or_none true b h = cc
-or_none false b h = (refl, h)
-
 pub agree_more : (ks : Known) (env env' : Env) (s : ℕ) (x : ℤ) → Agree ks env env' → at_slot env s ≡ Some x → at_slot env' s ≡ Some x → Agree (with_slot s ks) env env'
 agree_more ks env env' s x same p q t h = go (nat_eq s t) refl
   where
@@ -152,7 +147,7 @@ extended : (home : List ℕ) (xs : List ℤ) (env : Env) (s : ℕ) → holds hom
 extended [] xs env s h = refl
 extended (k ∷ home) [] env s h = refl
 extended (k ∷ home) (x ∷ xs) env s h =
-    let n = or_none (nat_eq k s) (holds home s) h in rw n.0 (extended home xs env s n.1)
+    let n = or_parts (nat_eq k s) (holds home s) h in rw n.0 (extended home xs env s n.1)
 
 pub agree_inside : (ks : Known) (home : List ℕ) (xs ys : List ℤ) (env env' : Env) → Apart ks home → Agree ks env env' → Agree ks (with_home home xs env) (with_home home ys env')
 agree_inside ks home xs ys env env' apart same s h =
@@ -262,7 +257,7 @@ module _ (root : Grammar) where
   outside : (known : Known) (home : List ℕ) (xs ys : List ℤ) (env env' : Env) → Agree known (with_home home xs env) (with_home home ys env') → Agree (λ s. known s && not (holds home s)) env env'
   outside known home xs ys env env' same s h =
       let both = and_true (known s) (not (holds home s)) h in
-      let apart = not_true (holds home s) both.1 in
+      let apart = not-true (holds home s) both.1 in
       sym (extended home xs env s apart) ∙ (same s both.0 ∙ extended home ys env' s apart)
 
   -- the conditions of the alternative that is spelled hold

@@ -27,8 +27,9 @@ use Rattle.acn_grammar.specs.declared.node.Test.{Test}
 use Rattle.acn_grammar.specs.declared.node.Test.TheVariants.{Flag, Equals}
 use Rattle.acn_grammar.proofs.SpellLength.{Steady, SteadyForm, SteadyFields, SteadyAlternatives}
 use Rattle.acn_packet_laws.specs.Laws.{RefusedIsNotSpelled}
+use Rattle.acn_packet_laws.proofs.Homes.{truth}
 use Rattle.acn_packet_laws.proofs.Answering.{at_home, fields_met}
-use Rattle.acn_packet_laws.proofs.AskHomes.{FormHomes, NodeHomes, FieldsHomes, CasesHomes, tree_homes, differs, truth, if_yes, if_no}
+use Rattle.acn_packet_laws.proofs.AskHomes.{FormHomes, NodeHomes, FieldsHomes, CasesHomes, tree_homes, differs, if_yes, if_no}
 use Rattle.acn_packet_laws.proofs.Contents.{content_octets}
 use Rattle.acn_packet_laws.proofs.Lengths.{root_steady}
 use Rattle.acn_packet_laws.proofs.NodeLaws.{accepted_sound}

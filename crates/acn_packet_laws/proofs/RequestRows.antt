@@ -1,72 +1,20 @@
--- Rows of the requests for components that are determinants and for lists ended by a pattern.
-use Rattle.std.proofs.Common.{◌≡◌, ℕ, ◌+◌, pos, Bool, true, false, List, [], ◌∷◌, ◌++◌, Option, Some, None, length, refl, ap, arith, inl, inr, subst, length-append}
+-- Rows of lists that a pattern ends and of components that are determinants.
+use Rattle.std.proofs.Common.{◌≡◌, ℕ, ◌+◌, pos, Bool, false, List, [], ◌∷◌, ◌++◌, Some, None, length, refl, ap, arith, inl, inr, subst, length-append}
 use Rattle.std.proofs.lemmas.Int.{ints}
-use Rattle.acn_grammar.specs.Asks.{Moment, asks, Equal}
-use Rattle.acn_grammar.specs.Meets.{conflict}
-use Rattle.acn_grammar.specs.Refused.{Refused, CanBeMet}
 use Rattle.acn_num.specs.Bits.{low_bits, bits as bits_of}
+use Rattle.acn_grammar.specs.Asks.{Moment, asks, Equal}
 use Rattle.acn_grammar.specs.Code.{Mode, Written, Any, Code}
 use Rattle.acn_grammar.specs.Fails.{Refusal, Failing, Behind}
 use Rattle.acn_grammar.specs.Front.{IsWritten}
-use Rattle.acn_grammar.specs.Grammar.{Grammar, Data, node, num, octets, list, seq, no_fields, component, int, octet_string, record_of, list_of, element, no_elements, filled, no_places}
-use Rattle.acn_grammar.specs.Interval.{span, value_count}
+use Rattle.acn_grammar.specs.Grammar.{int, octet_string, list_of, element, no_elements}
 use Rattle.acn_grammar.specs.LeafFails.{too_long, size_out_of_range}
+use Rattle.acn_grammar.specs.Meets.{conflict}
+use Rattle.acn_grammar.specs.Refused.{Refused, CanBeMet}
 use Rattle.acn_grammar.specs.Spell.{Spell, Padding}
-use Rattle.acn_grammar.specs.Tree.{is_tree}
 use Rattle.acn_grammar.specs.declared.node.NumCoding.TheVariants.{Range}
 use Rattle.acn_grammar.specs.declared.node.NumKind.TheVariants.{Integer}
-use Rattle.acn_grammar.specs.declared.node.Presence.{Presence}
-use Rattle.acn_grammar.specs.declared.node.Presence.TheVariants.{Always, Bit}
-use Rattle.acn_grammar.specs.declared.node.SizeRule.TheVariants.{Slot, Ended}
-use Rattle.acn_packet_laws.proofs.Trees.{integer, octets_of}
-
--- SEQUENCE (SIZE (0..3)) OF INTEGER (0..200), ended by 'FF'H
-abbrev ended : (low : ℕ) → Grammar → Grammar
-ended low g = node 1 (list (record { sizes = (pos low, pos 3) ∷ []; rule = Ended (low_bits 8 255) }) g)
-
-abbrev small : Grammar
-small = integer (pos 0) (pos 200) (Range (pos 0) 8)
-
-ended_is : is_tree (ended 0 small) ≡ true
-ended_is = refl
-
-ended_bounds : span (ended 0 small) ≡ record { least = 8; greatest = 32 }
-ended_bounds = refl
-
-ended_values : value_count (ended 0 small) ≡ 4
-ended_values = refl
-
--- a pattern ends lists alone, and has some bits
-only_lists : is_tree (octets_of 0 16 (Ended (low_bits 8 255))) ≡ false
-only_lists = refl
-
-no_pattern : is_tree (node 1 (list (record { sizes = (pos 0, pos 3) ∷ []; rule = Ended [] }) small)) ≡ false
-no_pattern = refl
-
--- SEQUENCE { n INTEGER (0..255), d OCTET STRING (SIZE (0..16)) } with n [], d [size n]
-abbrev own : Presence → Option ℕ → (home : List ℕ) → Grammar
-own presence slot home =
-    node 1 (seq (component (110 ∷ []) (integer (pos 0) (pos 255) (Range (pos 0) 8)) presence None slot (component (100 ∷ []) (octets_of 0 16 (Slot 0)) Always None None no_fields)) home)
-
-own_is : is_tree (own Always (Some 0) (0 ∷ [])) ≡ true
-own_is = refl
-
-own_bounds : span (own Always (Some 0) (0 ∷ [])) ≡ record { least = 8; greatest = 136 }
-own_bounds = refl
-
--- it is always there, has its home, and the use has its slot
-not_optional : is_tree (own Bit (Some 0) (0 ∷ [])) ≡ false
-not_optional = refl
-
-no_home : is_tree (own Always (Some 0) []) ≡ false
-no_home = refl
-
-no_slot : is_tree (own Always None []) ≡ false
-no_slot = refl
-
--- a component with a slot has a use
-no_use : is_tree (node 1 (seq (component (110 ∷ []) (integer (pos 0) (pos 255) (Range (pos 0) 8)) Always None (Some 0) no_fields) (0 ∷ []))) ≡ false
-no_use = refl
+use Rattle.acn_packet_laws.specs.RequestRows.{small, ended_list, counted_octets, APatternEndsTheList, AComponentDetermines}
+use Rattle.acn_packet_laws.specs.WorkedRows.{two}
 
 -- What is written.
 
@@ -86,7 +34,7 @@ size_code : ByteCode 255 2
 size_code = record { permitted = refl; image = pos 2; maps = refl; spelled = (2, refl, record { width = refl; value = refl }) }
 
 -- enc [1,2] is 01 02 ff, without padding in front of the pattern
-ended_written : IsWritten (ended 0 small) (list_of (element (int (pos 1)) (element (int (pos 2)) no_elements))) (bits_of (1 ∷ 2 ∷ 255 ∷ []))
+ended_written : IsWritten (ended_list 0) (list_of (element (int (pos 1)) (element (int (pos 2)) no_elements))) (bits_of (1 ∷ 2 ∷ 255 ∷ []))
 ended_written = record {
   front = [];
   back = bits_of (1 ∷ 2 ∷ 255 ∷ []);
@@ -117,7 +65,7 @@ ended_written = record {
 }
 
 -- enc [] is ff
-empty_written : IsWritten (ended 0 small) (list_of no_elements) (low_bits 8 255)
+empty_written : IsWritten (ended_list 0) (list_of no_elements) (low_bits 8 255)
 empty_written = record {
   front = [];
   back = low_bits 8 255;
@@ -127,7 +75,7 @@ empty_written = record {
 }
 
 -- dec ff, with one element at least
-none_permitted : Refusal (ended 1 small) (low_bits 8 255) (record { path = []; reason = size_out_of_range 0; at = 0 }) 8
+none_permitted : Refusal (ended_list 1) (low_bits 8 255) (record { path = []; reason = size_out_of_range 0; at = 0 }) 8
 none_permitted = inr (record {
   front = [];
   back = low_bits 8 255;
@@ -139,7 +87,7 @@ none_permitted = inr (record {
 })
 
 -- dec 01 02 03 04: no fourth may come
-too_many : Refusal (ended 0 small) (bits_of (1 ∷ 2 ∷ 3 ∷ 4 ∷ [])) (record { path = []; reason = too_long; at = 0 }) 32
+too_many : Refusal (ended_list 0) (bits_of (1 ∷ 2 ∷ 3 ∷ 4 ∷ [])) (record { path = []; reason = too_long; at = 0 }) 32
 too_many = inr (record {
   front = [];
   back = bits_of (1 ∷ 2 ∷ 3 ∷ 4 ∷ []);
@@ -162,18 +110,15 @@ too_many = inr (record {
   reaches = refl;
 })
   where
-    byte : (at k : ℕ) → Code Any (record { kind = Integer; set = (pos 0, pos 200) ∷ []; coding = Range (pos 0) 8; little = false; table = None; items = record { items = []; values = false } }) (pos k) (low_bits 8 k) → Spell (ended 0 small) Any small [] (int (pos k)) at (low_bits 8 k)
+    byte : (at k : ℕ) → Code Any (record { kind = Integer; set = (pos 0, pos 200) ∷ []; coding = Range (pos 0) 8; little = false; table = None; items = record { items = []; values = false } }) (pos k) (low_bits 8 k) → Spell (ended_list 0) Any small [] (int (pos k)) at (low_bits 8 k)
     byte at k c = record { front = []; back = low_bits 8 k; whole = refl; first = nothing Any at; second = (pos k, refl, subst (λ (bs : List Bool). Code Any (record { kind = Integer; set = (pos 0, pos 200) ∷ []; coding = Range (pos 0) 8; little = false; table = None; items = record { items = []; values = false } }) (pos k) bs) refl c) }
 
-    behind : {F : Failing} (at k : ℕ) (back : List Bool) (more : ℕ) → Spell (ended 0 small) Any small [] (int (pos k)) at (low_bits 8 k) → F (at + 8) back (record { path = []; reason = too_long; at = 0 }) more
-        → Behind (Spell (ended 0 small) Any small [] (int (pos k))) F at (low_bits 8 k ++ back) (record { path = []; reason = too_long; at = 0 }) (8 + more)
+    behind : {F : Failing} (at k : ℕ) (back : List Bool) (more : ℕ) → Spell (ended_list 0) Any small [] (int (pos k)) at (low_bits 8 k) → F (at + 8) back (record { path = []; reason = too_long; at = 0 }) more
+        → Behind (Spell (ended_list 0) Any small [] (int (pos k))) F at (low_bits 8 k ++ back) (record { path = []; reason = too_long; at = 0 }) (8 + more)
     behind at k back more s f = record { front = low_bits 8 k; back = back; whole = refl; spelled = s; more = more; fails = f; reaches = refl }
 
 -- enc n 2 and d a1b2 is 02 a1 b2
-abbrev pair : ℕ → List ℕ → Data
-pair n os = record_of (filled (int (pos n)) (filled (octet_string os) no_places))
-
-own_written : IsWritten (own Always (Some 0) (0 ∷ [])) (pair 2 (161 ∷ 178 ∷ [])) (bits_of (2 ∷ 161 ∷ 178 ∷ []))
+own_written : IsWritten (counted_octets) (two (int (pos 2)) (octet_string (161 ∷ 178 ∷ []))) (bits_of (2 ∷ 161 ∷ 178 ∷ []))
 own_written = record {
   front = [];
   back = bits_of (2 ∷ 161 ∷ 178 ∷ []);
@@ -214,7 +159,7 @@ own_written = record {
 }
 
 -- enc n 3 and d a1: Conflict n =3 =1 at d
-own_conflicts : Refused (own Always (Some 0) (0 ∷ [])) (pair 3 (161 ∷ [])) (record { path = 1 ∷ []; why = conflict (0 ∷ []) (Some (Equal (pos 3))) (Equal (pos 1)) })
+own_conflicts : Refused (counted_octets) (two (int (pos 3)) (octet_string (161 ∷ []))) (record { path = 1 ∷ []; why = conflict (0 ∷ []) (Some (Equal (pos 3))) (Equal (pos 1)) })
 own_conflicts = record {
   before = asks (0 ∷ []) (0 ∷ []) 0 (Equal (pos 3)) ∷ [];
   here = asks (1 ∷ []) (0 ∷ []) 0 (Equal (pos 1));
@@ -225,9 +170,15 @@ own_conflicts = record {
   says = (Some (Equal (pos 3)), (record { early = []; late = []; is = refl }, λ e. absurd (omega (arith, ints, e))), refl);
 }
   where
-    three : CanBeMet (own Always (Some 0) (0 ∷ [])) [] (asks (0 ∷ []) (0 ∷ []) 0 (Equal (pos 3)))
+    three : CanBeMet (counted_octets) [] (asks (0 ∷ []) (0 ∷ []) 0 (Equal (pos 3)))
     three = (pos 3, record { permitted = refl; meets = (refl, tt) })
 
-    first_met : (early late : List Moment) (m : Moment) → asks (0 ∷ []) (0 ∷ []) 0 (Equal (pos 3)) ∷ [] ≡ early ++ m ∷ late → CanBeMet (own Always (Some 0) (0 ∷ [])) early m
-    first_met [] late m e = (let same : asks (0 ∷ []) (0 ∷ []) 0 (Equal (pos 3)) ≡ m = cc in subst (CanBeMet (own Always (Some 0) (0 ∷ [])) []) same three)
+    first_met : (early late : List Moment) (m : Moment) → asks (0 ∷ []) (0 ∷ []) 0 (Equal (pos 3)) ∷ [] ≡ early ++ m ∷ late → CanBeMet (counted_octets) early m
+    first_met [] late m e = (let same : asks (0 ∷ []) (0 ∷ []) 0 (Equal (pos 3)) ≡ m = cc in subst (CanBeMet (counted_octets) []) same three)
     first_met (x ∷ early) late m e = absurd (let l = ap length e in omega (arith, l, length-append early (m ∷ late)))
+
+pub a_pattern_ends_the_list_law : APatternEndsTheList
+a_pattern_ends_the_list_law = record { tree = refl; bounds = refl; values = refl; written = ended_written; empty = empty_written; too_few = none_permitted; too_many = too_many; only_lists = refl; some_bits = refl }
+
+pub a_component_determines_law : AComponentDetermines
+a_component_determines_law = record { tree = refl; bounds = refl; written = own_written; refused = own_conflicts; not_optional = refl; no_home = refl; no_slot = refl; no_use = refl }

@@ -1,13 +1,14 @@
 -- In a tree without a fault each use names a slot whose number is known where it stands.
-use Rattle.std.proofs.Common.{◌≡◌, ℕ, zero, suc, ◌<◌, Bool, true, false, not, List, [], ◌∷◌, ◌++◌, length, map, Option, Some, None, refl, sym, ap, ◌∙◌, arith, nat_eq, ◌&&◌, ◌||◌}
+use Rattle.std.proofs.lemmas.Bool.{and_from, false_from_ne_true, or_left, or_parts, or_right}
+use Rattle.std.proofs.Common.{◌≡◌, ℕ, zero, suc, ◌<◌, Bool, true, false, not, List, [], ◌∷◌, ◌++◌, length, map, Option, Some, None, refl, sym, ap, ◌∙◌, arith, nat_eq, ◌||◌}
 use Rattle.std.specs.Prelude.{slice_get}
 use Rattle.std.specs.List.{list_any, list_all, range_with_len}
 use Rattle.std.proofs.lemmas.Bool.Decides.{nat_tests}
 use Rattle.acn_grammar.specs.Check.{CheckFault, forward, Undecodable}
 use Rattle.acn_grammar.specs.Grammar.{Grammar, Form, Fields, Alternatives, node, num, octets, bits, text, seq, list, choice, contained, no_fields, component, inserted, no_alternatives, alternative}
 use Rattle.acn_grammar.specs.Scoped.{Known, with_slot, TestsIn, PresenceIn, RuleIn, FineField, choose_known, with_own, after, fields_after, names_of}
-use Rattle.acn_grammar.specs.Tree.{IsTree, holds, is_slot, near, near_node, near_if, slot_list, role_fine, own_fine, presence_fine, encloses, form_fine, same_numbers, slots_of, all_true, stand_rules}
-use Rattle.acn_grammar.specs.Walk.{Stand, Role, a_component, an_inserted, an_alternative, an_element, a_content, root_node, nodes, nodes_of, form_nodes, field_nodes, slot_here, Use, condition, slot_of, uses, own_tests, presence_tests, form_uses, rule_uses, conditions_of}
+use Rattle.acn_grammar.specs.Tree.{IsTree, holds, is_slot, near, near_node, role_fine, own_fine, presence_fine, encloses, form_fine, same_numbers, slots_of, all_true, stand_rules}
+use Rattle.acn_grammar.specs.Walk.{Stand, Role, a_component, an_inserted, an_alternative, an_element, a_content, root_node, nodes, nodes_of, form_nodes, field_nodes, slot_here, Use, condition, slot_of, uses, own_tests, presence_tests, form_uses, rule_uses}
 use Rattle.acn_grammar.specs.declared.node.Presence.{Presence}
 use Rattle.acn_grammar.specs.declared.node.Presence.TheVariants.{Always, Bit, When}
 use Rattle.acn_grammar.specs.declared.node.SizeRule.{SizeRule}
@@ -15,7 +16,7 @@ use Rattle.acn_grammar.specs.declared.node.SizeRule.TheVariants.{Prefix, Slot, E
 use Rattle.acn_grammar.specs.declared.node.Test.{Test}
 use Rattle.acn_grammar.specs.declared.node.Test.TheVariants.{Flag, Equals}
 use Rattle.acn_grammar.proofs.Codings.{both_are, equal_numbers}
-use Rattle.acn_packet_laws.proofs.Placed.{or_left, or_right, any_left, any_right, any_either, holds_right, holds_either, list_all-holds, field_is, has_field, near_has, near_if_when, near_parts, own_number, is_number, no_field, twice, fine_at, home_near, home_is, Place, FieldsPlace, CasesPlace, here_at, place_fine, to_fields, first_component, next_component, first_inserted, next_inserted, tree_numbered, tree_rules, slot_in, parts_apart, inserted_number}
+use Rattle.acn_packet_laws.proofs.Placed.{any_left, any_right, any_either, holds_right, holds_either, list_all-holds, field_is, has_field, near_has, near_if_when, near_parts, own_number, is_number, no_field, twice, fine_at, home_near, home_is, Place, FieldsPlace, CasesPlace, here_at, place_fine, to_fields, first_component, next_component, first_inserted, next_inserted, tree_numbered, tree_rules, slot_in, parts_apart, inserted_number}
 use Rattle.acn_grammar.proofs.Texts.{either}
 
 -- Uses and fields by their places.
@@ -112,10 +113,6 @@ if_truth : {F : Type 0} (b : Bool) → (b ≡ true → F) → (b ≡ false → F
 if_truth true f g = f refl
 if_truth false f g = g refl
 
-pub false_from : (b : Bool) → (b ≡ true → ⊥) → b ≡ false
-false_from true f = absurd (f refl)
-false_from false f = refl
-
 -- What is known behind a node stands in it or before it.
 
 behind_all : (a b : List Stand) (ks : Known) (s : ℕ) → (ks s || has_field s b) ≡ true → (ks s || has_field s (a ++ b)) ≡ true
@@ -173,17 +170,9 @@ mutual
   fields_after_from (inserted name g None fs) path around k ks s h =
       behind_all (nodes (an_inserted name None) (path ++ k ∷ []) around g) (field_nodes path around (suc k) fs) ks s (fields_after_from fs path around (suc k) ks s h)
 
-pub both_true : (a b : Bool) → a ≡ true → b ≡ true → (a && b) ≡ true
-both_true true b h k = k
-both_true false b h k = cc
-
 pub not_true : (b : Bool) → b ≡ false → not b ≡ true
 not_true true h = cc
 not_true false h = refl
-
-pub neither : (a b : Bool) → (a || b) ≡ false → (a ≡ false) × (b ≡ false)
-neither true b h = cc
-neither false b h = (refl, h)
 
 -- what is known before these nodes, and stands before them
 abbrev pub Fresh : Known → List Stand → Type 0
@@ -239,26 +228,26 @@ module _ (root : Grammar) (tree : IsTree root) (sound : (f : CheckFault) → Und
 
   -- what is at home inside is new, and isn't at home outside
   pub not_home : (pre : List Stand) (role : Role) (path around : List ℕ) (align : ℕ) (fields : Fields) (home : List ℕ) (post : List Stand) → At pre role path around (node align (seq fields home)) post → (s : ℕ) → has_field s pre ≡ true → holds home s ≡ false
-  not_home pre role path around align fields home post p s h = false_from (holds home s) (λ q.
+  not_home pre role path around align fields home post p s h = false_from_ne_true (holds home s) (λ q.
       let here = here_at role path around align (seq fields home) in
       let inner = field_nodes path (home ++ around) 0 fields in
       let fine = place_fine (nodes_of root) numbers rules pre role path around align (seq fields home) post p in
       twice (nodes_of root) numbers rules pre ((here ∷ inner) ++ post) p.whole s h (any_left (field_is s) (here ∷ inner) post (or_right (field_is s here) (has_field s inner) (near_has fields path (home ++ around) 0 s (home_near (nodes_of root) numbers rules here fields home fine.home s q)))))
 
   pub outer_home : (pre : List Stand) (role : Role) (path around : List ℕ) (align : ℕ) (fields : Fields) (home : List ℕ) (post : List Stand) → At pre role path around (node align (seq fields home)) post → (s : ℕ) → holds around s ≡ true → holds home s ≡ false
-  outer_home pre role path around align fields home post p s o = false_from (holds home s) (λ q.
+  outer_home pre role path around align fields home post p s o = false_from_ne_true (holds home s) (λ q.
       let here = here_at role path around align (seq fields home) in
       let inner = field_nodes path (home ++ around) 0 fields in
       let fine = place_fine (nodes_of root) numbers rules pre role path around align (seq fields home) post p in
       let one = (both_are (encloses (nodes_of root) s here) (not (list_any (encloses (nodes_of root) s) inner)) (home_is (nodes_of root) numbers rules here fields home fine.home s q)).0 in
-      let two = (neither (encloses (nodes_of root) s here) (list_any (encloses (nodes_of root) s) inner) (p.alone s o)).0 in
+      let two = (or_parts (encloses (nodes_of root) s here) (list_any (encloses (nodes_of root) s) inner) (p.alone s o)).0 in
       cc)
 
   mutual
     pub keeps : (g : Grammar) (pre : List Stand) (role : Role) (path around : List ℕ) (post : List Stand) → At pre role path around g post → (ks : Known) → Fresh ks pre → (s : ℕ) → ks s ≡ true → after ks g s ≡ true
     keeps (node align (seq fields home)) pre role path around post p ks fresh s h =
         let here = here_at role path around align (seq fields home) in
-        both_true (fields_after ks fields s) (not (holds home s))
+        and_from (fields_after ks fields s) (not (holds home s))
         (fields_keeps fields (pre ++ here ∷ []) path (home ++ around) 0 post (to_fields (nodes_of root) numbers rules pre role path around align fields home post p) ks (fresh_more ks pre (here ∷ []) fresh) s h)
         (not_true (holds home s) (not_home pre role path around align fields home post p s (fresh s h)))
     keeps (node align (num leaf)) pre role path around post p ks fresh s h = h
@@ -300,7 +289,7 @@ module _ (root : Grammar) (tree : IsTree root) (sound : (f : CheckFault) → Und
     pub near_after : (g : Grammar) (pre : List Stand) (role : Role) (path around : List ℕ) (post : List Stand) → At pre role path around g post → (ks : Known) → Fresh ks pre → (s : ℕ) → holds around s ≡ true → holds (near_node g) s ≡ true → after ks g s ≡ true
     near_after (node align (seq fields home)) pre role path around post p ks fresh s o h =
         let here = here_at role path around align (seq fields home) in
-        both_true (fields_after ks fields s) (not (holds home s))
+        and_from (fields_after ks fields s) (not (holds home s))
         (fields_near_after fields (pre ++ here ∷ []) path (home ++ around) 0 post (to_fields (nodes_of root) numbers rules pre role path around align fields home post p) ks (fresh_more ks pre (here ∷ []) fresh) s (holds_right home around s o) h)
         (not_true (holds home s) (outer_home pre role path around align fields home post p s o))
     near_after (node align (num leaf)) pre role path around post p ks fresh s o h = cc

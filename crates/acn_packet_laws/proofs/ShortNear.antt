@@ -1,19 +1,18 @@
 -- Bits are wanting only where there are fewer than the greatest packet and the greatest window have.
-use Rattle.std.proofs.Common.{◌≡◌, ℕ, zero, suc, ◌+◌, ◌-◌, ◌*◌, ◌%◌, ◌^◌, ◌<◌, ◌≤◌, ℤ, pos, negsuc, Bool, true, false, not, ◌&&◌, List, [], ◌∷◌, ◌++◌, length, take, drop, Option, Some, None, refl, sym, ap, ◌∙◌, arith, inl, inr, ◌⊎◌, IsTrue, nat_eq, length-append}
-use Rattle.std.proofs.Math.Nat.{mul-le-mul_right, mod-lt, suc-mul}
+use Rattle.std.proofs.Common.{◌≡◌, ℕ, zero, suc, ◌+◌, ◌-◌, ◌*◌, ◌%◌, ◌^◌, ◌<◌, ◌≤◌, ℤ, pos, negsuc, Bool, true, false, not, ◌&&◌, List, [], ◌∷◌, ◌++◌, length, take, drop, Option, Some, None, refl, sym, ap, ◌∙◌, arith, inl, inr, ◌⊎◌, nat_eq, length-append}
+use Rattle.std.proofs.Math.Nat.{mul-le-mul_right, suc-mul}
 use Rattle.std.proofs.lemmas.List.{length-drop}
-use Rattle.std.proofs.lemmas.Int.{ints}
-use Rattle.acn_num.specs.Ranges.{In, has, greatest}
+use Rattle.acn_num.specs.Ranges.{In, greatest}
 use Rattle.acn_grammar.specs.Check.{too_long as too_long_tree}
 use Rattle.acn_grammar.specs.Code.{Any}
 use Rattle.acn_grammar.specs.Env.{Env}
-use Rattle.acn_grammar.specs.Fails.{Fault, Failing, Behind, Here, Short, After, Says, seen, RuleFails, SizeFails, Sized, PartsFail, CharactersFail, FoundFails, TextFails, found_end, RunFails, EndFails, NoEnd, NextFails, EndedFails, ListFails, Fails, FormFails, FieldsFail, AlternativeFails, IndexFails, Overlong, Refusal, flags_behind, presence_count}
+use Rattle.acn_grammar.specs.Fails.{Fault, Failing, Behind, Here, Short, Says, seen, RuleFails, SizeFails, Sized, PartsFail, CharactersFail, FoundFails, TextFails, RunFails, EndedFails, ListFails, Fails, FormFails, FieldsFail, AlternativeFails, IndexFails, Overlong, flags_behind, presence_count}
 use Rattle.acn_grammar.specs.Grammar.{Grammar, Form, Fields, Alternatives, Data, node, num, octets, bits, text, seq, list, choice, contained, no_fields, component, inserted, no_alternatives, alternative, null}
-use Rattle.acn_grammar.specs.Interval.{held, exactly, plus, times, hull, in_octets, span, form_span, fields_span, alternatives_span, num_span, sizes_of, size_of, end_width, list_around, component_span}
+use Rattle.acn_grammar.specs.Interval.{held, exactly, plus, times, in_octets, span, form_span, fields_span, alternatives_span, num_span, sizes_of, size_of, end_width, list_around, component_span}
 use Rattle.acn_grammar.specs.LeafFails.{Reason, short, out_of_range, not_minimal, bad_digit, bad_character, bad_pattern, too_long, size_out_of_range, no_alternative, content_size, past_content, octet_values}
 use Rattle.acn_grammar.specs.Leaves.{sizes_fine, rule_fine, list_rule_fine, end_fine, no_size, is_terminator, is_pattern}
 use Rattle.acn_grammar.specs.Length.{padding, rule_width, index_width, ending, num_length}
-use Rattle.acn_grammar.specs.Spell.{Part, ◌then◌, Where, Padding, RulePart, SizePart, Carries, Spell, SlotField, octet_numbers, with_home}
+use Rattle.acn_grammar.specs.Spell.{Part, Where, Padding, RulePart, Carries, Spell, SlotField, octet_numbers, with_home}
 use Rattle.acn_grammar.specs.declared.bounds.Bounds.{Bounds}
 use Rattle.acn_grammar.specs.declared.node.ChoiceRule.{ChoiceRule}
 use Rattle.acn_grammar.specs.declared.node.ChoiceRule.TheVariants.{Index, Tests, Item}

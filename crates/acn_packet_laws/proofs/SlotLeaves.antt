@@ -1,5 +1,6 @@
 -- The leaf of a slot is the one node that says it.
 use Rattle.std.proofs.Common.{◌≡◌, ℕ, suc, Bool, true, false, List, [], ◌∷◌, ◌++◌, Option, Some, None, refl, sym, ◌∙◌, append_assoc, nat_eq}
+use Rattle.std.proofs.lemmas.Bool.{false_from_ne_true, or_left, or_parts, or_right}
 use Rattle.std.specs.Prelude.{if◌then◌else◌}
 use Rattle.std.specs.List.{list_any}
 use Rattle.acn_grammar.specs.Check.{CheckFault, Undecodable}
@@ -9,8 +10,8 @@ use Rattle.acn_grammar.specs.Slots.{first_of_two, number_leaf, slot_leaf, form_l
 use Rattle.acn_grammar.specs.Tree.{IsTree, is_slot}
 use Rattle.acn_grammar.specs.Walk.{Stand, Role, a_component, an_inserted, an_alternative, an_element, a_content, nodes, nodes_of, form_nodes, field_nodes, alternative_nodes, slot_here}
 use Rattle.acn_grammar.specs.declared.node.NumLeaf.{NumLeaf}
-use Rattle.acn_packet_laws.proofs.Placed.{any-append, any_left, any_right, or_left, or_right, field_is, has_field, twice, here_at, split_here, slot_in}
-use Rattle.acn_packet_laws.proofs.Scoping.{At, numbers, rules, neither, false_from}
+use Rattle.acn_packet_laws.proofs.Placed.{any-append, any_left, any_right, field_is, has_field, twice, here_at, split_here, slot_in}
+use Rattle.acn_packet_laws.proofs.Scoping.{At, numbers, rules}
 
 passed : (own : Option ℕ) (s : ℕ) (a b : Option NumLeaf) → is_slot s own ≡ false → slots.is_slot own s a b ≡ b
 passed None s a b h = refl
@@ -37,13 +38,13 @@ second_gone None b h = h
 second_gone (Some x) b h = refl
 
 apart_false : (p : Stand → Bool) (a b : List Stand) → list_any p (a ++ b) ≡ false → (list_any p a ≡ false) × (list_any p b ≡ false)
-apart_false p a b h = neither (list_any p a) (list_any p b) (sym (any-append p a b) ∙ h)
+apart_false p a b h = or_parts (list_any p a) (list_any p b) (sym (any-append p a b) ∙ h)
 
 no_field_leaf : (g : Grammar) (role : Role) (path around : List ℕ) (b : List Stand) (s : ℕ) (rest : Option NumLeaf) → (has_field s (nodes role path around g) ≡ false → slot_leaf g s ≡ None) → (has_field s b ≡ false → rest ≡ None) → has_field s (nodes role path around g ++ b) ≡ false
     → slots.is_slot (slot_here role) s (number_leaf g) (first_of_two (slot_leaf g s) rest) ≡ None
 no_field_leaf g role path around b s rest one more h =
     let f = apart_false (field_is s) (nodes role path around g) b h in
-    passed (slot_here role) s (number_leaf g) (first_of_two (slot_leaf g s) rest) (false_from (is_slot s (slot_here role)) (λ q. let r = slot_in role path around g s q in let l = f.0 in cc))
+    passed (slot_here role) s (number_leaf g) (first_of_two (slot_leaf g s) rest) (false_from_ne_true (is_slot s (slot_here role)) (λ q. let r = slot_in role path around g s q in let l = f.0 in cc))
     ∙ (first_gone (slot_leaf g s) rest (one f.0) ∙ more f.1)
 
 -- where no field is there is no leaf
@@ -59,7 +60,7 @@ mutual
   no_leaf (contained sizing g) path around s h = no_node_leaf g a_content (path ++ 0 ∷ []) around s h
 
   pub no_node_leaf : (g : Grammar) (role : Role) (path around : List ℕ) (s : ℕ) → has_field s (nodes role path around g) ≡ false → slot_leaf g s ≡ None
-  no_node_leaf (node align form) role path around s h = no_leaf form path around s (neither (is_slot s (slot_here role)) (has_field s (form_nodes path around form)) h).1
+  no_node_leaf (node align form) role path around s h = no_leaf form path around s (or_parts (is_slot s (slot_here role)) (has_field s (form_nodes path around form)) h).1
 
   pub no_fields_leaf : (fs : Fields) (path around : List ℕ) (k s : ℕ) → has_field s (field_nodes path around k fs) ≡ false → fields_leaf fs s ≡ None
   no_fields_leaf no_fields path around k s h = refl
@@ -81,7 +82,7 @@ module _ (root : Grammar) (tree : IsTree root) (sound : (f : CheckFault) → Und
 
   -- a node that says a slot has no other field of it inside
   here_not : (pre : List Stand) (role : Role) (path around : List ℕ) (align : ℕ) (form : Form) (post : List Stand) → At root tree sound pre role path around (node align form) post → (s : ℕ) → has_field s (form_nodes path around form) ≡ true → is_slot s (slot_here role) ≡ false
-  here_not pre role path around align form post p s h = false_from (is_slot s (slot_here role)) (λ e.
+  here_not pre role path around align form post p s h = false_from_ne_true (is_slot s (slot_here role)) (λ e.
       twice (nodes_of root) (numbers root tree sound) (rules root tree sound) (pre ++ here_at role path around align form ∷ []) (form_nodes path around form ++ post) (p.whole ∙ split_here pre (here_at role path around align form) (form_nodes path around form) post) s
       (any_right (field_is s) pre (here_at role path around align form ∷ []) (or_left (is_slot s (slot_here role)) false e)) (any_left (field_is s) (form_nodes path around form) post h))
 
@@ -95,17 +96,17 @@ module _ (root : Grammar) (tree : IsTree root) (sound : (f : CheckFault) → Und
       → slots.is_slot (slot_here role) s (number_leaf (node align form)) (first_of_two (form_leaf form s) rest) ≡ form_leaf form s
   leaf_inside pre role path around align form b post p rest s none h =
       passed (slot_here role) s (number_leaf (node align form)) (first_of_two (form_leaf form s) rest) (here_not pre role path around align form (b ++ post) p s h)
-      ∙ second_gone (form_leaf form s) rest (none (false_from (has_field s b) (λ q. not_behind pre role path around (node align form) b post p s (or_right (is_slot s (slot_here role)) (has_field s (form_nodes path around form)) h) q)))
+      ∙ second_gone (form_leaf form s) rest (none (false_from_ne_true (has_field s b) (λ q. not_behind pre role path around (node align form) b post p s (or_right (is_slot s (slot_here role)) (has_field s (form_nodes path around form)) h) q)))
 
   -- inside an alternative
   pub leaf_in_case : (pre : List Stand) (role : Role) (path around : List ℕ) (align : ℕ) (form : Form) (b post : List Stand) → At root tree sound pre role path around (node align form) (b ++ post) → (rest : Option NumLeaf) (s : ℕ) → (has_field s b ≡ false → rest ≡ None) → has_field s (form_nodes path around form) ≡ true
       → first_of_two (form_leaf form s) rest ≡ form_leaf form s
   leaf_in_case pre role path around align form b post p rest s none h =
-      second_gone (form_leaf form s) rest (none (false_from (has_field s b) (λ q. not_behind pre role path around (node align form) b post p s (or_right (is_slot s (slot_here role)) (has_field s (form_nodes path around form)) h) q)))
+      second_gone (form_leaf form s) rest (none (false_from_ne_true (has_field s b) (λ q. not_behind pre role path around (node align form) b post p s (or_right (is_slot s (slot_here role)) (has_field s (form_nodes path around form)) h) q)))
 
   -- behind a field, and behind an alternative
   none_before : (pre : List Stand) (role : Role) (path around : List ℕ) (g : Grammar) (b post : List Stand) → At root tree sound pre role path around g (b ++ post) → (s : ℕ) → has_field s b ≡ true → has_field s (nodes role path around g) ≡ false
-  none_before pre role path around g b post p s h = false_from (has_field s (nodes role path around g)) (λ q. not_behind pre role path around g b post p s q h)
+  none_before pre role path around g b post p s h = false_from_ne_true (has_field s (nodes role path around g)) (λ q. not_behind pre role path around g b post p s q h)
 
   pub leaf_behind_case : (pre : List Stand) (role : Role) (path around : List ℕ) (g : Grammar) (b post : List Stand) → At root tree sound pre role path around g (b ++ post) → (rest : Option NumLeaf) (s : ℕ) → has_field s b ≡ true → first_of_two (slot_leaf g s) rest ≡ rest
   leaf_behind_case pre role path around g b post p rest s h = first_gone (slot_leaf g s) rest (no_node_leaf g role path around s (none_before pre role path around g b post p s h))
@@ -113,7 +114,7 @@ module _ (root : Grammar) (tree : IsTree root) (sound : (f : CheckFault) → Und
   pub leaf_behind : (pre : List Stand) (role : Role) (path around : List ℕ) (g : Grammar) (b post : List Stand) → At root tree sound pre role path around g (b ++ post) → (rest : Option NumLeaf) (s : ℕ) → has_field s b ≡ true
       → slots.is_slot (slot_here role) s (number_leaf g) (first_of_two (slot_leaf g s) rest) ≡ rest
   leaf_behind pre role path around g b post p rest s h =
-      passed (slot_here role) s (number_leaf g) (first_of_two (slot_leaf g s) rest) (false_from (is_slot s (slot_here role)) (λ q. not_behind pre role path around g b post p s (slot_in role path around g s q) h))
+      passed (slot_here role) s (number_leaf g) (first_of_two (slot_leaf g s) rest) (false_from_ne_true (is_slot s (slot_here role)) (λ q. not_behind pre role path around g b post p s (slot_in role path around g s q) h))
       ∙ leaf_behind_case pre role path around g b post p rest s h
 
   -- the field itself

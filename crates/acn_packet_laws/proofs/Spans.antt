@@ -1,5 +1,5 @@
 -- Lengths between bounds: parts that follow each other, one of two, and as many as there are.
-use Rattle.std.proofs.Common.{◌≡◌, ℕ, zero, suc, ◌+◌, ◌-◌, ◌*◌, ◌/◌, ◌^◌, ◌<◌, ◌≤◌, refl, sym, ap, ◌∙◌, arith, length, [], true, false, subst}
+use Rattle.std.proofs.Common.{◌≡◌, ℕ, zero, suc, ◌+◌, ◌*◌, ◌^◌, ◌<◌, ◌≤◌, refl, sym, ap, ◌∙◌, arith, length, [], true, false, subst}
 use Rattle.std.proofs.Math.Nat.{mul-le-mul_right}
 use Rattle.acn_num.specs.Bits.{octets as octets_for}
 use Rattle.acn_grammar.specs.Interval.{held, exactly, plus, times, hull, in_octets, component_span}

@@ -1,5 +1,6 @@
 -- A value that has a spelling has the form of the tree; that nothing in it is a breach is a law of its own.
-use Rattle.std.proofs.Common.{◌≡◌, ℕ, zero, suc, ◌+◌, ◌-◌, ◌<◌, ℤ, pos, Bool, true, false, ◌&&◌, List, [], ◌∷◌, length, Option, Some, None, refl, arith, nat_lt, subst}
+use Rattle.std.proofs.Common.{◌≡◌, ℕ, zero, suc, ◌+◌, ◌-◌, ◌<◌, ℤ, pos, Bool, true, ◌&&◌, List, [], ◌∷◌, length, Option, Some, None, refl, arith, nat_lt, subst}
+use Rattle.std.proofs.lemmas.Bool.{and_from}
 use Rattle.std.specs.Prelude.{◌≤ℤ◌}
 use Rattle.std.proofs.lemmas.Int.{ints}
 use Rattle.std.proofs.lemmas.Bool.Decides.{nat_tests}
@@ -25,7 +26,6 @@ use Rattle.acn_grammar.proofs.SpanLaw.{Fine, FormFine, FieldsFine, AlternativesF
 use Rattle.acn_grammar.proofs.TreeRules.{tree_fine}
 use Rattle.acn_packet_laws.specs.Laws.{SpelledValuesMeet}
 use Rattle.acn_packet_laws.proofs.Codes.{range_within, lt_is}
-use Rattle.acn_packet_laws.proofs.Scoping.{both_true}
 use Rattle.acn_packet_laws.proofs.TextTotal.{in_below}
 use Rattle.acn_packet_laws.proofs.Unbreached.{unbreached}
 use Rattle.acn_packet_laws.proofs.WrittenSizes.{text_rules}
@@ -55,7 +55,7 @@ char_octet c h = grind (arith, nat_tests)
 
 chars_octets : (leaf : TextLeaf) → all_within (pos 0) (pos 127) leaf.alphabet ≡ true → (cs : List ℕ) (at : ℕ) (bs : List Bool) → CharactersPart leaf cs at bs → are_octets cs ≡ true
 chars_octets leaf w [] at bs t = refl
-chars_octets leaf w (c ∷ cs) at bs t = both_true (nat_lt c 256) (are_octets cs) (char_octet c (in_below leaf.alphabet c w t.first.given)) (chars_octets leaf w cs (at + length t.front) t.back t.second)
+chars_octets leaf w (c ∷ cs) at bs t = and_from (nat_lt c 256) (are_octets cs) (char_octet c (in_below leaf.alphabet c w t.first.given)) (chars_octets leaf w cs (at + length t.front) t.back t.second)
 
 text_octets : (leaf : TextLeaf) → all_within (pos 0) (pos 127) leaf.alphabet ≡ true → (end : Option (List Bool)) (env : Env) (cs : List ℕ) (at : ℕ) (bs : List Bool) → EndedPart end leaf env cs at bs → are_octets cs ≡ true
 text_octets leaf w None env cs at bs t = chars_octets leaf w cs (at + length t.front) t.back t.second
@@ -65,7 +65,7 @@ text_octets leaf w (Some end) env cs at bs t = chars_octets leaf w cs at t.spell
 
 run_shaped : (g : Grammar) (each : Data → Part) → ((d : Data) (at : ℕ) (bs : List Bool) → each d at bs → fits g d ≡ true) → (es : Elements) (at : ℕ) (bs : List Bool) → RunPart each es at bs → each_element (fits g) es ≡ true
 run_shaped g each h no_elements at bs t = refl
-run_shaped g each h (element d es) at bs t = both_true (fits g d) (each_element (fits g) es) (h d at t.front t.first) (run_shaped g each h es (at + length t.front) t.back t.second)
+run_shaped g each h (element d es) at bs t = and_from (fits g d) (each_element (fits g) es) (h d at t.front t.first) (run_shaped g each h es (at + length t.front) t.back t.second)
 
 list_shaped : (end : Option (List Bool)) (sizing : Sizing) (env : Env) (g : Grammar) (each : Data → Part) → ((d : Data) (at : ℕ) (bs : List Bool) → each d at bs → fits g d ≡ true) → (es : Elements) (at : ℕ) (bs : List Bool) → ListPart end sizing env each es at bs → each_element (fits g) es ≡ true
 list_shaped None sizing env g each h es at bs t = run_shaped g each h es (at + length t.front) t.back t.second
@@ -95,9 +95,9 @@ module _ (root : Grammar) (mode : Mode) where
     fields_shaped : (fs : Fields) → FieldsFine fs → (env : Env) (ps : Places) (at : ℕ) (bs : List Bool) → FieldsPart root mode fs env ps at bs → fields_fit fs ps ≡ true
     fields_shaped no_fields f env no_places at bs t = refl
     fields_shaped (component name g presence default own fs) f env (filled d ps) at bs t =
-        both_true (fits g d) (fields_fit fs ps) (node_shaped g f.0 env d at t.front t.first.spelled) (fields_shaped fs f.1 env ps (at + length t.front) t.back t.second)
+        and_from (fits g d) (fields_fit fs ps) (node_shaped g f.0 env d at t.front t.first.spelled) (fields_shaped fs f.1 env ps (at + length t.front) t.back t.second)
     fields_shaped (component name g presence default own fs) f env (empty ps) at bs t =
-        both_true (may_be_absent presence) (fields_fit fs ps) (away_absent env presence t.given) (fields_shaped fs f.1 env ps at bs t.spelled)
+        and_from (may_be_absent presence) (fields_fit fs ps) (away_absent env presence t.given) (fields_shaped fs f.1 env ps at bs t.spelled)
     fields_shaped (inserted name g (Some s) fs) f env ps at bs t = fields_shaped fs f.1 env ps (at + length t.front) t.back t.second
     fields_shaped (inserted name g None fs) f env ps at bs t = fields_shaped fs f.1 env ps (at + length t.front) t.back t.second
     fields_shaped _ f env ps at bs t = absurd t.0

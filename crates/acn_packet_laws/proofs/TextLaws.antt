@@ -1,5 +1,6 @@
 -- An ended text and a failure exclude each other, and two failures are one.
 use Rattle.std.proofs.Common.{◌≡◌, ℕ, zero, suc, ◌+◌, ◌-◌, ◌*◌, ◌/◌, ◌%◌, ◌<◌, ◌≤◌, pos, Bool, true, false, not, List, [], ◌∷◌, ◌++◌, length, take, drop, Option, Some, None, refl, sym, ap, ◌∙◌, arith, append_assoc, length-append, inl, inr, nat_eq, nat_lt, nat_le, ◌&&◌, subst}
+use Rattle.std.proofs.lemmas.Bool.{false_from_ne_true}
 use Rattle.std.specs.Prelude.{cond}
 use Rattle.std.specs.List.{find, range_with_len}
 use Rattle.std.proofs.lemmas.Bool.Decides.{nat_tests}
@@ -79,16 +80,12 @@ find_first p n k l h none =
     let e : 0 + k ≡ k = omega arith in
     find_from p 0 n k l (ap p e ∙ h) (λ j u v. none j (omega arith)) ∙ ap Some e
 
-not_true : (b : Bool) → (b ≡ true → ⊥) → b ≡ false
-not_true true f = absurd (f refl)
-not_true false f = refl
-
 -- the terminator is found where the text ends
 found_at : (end cs more : List ℕ) → 0 < length end → EndsFirst end cs → found_end end (cs ++ (end ++ more)) ≡ Some (length cs)
 found_at end cs more some first =
     find_first (λ i. same_name (take (length end) (drop i (cs ++ (end ++ more)))) end) (length (cs ++ (end ++ more))) (length cs) (below (length-append cs (end ++ more)) (length-append end more))
     (ap (λ z. same_name (take (length end) z) end) (drop-append_seam cs (end ++ more)) ∙ (ap (λ z. same_name z end) (take-append_seam end more) ∙ same_name-refl end))
-    (λ j v. not_true (same_name (take (length end) (drop j (cs ++ (end ++ more)))) end) (λ h.
+    (λ j v. false_from_ne_true (same_name (take (length end) (drop j (cs ++ (end ++ more)))) end) (λ h.
     let is = same_name-is (take (length end) (drop j (cs ++ (end ++ more)))) end h in
     let late = first j (inside j v ∙ is) in
     omega arith))

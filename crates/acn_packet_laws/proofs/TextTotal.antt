@@ -1,16 +1,16 @@
 -- Every input begins with a text, or the text fails: characters, and texts with a size.
-use Rattle.std.proofs.Common.{◌≡◌, ℕ, zero, suc, ◌+◌, ◌-◌, ◌*◌, ◌^◌, ◌<◌, ◌≤◌, ℤ, pos, negsuc, ◌+ℤ◌, Bool, true, false, not, ◌&&◌, ◌||◌, List, [], ◌∷◌, ◌++◌, length, take, drop, Option, Some, None, refl, sym, ap, ◌∙◌, arith, append_assoc, length-append, take-append-drop, inl, inr, ◌⊎◌, nat_eq, nat_lt, nat_le, subst, IsTrue}
+use Rattle.std.proofs.Common.{◌≡◌, ℕ, zero, suc, ◌+◌, ◌-◌, ◌*◌, ◌^◌, ◌<◌, ◌≤◌, ℤ, pos, negsuc, ◌+ℤ◌, Bool, true, false, not, ◌&&◌, ◌||◌, List, [], ◌∷◌, ◌++◌, length, take, drop, Option, Some, None, refl, sym, ap, ◌∙◌, arith, append_assoc, take-append-drop, inl, inr, ◌⊎◌, nat_eq, nat_lt, subst}
 use Rattle.std.specs.Prelude.{◌≤ℤ◌, ◌-ℤ◌, int_le, int_lt, nat_abs, if◌then◌else◌}
 use Rattle.std.proofs.lemmas.Int.{ints}
 use Rattle.std.proofs.lemmas.Bool.Decides.{nat_tests}
 use Rattle.std.proofs.lemmas.List.{length-take-le, length-drop}
-use Rattle.acn_num.specs.Bits.{number, IsNumber}
+use Rattle.acn_num.specs.Bits.{number}
 use Rattle.acn_num.specs.Ranges.{In, has, are_ranges, are_ranges_above, all_within, greatest, count}
 use Rattle.acn_grammar.specs.Env.{Env}
-use Rattle.acn_grammar.specs.Fails.{Here, Fault, Short, SizeFails, Sized, NoText, CharactersFail, TextFails}
+use Rattle.acn_grammar.specs.Fails.{Here, Fault, SizeFails, NoText, CharactersFail, TextFails}
 use Rattle.acn_grammar.specs.Interval.{size_of}
 use Rattle.acn_grammar.specs.LeafFails.{short, bad_character}
-use Rattle.acn_grammar.specs.Leaves.{sizes_fine, sizing_fine, text_fine, end_fine, width_fine, rule_fine, holds_characters, same_truth, is_beyond}
+use Rattle.acn_grammar.specs.Leaves.{width_fine, holds_characters, same_truth, is_beyond}
 use Rattle.acn_grammar.specs.Spell.{CharactersPart, SizePart, EndedPart, character_number, place_in}
 use Rattle.acn_grammar.specs.declared.node.TextLeaf.{TextLeaf}
 use Rattle.acn_grammar.proofs.Codings.{both_are, equal_numbers}

@@ -1,22 +1,22 @@
 -- A value that is spelled meets the constraints: nothing in it is a breach.
 use Rattle.std.proofs.Common.{◌≡◌, ℕ, zero, suc, ◌+◌, ◌≤◌, ◌<◌, ℤ, pos, Bool, true, false, not, List, [], ◌∷◌, ◌++◌, length, Option, Some, None, refl, sym, ap, ◌∙◌, arith}
-use Rattle.std.specs.Prelude.{map, take, drop, cond, nat_lt}
+use Rattle.std.proofs.lemmas.Bool.{false_from_ne_true}
+use Rattle.std.specs.Prelude.{take, drop, nat_lt}
 use Rattle.std.specs.List.{AllByRecursion, position, position_or_len, find, range_with_len}
 use Rattle.std.proofs.lemmas.Bool.Decides.{nat_tests}
 use Rattle.acn_num.specs.Ranges.{In, has}
 use Rattle.acn_grammar.specs.Asks.{same_name}
-use Rattle.acn_grammar.specs.Code.{Mode, Code}
+use Rattle.acn_grammar.specs.Code.{Mode}
 use Rattle.acn_grammar.specs.Env.{Env}
 use Rattle.acn_grammar.specs.Grammar.{Grammar, Form, Fields, Alternatives, Data, Places, Elements, node, num, octets, bits, text, seq, list, choice, contained, no_fields, component, inserted, no_alternatives, alternative, octet_string, bit_string, characters, record_of, list_of, alt, no_places, empty, filled, no_elements, element, element_count}
 use Rattle.acn_grammar.specs.Length.{ending, number_of}
 use Rattle.acn_grammar.specs.Meets.{Why, Unfit, out_of_range, size_out_of_range, bad_character, terminator_inside, unless, where_found, size_breach, first_end, end_breach, text_breach, at_path, run_breaches, breaches, form_breaches, field_breaches, alternative_breaches}
-use Rattle.acn_grammar.specs.Spell.{Part, Spell, FormPart, FieldsPart, SizePart, RunPart, ListPart, CharactersPart, EndedPart, EndsFirst, octet_numbers, AlternativePart}
+use Rattle.acn_grammar.specs.Spell.{Part, Spell, FormPart, FieldsPart, RunPart, ListPart, CharactersPart, EndedPart, EndsFirst, octet_numbers, AlternativePart}
 use Rattle.acn_grammar.specs.declared.node.ChoiceRule.{ChoiceRule}
 use Rattle.acn_grammar.specs.declared.node.Sizing.{Sizing}
 use Rattle.acn_grammar.specs.declared.node.TextLeaf.{TextLeaf}
 use Rattle.acn_grammar.proofs.SpellLength.{NumberOf-number_of}
-use Rattle.acn_packet_laws.proofs.Scoping.{false_from}
-use Rattle.acn_grammar.proofs.Characters.{same_name-is}
+use Rattle.acn_packet_laws.proofs.Placed.{same_name-is}
 
 no_position : (p : ℕ → Bool) (xs : List ℕ) → AllByRecursion (λ x. p x ≡ false) xs → position_or_len p xs ≡ length xs
 no_position p [] h = refl
@@ -55,7 +55,7 @@ characters_fit : (leaf : TextLeaf) (cs : List ℕ) (at : ℕ) (bs : List Bool) �
 characters_fit leaf cs at bs t = ap (λ o. where_found o bad_character) (none_at (λ c. not (has leaf.alphabet (pos c))) cs (all_characters leaf cs at bs t))
 
 ends_fit : (end cs : List ℕ) → EndsFirst end cs → where_found (first_end end cs) terminator_inside ≡ []
-ends_fit end cs h = ap (λ o. where_found o terminator_inside) (none_found (λ i. same_name (take (length end) (drop i (cs ++ end))) end) 0 (length cs) (λ i l k. false_from (same_name (take (length end) (drop i (cs ++ end))) end) (λ q. let far = h i (same_name-is (take (length end) (drop i (cs ++ end))) end q) in omega arith)))
+ends_fit end cs h = ap (λ o. where_found o terminator_inside) (none_found (λ i. same_name (take (length end) (drop i (cs ++ end))) end) 0 (length cs) (λ i l k. false_from_ne_true (same_name (take (length end) (drop i (cs ++ end))) end) (λ q. let far = h i (same_name-is (take (length end) (drop i (cs ++ end))) end q) in omega arith)))
 
 text_fits : (o : Option (List Bool)) (leaf : TextLeaf) (env : Env) (cs : List ℕ) (at : ℕ) (bs : List Bool) → EndedPart o leaf env cs at bs
     → size_breach leaf.sized (length cs) ++ where_found (position (λ c. not (has leaf.alphabet (pos c))) cs) bad_character ++ end_breach o cs ≡ []

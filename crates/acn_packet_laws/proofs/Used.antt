@@ -1,4 +1,5 @@
 -- What a tree without a fault says of each use of a slot: the slot is at home round the use, a flag's slot has the numbers 0 and 1, and a component has one condition.
+use Rattle.std.proofs.lemmas.Bool.{or_parts}
 use Rattle.std.proofs.Common.{◌≡◌, ℕ, zero, suc, ℤ, pos, negsuc, Bool, true, false, List, [], ◌∷◌, ◌++◌, length, map, Option, Some, None, refl, arith, inl, inr, ◌⊎◌, ◌&&◌, ◌-◌, not, nat_eq, nat_lt, subst}
 use Rattle.std.specs.Prelude.{slice_get, if◌then◌else◌, ◌≤ℤ◌, unwrap_or, option_map}
 use Rattle.std.specs.List.{AllByRecursion, list_all, list_any}
@@ -35,7 +36,6 @@ use Rattle.acn_packet_laws.specs.Laws.{IsAccepted}
 use Rattle.acn_packet_laws.proofs.Codes.{range_within}
 use Rattle.acn_packet_laws.proofs.Lengths.{only_null}
 use Rattle.acn_packet_laws.proofs.Placed.{tree_rules}
-use Rattle.acn_packet_laws.proofs.Scoping.{neither}
 use Rattle.acn_packet_laws.proofs.SoundLaws.{accepted_sound_nodes, first_two, first_three, second_three, first_five, second_five, fourth_five}
 use Rattle.acn_packet_laws.proofs.Sounding.{last_two, last_three, last_four, last_five}
 use Rattle.acn_packet_laws.proofs.UseKinds.{uses_fit}
@@ -283,12 +283,12 @@ module _ (root : Grammar) where
   no_tests (t ∷ ts) h = (let e : nat_lt 0 (suc (length ts)) ≡ true = grind (arith, nat_tests) in cc)
 
   case_fits : (around : List ℕ) (rule : ChoiceRule) (name : List ℕ) (ts : List Test) (more : List (List ℕ × List Test)) → Bare rule ((name, ts) ∷ more) → TestsFit around ts → CaseFits around rule ts
-  case_fits around (Index width) name ts more h f = no_tests ts (neither (nat_lt 0 (length ts)) (list_any has_tests more) h).0
+  case_fits around (Index width) name ts more h f = no_tests ts (or_parts (nat_lt 0 (length ts)) (list_any has_tests more) h).0
   case_fits around Tests name ts more h f = f
   case_fits around (Item t) name ts more h f = tt
 
   bare_more : (rule : ChoiceRule) (name : List ℕ) (ts : List Test) (more : List (List ℕ × List Test)) → Bare rule ((name, ts) ∷ more) → Bare rule more
-  bare_more (Index width) name ts more h = (neither (nat_lt 0 (length ts)) (list_any has_tests more) h).1
+  bare_more (Index width) name ts more h = (or_parts (nat_lt 0 (length ts)) (list_any has_tests more) h).1
   bare_more Tests name ts more h = tt
   bare_more (Item t) name ts more h = tt
 

@@ -1,15 +1,15 @@
 -- The length of a value that meets its node lies between the node's bounds, whatever the numbers of slots are.
-use Rattle.std.proofs.Common.{◌≡◌, ℕ, zero, suc, ◌+◌, ◌-◌, ◌*◌, ◌%◌, ◌^◌, ◌<◌, ◌≤◌, ℤ, pos, Bool, true, false, not, List, [], ◌∷◌, ◌++◌, length, Option, Some, None, refl, sym, ap, ◌∙◌, arith, ◌&&◌, nat_eq, subst, append-nil, IsTrue}
+use Rattle.std.proofs.Common.{◌≡◌, ℕ, zero, suc, ◌+◌, ◌-◌, ◌*◌, ◌%◌, ◌^◌, ◌<◌, ◌≤◌, ℤ, pos, Bool, true, false, not, List, [], ◌∷◌, ◌++◌, length, Option, Some, None, refl, sym, ap, arith, ◌&&◌, nat_eq, subst, append-nil, IsTrue}
 use Rattle.std.proofs.Math.Nat.{mod-lt}
 use Rattle.std.specs.Prelude.{position}
 use Rattle.acn_num.specs.Bits.{octets as octets_for}
 use Rattle.acn_num.specs.Ranges.{In, has}
 use Rattle.acn_grammar.specs.Code.{Any, Code}
-use Rattle.acn_grammar.specs.Grammar.{Grammar, Form, Fields, Alternatives, Data, Places, Elements, node, num, octets, bits, text, seq, list, choice, contained, no_fields, component, inserted, no_alternatives, alternative, int, octet_string, bit_string, characters, record_of, list_of, alt, no_places, empty, filled, no_elements, element, element_count}
+use Rattle.acn_grammar.specs.Grammar.{Grammar, Form, Fields, Alternatives, Data, Places, Elements, node, num, octets, bits, text, seq, list, choice, contained, no_fields, component, inserted, no_alternatives, alternative, octet_string, bit_string, characters, record_of, list_of, alt, no_places, empty, filled, no_elements, element, element_count}
 use Rattle.acn_grammar.specs.Interval.{exactly, plus, times, in_octets, span, form_span, fields_span, alternatives_span, num_span, span_by, fixed_width, sizes_of, end_width, list_around, component_span}
-use Rattle.acn_grammar.specs.Leaves.{num_fine, sizes_fine, rule_fine, list_rule_fine, end_fine, no_size, is_terminator, text_fine}
+use Rattle.acn_grammar.specs.Leaves.{num_fine, sizes_fine, rule_fine, list_rule_fine, end_fine, no_size, is_terminator}
 use Rattle.acn_grammar.specs.Length.{padding, bit_length, form_length, fields_length, alternative_length, run_length, list_length, inserted_length, num_length, number_of, least, presence_bits, bit_before, rule_width, index_width, text_length, ending}
-use Rattle.acn_grammar.specs.Meets.{Unfit, where_found, bad_character, end_breach, out_of_range, size_out_of_range, unless, size_breach, text_breach, at_path, run_breaches, breaches, form_breaches, field_breaches, alternative_breaches}
+use Rattle.acn_grammar.specs.Meets.{where_found, bad_character, end_breach, out_of_range, size_out_of_range, unless, size_breach, text_breach, at_path, run_breaches, breaches, form_breaches, field_breaches, alternative_breaches}
 use Rattle.acn_grammar.specs.Shaped.{may_be_absent, each_element, fits, form_fits, fields_fit, alternative_fits}
 use Rattle.acn_grammar.specs.Spell.{Padding, Spell, SlotField}
 use Rattle.acn_grammar.specs.Walk.{root_node}

@@ -1,5 +1,6 @@
 -- The one length of a leaf's codes is its width.
 use Rattle.std.proofs.Common.{◌≡◌, ℕ, zero, suc, ◌+◌, ◌-◌, ◌^◌, ◌<◌, ◌≤◌, ℤ, pos, ◌+ℤ◌, Bool, true, false, not, List, [], ◌∷◌, ◌++◌, length, map, Option, Some, None, refl, sym, ap, ◌∙◌, arith, inl, inr, ◌⊎◌, nat_eq, nat_le, ◌&&◌, ◌||◌, IsTrue}
+use Rattle.std.proofs.lemmas.Bool.{and_from, or_left, or_parts}
 use Rattle.std.specs.Prelude.{◌-ℤ◌, ◌≤ℤ◌, ◌<ℤ◌, int_le, int_lt, nat_lt, if◌then◌else◌, slice_get, option_map, count_by, cond, nat_abs, unwrap_or, ◌%◌}
 use Rattle.std.specs.Int.{int_max, int_min}
 use Rattle.std.specs.List.{list_any, list_all, flat_map, range_with_len}
@@ -27,7 +28,7 @@ use Rattle.acn_grammar.specs.declared.node.Table.{Table}
 use Rattle.acn_packet_laws.proofs.Codes.{each_number_has_a_code, set_ordered, has_image}
 use Rattle.acn_grammar.proofs.Codings.{both_are, not_is}
 use Rattle.acn_grammar.proofs.FineLeaves.{Rules, rules_of, no_values}
-use Rattle.acn_packet_laws.proofs.HasImage.{Ordered, key_sides, neither}
+use Rattle.acn_packet_laws.proofs.HasImage.{Ordered, key_sides}
 use Rattle.acn_grammar.proofs.LeafLengths.{code-length, le_fact, lt_fact, eq_fact}
 use Rattle.acn_grammar.proofs.Monotone.{Varies}
 use Rattle.acn_grammar.proofs.SpanLaw.{fixed_is, varies_if}
@@ -38,14 +39,8 @@ use Rattle.acn_grammar.proofs.Within.{image_has}
 le_true : (a b : ℤ) → a ≤ℤ b → int_le a b ≡ true
 le_true a b h = grind (arith, ints, nat_tests)
 
-both_true : (a b : Bool) → a ≡ true → b ≡ true → (a && b) ≡ true
-both_true a b h k = rw (h, k) refl
-
 in_range : (a b x : ℤ) → a ≤ℤ x → x ≤ℤ b → (int_le a x && int_le x b) ≡ true
-in_range a b x h k = both_true (int_le a x) (int_le x b) (le_true a x h) (le_true x b k)
-
-or_left : (a b : Bool) → a ≡ true → (a || b) ≡ true
-or_left a b h = rw h refl
+in_range a b x h k = and_from (int_le a x) (int_le x b) (le_true a x h) (le_true x b k)
 
 or_right : (a b : Bool) → b ≡ true → (a || b) ≡ true
 or_right true b h = refl
@@ -97,7 +92,7 @@ other_line l [] x y h e = cc
 other_line l (m ∷ ls) x y h e = by (on_line m x) refl (other_line l ls x y f.1) e
   where
     f : (share l m ≡ false) × (list_any (share l) ls ≡ false)
-    f = neither (share l m) (list_any (share l) ls) h
+    f = or_parts (share l m) (list_any (share l) ls) h
 
     off : (t : Bool) → on_line l x ≡ t → (x <ℤ l.0) ⊎ (l.1 <ℤ x) → on_line l x ≡ false
     off false q side = q

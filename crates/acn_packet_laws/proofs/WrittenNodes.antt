@@ -1,9 +1,9 @@
 -- A value of a node's form without a breach, whose walk can be met, is written.
-use Rattle.std.proofs.Common.{◌≡◌, ℕ, zero, suc, ◌+◌, ◌-◌, ◌^◌, ◌<◌, ◌≤◌, ℤ, pos, Bool, true, false, not, List, [], ◌∷◌, ◌++◌, length, map, Option, Some, None, refl, sym, ap, ◌∙◌, arith, inl, inr, ◌⊎◌, ◌&&◌, ◌||◌, nat_eq, nat_lt, nat_le, subst, append_assoc, append-nil}
-use Rattle.std.specs.Prelude.{slice_get, if◌then◌else◌, Contains, get_or, unwrap_or, option_map, ◌≤ℤ◌}
+use Rattle.std.proofs.Common.{◌≡◌, ℕ, zero, suc, ◌-◌, ◌^◌, ◌<◌, ◌≤◌, ℤ, pos, true, false, not, List, [], ◌∷◌, ◌++◌, length, map, Option, Some, None, refl, sym, ap, ◌∙◌, arith, inl, inr, ◌&&◌, ◌||◌, nat_eq, nat_lt, nat_le, subst, append_assoc, append-nil}
+use Rattle.std.proofs.lemmas.Bool.{or_left, or_right}
+use Rattle.std.specs.Prelude.{slice_get, Contains, unwrap_or, option_map, ◌≤ℤ◌}
 use Rattle.std.specs.List.{AllByRecursion, list_any, flat_map, zip}
 use Rattle.std.proofs.lemmas.Int.{ints}
-use Rattle.std.proofs.lemmas.Bool.Decides.{nat_tests}
 use Rattle.acn_num.specs.Bits.{low_bits, bits as bits_of, octets as octets_for, is_least_width}
 use Rattle.acn_num.specs.Ranges.{In, has}
 use Rattle.acn_grammar.specs.Asks.{Ask, Equal, Avoid, Moment, asks, counts, FieldPaths, field_path, with_fields, presence_asks, size_asks, own_asks, rule_asks, run_moments, moments, form_moments, fields_moments, alternative_moments, same_name, index_of}
@@ -12,17 +12,17 @@ use Rattle.acn_grammar.specs.Walk.{conditions_of}
 use Rattle.acn_grammar.specs.Code.{Written, Code, NumberOf}
 use Rattle.acn_grammar.specs.Env.{Env, at_slot, Holds, AllHold, MayBeThere, MayBeAway}
 use Rattle.acn_grammar.specs.Grammar.{Grammar, Form, Fields, Alternatives, Data, Places, Elements, node, num, octets, bits, text, seq, list, choice, contained, no_fields, component, inserted, no_alternatives, alternative, int, boolean, item, null, octet_string, bit_string, characters, record_of, list_of, alt, no_places, empty, filled, no_elements, element, element_count}
-use Rattle.acn_grammar.specs.Leaves.{num_fine, sizing_fine, list_fine, all_differ, is_range, no_items}
+use Rattle.acn_grammar.specs.Leaves.{all_differ, is_range, no_items}
 use Rattle.acn_grammar.specs.Length.{bit_length, number_of, ending, presence_bits}
-use Rattle.acn_grammar.specs.Meets.{Unfit, Why, unless, at_path, out_of_range, size_out_of_range, size_breach, text_breach, run_breaches, breaches, form_breaches, field_breaches, alternative_breaches}
+use Rattle.acn_grammar.specs.Meets.{unless, at_path, out_of_range, size_out_of_range, size_breach, text_breach, run_breaches, breaches, form_breaches, field_breaches, alternative_breaches}
 use Rattle.acn_grammar.specs.PartAt.{Occurrence, occurrence, part_at, field_part, alternative_part, element_part}
 use Rattle.acn_grammar.specs.Refused.{asks_of}
 use Rattle.acn_grammar.specs.Scoped.{Known, after, choose_known, with_own, with_slot}
-use Rattle.acn_grammar.specs.Shaped.{may_be_absent, num_fits, are_octets, each_element, fits, form_fits, fields_fit, alternative_fits}
+use Rattle.acn_grammar.specs.Shaped.{may_be_absent, num_fits, each_element, fits, form_fits, fields_fit, alternative_fits}
 use Rattle.acn_grammar.specs.Slots.{items_of, slot_leaf, domain_of}
 use Rattle.acn_grammar.specs.Sound.{Sound, FormSound, FieldsSound, AlternativesSound, SaysSlot, OwnSound, RuleSound}
-use Rattle.acn_grammar.specs.Spell.{Part, ◌then◌, Where, Padding, Fill, Window, SizePart, RunPart, ListPart, Spell, FormPart, FieldsPart, AlternativePart, IndexPart, SlotField, Carries, Chosen, with_home, AtHome, SomeNumbers}
-use Rattle.acn_grammar.specs.Tree.{IsTree, holds, near, near_node, near_form, is_slot, choice_fine, choice_rule_fine, has_tests}
+use Rattle.acn_grammar.specs.Spell.{Fill, Window, RunPart, Spell, FormPart, FieldsPart, AlternativePart, IndexPart, SlotField, Carries, Chosen, with_home}
+use Rattle.acn_grammar.specs.Tree.{holds, near, near_node, near_form, is_slot, choice_fine, choice_rule_fine, has_tests}
 use Rattle.acn_grammar.specs.declared.node.ChoiceRule.{ChoiceRule}
 use Rattle.acn_grammar.specs.declared.node.ChoiceRule.TheVariants.{Index, Tests, Item}
 use Rattle.acn_grammar.specs.declared.node.NumKind.{NumKind}
@@ -32,29 +32,28 @@ use Rattle.acn_grammar.specs.declared.node.Presence.{Presence}
 use Rattle.acn_grammar.specs.declared.node.Presence.TheVariants.{Always, Bit, When}
 use Rattle.acn_grammar.specs.declared.node.SizeRule.{SizeRule}
 use Rattle.acn_grammar.specs.declared.node.SizeRule.TheVariants.{Prefix, Slot, Ended}
-use Rattle.acn_grammar.specs.declared.node.Sizing.{Sizing}
 use Rattle.acn_grammar.specs.declared.node.Test.{Test}
 use Rattle.acn_grammar.specs.declared.node.Test.TheVariants.{Flag, Equals}
-use Rattle.acn_grammar.specs.declared.node.TextLeaf.{TextLeaf}
 use Rattle.acn_grammar.proofs.Codings.{both_are, equal_numbers}
 use Rattle.acn_grammar.proofs.Counts.{number_bits}
 use Rattle.acn_grammar.proofs.FineLeaves.{rules_of}
 use Rattle.acn_grammar.proofs.SpellLength.{Steady, SteadyForm, SteadyFields, SteadyAlternatives}
 use Rattle.acn_grammar.proofs.Texts.{either}
 use Rattle.acn_packet_laws.specs.Laws.{IsAccepted}
+use Rattle.acn_packet_laws.proofs.Homes.{truth}
 use Rattle.acn_packet_laws.proofs.Answering.{at_home, not_at_home}
-use Rattle.acn_packet_laws.proofs.AskHomes.{FormHomes, NodeHomes, FieldsHomes, CasesHomes, tree_homes, differs, truth, if_yes, if_no, some_is}
+use Rattle.acn_packet_laws.proofs.AskHomes.{FormHomes, NodeHomes, FieldsHomes, CasesHomes, tree_homes, differs, if_yes, if_no, some_is}
 use Rattle.acn_packet_laws.proofs.Codes.{each_number_has_a_code, lt_is, range_within}
 use Rattle.acn_packet_laws.proofs.LaidOut.{some_number}
 use Rattle.acn_packet_laws.proofs.LeastAnswers.{least_answer}
 use Rattle.acn_packet_laws.proofs.Occurrences.{each_occurrence_asks}
 use Rattle.acn_packet_laws.proofs.OneRefusals.{EachMet, Held, IsOf, held}
 use Rattle.acn_packet_laws.proofs.PathSlots.{slot_at, LeadsTo, IsLed, Led, NodeLed, FieldsLed, case_slot_at, led_on, led_component, led_behind, led_inserted, home_leads, moments_led}
-use Rattle.acn_packet_laws.proofs.Placed.{holds_either, near_parts, near_if_when, or_left, or_right}
+use Rattle.acn_packet_laws.proofs.Placed.{holds_either, near_parts, near_if_when, same_name-is}
 use Rattle.acn_packet_laws.proofs.Scoping.{same_eq}
-use Rattle.acn_packet_laws.proofs.SoundLaws.{first_two, first_three, second_three, first_four, second_four, third_four, first_five, second_five, third_five, fourth_five}
+use Rattle.acn_packet_laws.proofs.SoundLaws.{first_two, first_three, second_three, first_four, second_four, third_four, first_five, second_five, fourth_five}
 use Rattle.acn_packet_laws.proofs.Sounding.{last_two, last_three, last_four, last_five, got_name}
-use Rattle.acn_packet_laws.proofs.Used.{each_left, each_right, TestFits, TestsFit, PresenceFits, CaseFits, RuleFits, OwnFits, ChoiceFits, EndFits, InsertedFits, IsNull, NodeUsed, FormUsed, FieldsUsed, CasesUsed, accepted_used}
+use Rattle.acn_packet_laws.proofs.Used.{each_left, each_right, TestFits, TestsFit, PresenceFits, CaseFits, RuleFits, OwnFits, ChoiceFits, IsNull, NodeUsed, FormUsed, FieldsUsed, CasesUsed, accepted_used}
 use Rattle.acn_packet_laws.proofs.WrittenParts.{Writes, then_writes, where_writes, exactly_writes, padding_writes, RuleHas, size_writes, nothing_left, no_breach, passes, text_writes, list_writes, window_writes}
 use Rattle.acn_packet_laws.proofs.WrittenSizes.{text_rules}
 use Rattle.acn_grammar.proofs.Characters.{same_name-is}

@@ -1,25 +1,25 @@
 -- Parts can be written at each position: padding, sizes, texts, elements and contents.
-use Rattle.std.proofs.Common.{◌≡◌, ℕ, zero, suc, ◌+◌, ◌-◌, ◌*◌, ◌%◌, ◌^◌, ◌<◌, ◌≤◌, ℤ, pos, Bool, true, false, not, List, [], ◌∷◌, ◌++◌, length, map, take, drop, replicate, Option, Some, None, refl, sym, ap, ◌∙◌, arith, inl, inr, ◌⊎◌, ◌&&◌, ◌||◌, nat_eq, nat_lt, subst, length-append}
+use Rattle.std.proofs.Common.{◌≡◌, ℕ, zero, suc, ◌+◌, ◌-◌, ◌%◌, ◌<◌, ◌≤◌, ℤ, pos, Bool, true, false, not, List, [], ◌∷◌, ◌++◌, length, take, drop, replicate, Option, Some, None, refl, sym, ap, ◌∙◌, arith, inl, inr, ◌⊎◌, ◌&&◌, ◌||◌, nat_eq, nat_lt, subst}
 use Rattle.std.specs.Prelude.{cond, position}
 use Rattle.std.specs.List.{AllByRecursion, find, range_with_len, prefix_len}
 use Rattle.std.proofs.lemmas.List.{length-replicate}
 use Rattle.std.proofs.lemmas.Bool.Decides.{nat_tests}
-use Rattle.acn_num.specs.Bits.{low_bits, bits as bits_of, octets as octets_for}
-use Rattle.acn_num.specs.Ranges.{In, has}
+use Rattle.acn_num.specs.Bits.{low_bits, octets as octets_for}
+use Rattle.acn_num.specs.Ranges.{has}
 use Rattle.acn_grammar.specs.Asks.{same_name}
 use Rattle.acn_grammar.specs.Code.{Written}
 use Rattle.acn_grammar.specs.Env.{Env, at_slot}
-use Rattle.acn_grammar.specs.Grammar.{Grammar, Data, Elements, no_elements, element, element_count}
+use Rattle.acn_grammar.specs.Grammar.{Grammar, Data, Elements, element_count}
 use Rattle.acn_grammar.specs.Leaves.{sizes_fine, rule_fine, list_fine, list_rule_fine, end_fine, width_fine}
-use Rattle.acn_grammar.specs.Length.{padding, ending, bit_length}
-use Rattle.acn_grammar.specs.Meets.{Why, Unfit, unless, where_found, at_path, first_end, end_breach, size_breach, text_breach, bad_character, terminator_inside, size_out_of_range}
+use Rattle.acn_grammar.specs.Length.{ending, bit_length}
+use Rattle.acn_grammar.specs.Meets.{Why, unless, where_found, at_path, first_end, end_breach, size_breach, text_breach, bad_character, terminator_inside, size_out_of_range}
 use Rattle.acn_grammar.specs.Spell.{Part, ◌then◌, Where, Exactly, Padding, Fill, Window, RulePart, SizePart, CharactersPart, EndedPart, EndsFirst, octet_numbers, character_number, RunPart, ListPart, Spell}
 use Rattle.acn_grammar.specs.Tree.{is_align}
 use Rattle.acn_grammar.specs.declared.node.Sizing.{Sizing}
 use Rattle.acn_grammar.specs.declared.node.SizeRule.{SizeRule}
 use Rattle.acn_grammar.specs.declared.node.SizeRule.TheVariants.{Prefix, Slot, Ended}
 use Rattle.acn_grammar.specs.declared.node.TextLeaf.{TextLeaf}
-use Rattle.acn_grammar.proofs.Codings.{both_are, not_is, equal_numbers}
+use Rattle.acn_grammar.proofs.Codings.{both_are, equal_numbers}
 use Rattle.acn_grammar.proofs.Counts.{number_bits}
 use Rattle.acn_grammar.proofs.SpellLength.{Steady, then-length}
 use Rattle.acn_grammar.proofs.Texts.{either}

@@ -1,10 +1,10 @@
 -- Sizes and characters that are permitted can be written in the bits that there are for them.
-use Rattle.std.proofs.Common.{◌≡◌, ℕ, zero, suc, ◌+◌, ◌-◌, ◌^◌, ◌<◌, ◌≤◌, ℤ, pos, ◌+ℤ◌, ◌-ℤ◌, nat_abs, Bool, true, false, not, List, [], ◌∷◌, length, Option, Some, None, refl, sym, ap, ◌∙◌, arith, ◌&&◌, ◌||◌, nat_eq, nat_lt, nat_le, int_eq, subst}
-use Rattle.std.specs.Prelude.{if◌then◌else◌, int_le, int_lt, ◌≤ℤ◌}
+use Rattle.std.proofs.Common.{◌≡◌, ℕ, ◌+◌, ◌-◌, ◌^◌, ◌<◌, ◌≤◌, ℤ, pos, ◌+ℤ◌, ◌-ℤ◌, nat_abs, Bool, true, false, not, List, [], ◌∷◌, length, Option, Some, None, refl, sym, arith, ◌&&◌, ◌||◌, nat_eq, nat_lt, nat_le, int_eq, subst}
+use Rattle.std.specs.Prelude.{int_le, int_lt, ◌≤ℤ◌}
 use Rattle.std.proofs.lemmas.Int.{ints}
 use Rattle.std.proofs.lemmas.Bool.Decides.{nat_tests}
 use Rattle.acn_num.specs.Bits.{is_least_width}
-use Rattle.acn_num.specs.Ranges.{In, has, least, greatest, are_ranges, are_ranges_above, all_within, distance, count}
+use Rattle.acn_num.specs.Ranges.{has, least, greatest, are_ranges, are_ranges_above, all_within, distance, count}
 use Rattle.acn_grammar.specs.Leaves.{sizes_fine, prefix_fine, text_fine, end_fine, width_fine, rule_fine, no_size, holds_characters, same_truth, is_beyond, is_terminator}
 use Rattle.acn_grammar.specs.Spell.{place_in, character_number}
 use Rattle.acn_grammar.specs.declared.node.TextLeaf.{TextLeaf}
@@ -12,7 +12,8 @@ use Rattle.acn_grammar.proofs.Codings.{both_are, not_is, equal_numbers}
 use Rattle.acn_grammar.proofs.Counts.{le_is}
 use Rattle.acn_grammar.proofs.LeafLengths.{eq_fact}
 use Rattle.acn_grammar.proofs.Texts.{either, above, le_fact, lt_fact, ranges_from}
-use Rattle.acn_packet_laws.proofs.AskHomes.{truth, if_yes, if_no}
+use Rattle.acn_packet_laws.proofs.Homes.{truth}
+use Rattle.acn_packet_laws.proofs.AskHomes.{if_yes, if_no}
 use Rattle.acn_packet_laws.proofs.Codes.{lt_is}
 use Rattle.acn_packet_laws.proofs.TextTotal.{in_below}
 

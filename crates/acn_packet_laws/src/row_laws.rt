@@ -1,5 +1,6 @@
 //! Packets that are worked by hand, as laws of the definitions.
 
+ghost use Rattle.acn_packet_laws.specs.RequestRows.{APatternEndsTheList, AComponentDetermines, UnsoundNodesAreTold};
 ghost use Rattle.acn_packet_laws.specs.WorkedRows.{FieldsFollowEachOther, AnEndOfBitsIsShort, ASizeStandsInItsField, SizesInOneFieldAgree, WhatNothingAsksAboutIsLeast, EachDigitIsBelowTen, ATerminatorEndsTheText, ConditionsThatAreMissedAreAvoided, PaddingIsReadInAnyWay, ACountIsTheLeast, APatternHasAComplement, ZeroHasNoMinus, DigitsWithAnEndAreLeast, CharactersStandByTheirPlaces, PresenceBitsStandInFront, ASizeStandsInFront, ContentsFillTheirOctets};
 
 /// The fields of a SEQUENCE follow each other, and a number that isn't permitted is never written.
@@ -85,4 +86,19 @@ pub fn a_size_stands_in_front()
 /// Contained octets are as many as their contents fill: with more of them, or fewer, the packet is refused.
 pub fn contents_fill_their_octets()
     ensures { ContentsFillTheirOctets }
+{}
+
+/// A pattern stands directly behind the last element of a list, and a list that it ends has as many elements as may be there.
+pub fn a_pattern_ends_the_list()
+    ensures { APatternEndsTheList }
+{}
+
+/// A component that is a determinant is written as its value, which has to meet what is asked of it.
+pub fn a_component_determines()
+    ensures { AComponentDetermines }
+{}
+
+/// A node that a reader can't follow isn't sound.
+pub fn unsound_nodes_are_told()
+    ensures { UnsoundNodesAreTold }
 {}
