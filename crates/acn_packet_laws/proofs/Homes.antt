@@ -11,8 +11,9 @@ use Rattle.acn_grammar.specs.Walk.{Stand, Role, a_component, an_inserted, an_alt
 use Rattle.acn_grammar.proofs.Codings.{both_are, equal_numbers}
 use Rattle.acn_grammar.proofs.Texts.{either}
 use Rattle.acn_packet_laws.proofs.Overlaps.{contains_holds}
-use Rattle.acn_packet_laws.proofs.Placed.{any_left, any_right, any_either, holds_left, holds_right, holds_either, same_name-is, slots-field, list_all-holds, field_is, has_field, here_at, home_is, place_fine, to_fields, to_one, to_cases, first_component, next_component, first_inserted, next_inserted, first_case, next_case, root_place, is_number}
+use Rattle.acn_packet_laws.proofs.Placed.{any_left, any_right, any_either, holds_left, holds_right, holds_either, slots-field, list_all-holds, field_is, has_field, here_at, home_is, place_fine, to_fields, to_one, to_cases, first_component, next_component, first_inserted, next_inserted, first_case, next_case, root_place, is_number}
 use Rattle.acn_packet_laws.proofs.Scoping.{At, FieldsAt, CasesAt, numbers, rules, used, named, not_true, find_field}
+use Rattle.acn_grammar.proofs.Characters.{same_name-is}
 
 pub out : {A B F : Type 0} → A ⊎ B → (A → F) → (B → F) → F
 out (inl a) f g = f a

@@ -20,8 +20,6 @@ use Rattle.acn_grammar.proofs.Codings.{both_are, not_is, equal_numbers}
 use Rattle.acn_grammar.proofs.FineLeaves.{rules_of}
 use Rattle.acn_packet_laws.proofs.AskHomes.{if_yes, if_no}
 use Rattle.acn_packet_laws.proofs.OneFault.{some_same}
-use Rattle.acn_packet_laws.proofs.Placed.{same_name-is}
-use Rattle.acn_packet_laws.proofs.PrefixNodes.{same_name-refl}
 use Rattle.acn_packet_laws.proofs.Used.{slot_leaf_fine}
 use Rattle.acn_grammar.proofs.Characters.{same_name-is, same_name-refl}
 

@@ -11,7 +11,6 @@ use Rattle.acn_grammar.specs.Slots.{domain_of}
 use Rattle.acn_packet_laws.specs.Laws.{OneRefusal}
 use Rattle.acn_packet_laws.proofs.Homes.{truth}
 use Rattle.acn_packet_laws.proofs.AskHomes.{if_yes, if_no}
-use Rattle.acn_packet_laws.proofs.Placed.{same_name-is}
 use Rattle.acn_packet_laws.proofs.Used.{each_right}
 use Rattle.acn_grammar.proofs.Characters.{same_name-is}
 

@@ -41,12 +41,6 @@ use Rattle.acn_grammar.proofs.Characters.{same_name-refl}
 law_map : {P Q : Part} {F G : Type 0} → (F → G) → Law P Q F → Law P Q G
 law_map h law at a b r s p q e = let x = law at a b r s p q e in (x.0, h x.1)
 
-pub same_name-refl : (n : List ℕ) → same_name n n ≡ true
-same_name-refl [] = refl
-same_name-refl (c ∷ cs) =
-    let t : nat_eq c c ≡ true = grind (arith, nat_tests) in
-    rw t (same_name-refl cs)
-
 -- names that differ tell their places
 no_other_name : (n : List ℕ) (ns : List (List ℕ)) (j : ℕ) → list_any (same_name n) ns ≡ false → slice_get ns j ≡ Some n → ⊥
 no_other_name n [] j h e = cc

@@ -11,7 +11,7 @@ use Rattle.acn_packet_laws.specs.RequestRows.{IsSound, behind_len, octets_by_len
 use Rattle.acn_packet_laws.specs.WorkedRows.{u8}
 use Rattle.acn_packet_laws.proofs.SoundLaws.{second_three, first_five, third_five, fourth_five}
 use Rattle.acn_packet_laws.proofs.Sounding.{got_name, last_two, last_three, last_four}
-use Rattle.acn_packet_laws.proofs.WidthLaw.{width_holds}
+use Rattle.acn_grammar.proofs.WidthLaw.{width_holds}
 
 shared_is : IsSound (behind_len (octets_by_len 120 (octets_by_len 121 no_fields)))
 shared_is = (

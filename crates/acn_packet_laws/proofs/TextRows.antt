@@ -1,6 +1,6 @@
 -- Texts and lists: what is written, and what can't be read.
 use Rattle.std.proofs.Common.{◌≡◌, ℕ, pos, true, false, [], ◌∷◌, ◌++◌, Some, None, refl, arith, inl, inr}
-use Rattle.std.proofs.Common.{zero, suc, ℕ, ℤ, ◌≡◌, ◌∙◌, sym, ap, ◌&&◌, ◌||◌, Bool}
+use Rattle.std.proofs.Common.{zero, suc, ℤ, ◌∙◌, sym, ap, ◌&&◌, ◌||◌, Bool}
 use Rattle.std.specs.Prelude.{◌-ℤ◌, ◌≤ℤ◌, int_le, nat_abs}
 use Rattle.std.proofs.lemmas.Int.{ints}
 use Rattle.std.proofs.lemmas.Bool.Decides.{nat_tests}

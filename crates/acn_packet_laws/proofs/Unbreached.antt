@@ -16,7 +16,7 @@ use Rattle.acn_grammar.specs.declared.node.ChoiceRule.{ChoiceRule}
 use Rattle.acn_grammar.specs.declared.node.Sizing.{Sizing}
 use Rattle.acn_grammar.specs.declared.node.TextLeaf.{TextLeaf}
 use Rattle.acn_grammar.proofs.SpellLength.{NumberOf-number_of}
-use Rattle.acn_packet_laws.proofs.Placed.{same_name-is}
+use Rattle.acn_grammar.proofs.Characters.{same_name-is}
 
 no_position : (p : ℕ → Bool) (xs : List ℕ) → AllByRecursion (λ x. p x ≡ false) xs → position_or_len p xs ≡ length xs
 no_position p [] h = refl

@@ -49,7 +49,7 @@ use Rattle.acn_packet_laws.proofs.LeastAnswers.{least_answer}
 use Rattle.acn_packet_laws.proofs.Occurrences.{each_occurrence_asks}
 use Rattle.acn_packet_laws.proofs.OneRefusals.{EachMet, Held, IsOf, held}
 use Rattle.acn_packet_laws.proofs.PathSlots.{slot_at, LeadsTo, IsLed, Led, NodeLed, FieldsLed, case_slot_at, led_on, led_component, led_behind, led_inserted, home_leads, moments_led}
-use Rattle.acn_packet_laws.proofs.Placed.{holds_either, near_parts, near_if_when, same_name-is}
+use Rattle.acn_packet_laws.proofs.Placed.{holds_either, near_parts, near_if_when}
 use Rattle.acn_packet_laws.proofs.Scoping.{same_eq}
 use Rattle.acn_packet_laws.proofs.SoundLaws.{first_two, first_three, second_three, first_four, second_four, third_four, first_five, second_five, fourth_five}
 use Rattle.acn_packet_laws.proofs.Sounding.{last_two, last_three, last_four, last_five, got_name}
