@@ -22,4 +22,5 @@ pub mod TallyLaw
 pub mod Tallying
 pub mod Telling
 pub mod TreeFits
+pub mod TwoNumbers
 pub mod Whole

@@ -10,7 +10,7 @@ use Rattle.acn_grammar.specs.Faults.{check_fault_of}
 use Rattle.acn_grammar.specs.Grammar.{Grammar, Form, num, list, choice}
 use Rattle.acn_grammar.specs.Interval.{span, value_count, width_of}
 use Rattle.acn_grammar.specs.Images.{images_of}
-use Rattle.acn_grammar.specs.Leaves.{num_fine, same_bits}
+use Rattle.acn_grammar.specs.Leaves.{num_fine, same_bits, all_differ}
 use Rattle.acn_grammar.specs.Length.{ending}
 use Rattle.acn_grammar.specs.Slots.{first_of_two}
 use Rattle.acn_grammar.specs.Tree.{has_tests}
@@ -180,6 +180,23 @@ has_some ts = nat_lt 0 (length ts)
 abbrev pub both_hold : List Det → List Test → List Test → Option (List (ℕ × ℤ))
 both_hold ds ts us = if has_some ts && has_some us then common ds (ts ++ us) else None
 
+-- the number that conditions ask of a slot, by the first of them on it
+abbrev pub number_asked : ℕ → List Test → Option ℤ
+number_asked s [] = None
+number_asked s (t ∷ ts) = if nat_eq (asked t).0 s then Some (asked t).1 else number_asked s ts
+
+abbrev pub is_other : ℤ → Option ℤ → Bool
+is_other x None = false
+is_other x (Some y) = not (int_eq x y)
+
+-- the conditions ask another number of the condition's slot
+abbrev pub disputes : List Test → Test → Bool
+disputes us t = is_other (asked t).1 (number_asked (asked t).0 us)
+
+-- so they can't hold together
+abbrev pub clash : List Test → List Test → Bool
+clash ts us = list_any (disputes us) ts
+
 abbrev pub pair_of : ℕ → ℤ → ℕ × ℤ
 pair_of s x = (s, x)
 
@@ -192,6 +209,22 @@ against ds path i ts j cases = first_of (λ m c. overlapping ds path i ts m c.1)
 abbrev pub pairs : List Det → List ℕ → ℕ → List (List ℕ × List Test) → Option CheckFault
 pairs ds path i [] = None
 pairs ds path i (c ∷ cases) = first_of_two (against ds path i c.1 (suc i) cases) (pairs ds path (suc i) cases)
+
+-- the numbers that alternatives ask of a slot, where each asks one
+abbrev pub numbers_on : ℕ → List (List ℕ × List Test) → Option (List ℤ)
+numbers_on s [] = Some []
+numbers_on s (c ∷ cases) = given (number_asked s c.1) (λ x. option_map (λ xs. x ∷ xs) (numbers_on s cases))
+
+abbrev pub differ_in : Option (List ℤ) → Bool
+differ_in None = false
+differ_in (Some xs) = all_differ int_eq xs
+
+-- each asks a number of its own
+abbrev pub have_own : ℕ → List (List ℕ × List Test) → Bool
+have_own s cases = differ_in (numbers_on s cases)
+
+abbrev pub NoneMeet : List (List ℕ × List Test) → Type 0
+NoneMeet cases = (ds : List Det) (path : List ℕ) → pairs ds path 0 cases ≡ None
 
 abbrev pub overlap_in : List Det → List ℕ → Form → Option CheckFault
 overlap_in ds path (choice cases Tests) = pairs ds path 0 (conditions_of cases)

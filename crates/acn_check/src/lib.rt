@@ -4,6 +4,7 @@
 mod checked;
 mod checking;
 mod choices;
+mod clashes;
 mod dets;
 mod ends;
 mod lines;

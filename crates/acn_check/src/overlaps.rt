@@ -2,6 +2,8 @@
 //!
 //! A condition asks its slot for one number. So the conditions of two alternatives hold together exactly where
 //! none of the slots that they name is asked for two numbers, and each number is permitted.
+//!
+//! Where each alternative asks a number of its own of one slot, as most do, no pair is looked at.
 ghost use Rattle.std.specs.Prelude.{◌≡◌, ◌≤◌, ◌<◌, ◌+◌, ◌++◌, [], length, map, drop, option_map, IfOk};
 ghost use Rattle.std.specs.List.{list_all};
 ghost use Rattle.std.specs.Ordering.{int_eq};
@@ -11,39 +13,12 @@ ghost use Rattle.acn_check.specs.First.{Told, first_of};
 ghost use Rattle.acn_check.specs.Program.{det_of, cases_of, AreFew, FewCases, IsPut};
 ghost use Rattle.acn_grammar.specs.declared.limits.TheConstants.{MOST_NODES};
 
+use crate::clashes::{Asked, asked_by, clash, is_number, told_by_one_slot};
 use crate::dets::{Det, det_of_slot};
 use crate::lines::Line;
 use acn_num::{NoMemory, Path, Row};
 use acn_tree::{Alternative, Body, CheckFault, ChoiceRule, Test};
 use std::alloc::Global;
-
-/// The number that a condition asks its slot for.
-#[derive(Clone, Copy, Drop)]
-struct Asked {
-    slot: u32,
-    number: i128,
-}
-
-fn asked_by(test: &Test) -> Asked
-    ensures { spec.pair_of result.slot result.number ≡ spec.asked test.now }
-{
-    match test {
-        Test::Flag(slot) => Asked {
-            slot: *slot,
-            number: 1,
-        },
-        Test::Equals(slot, number) => Asked {
-            slot: *slot,
-            number: *number,
-        },
-    }
-}
-
-fn is_number(a: &i128, b: &i128) -> bool
-    ensures { result ≡ int_eq a.now b.now }
-{
-    *a == *b
-}
 
 // How many numbers stand before those of this slot and of greater ones.
 fn place_of(values: &[(u32, i128)], slot: u32) -> usize
@@ -181,6 +156,9 @@ struct Case<'t> {
 fn apart(alloc: Global, dets: &[Det], path: &Path, one: Case, other: Case) -> Result<(), CheckFault>
     ensures { Told (spec.overlapping (map det_of dets.now) path.now one.entry.at one.entry.tests.now other.entry.at other.entry.tests.now) result }
 {
+    if clash(one.tests, other.tests) {
+        return Ok(());
+    }
     match both_hold(alloc, dets, one.tests, other.tests)? {
         None => Ok(()),
         Some(values) => Err(CheckFault::Overlap {
@@ -230,6 +208,9 @@ fn all_apart(
     requires { length alternatives.now ≤ MOST_NODES }
     ensures { Told (spec.pairs (map det_of dets.now) path.now 0 (cases_of alternatives.now)) result }
 {
+    if told_by_one_slot(alloc, alternatives)? {
+        return Ok(());
+    }
     for (at, alternative) in alternatives.iter().enumerate() {
         let one = Case {
             at: at as u32,

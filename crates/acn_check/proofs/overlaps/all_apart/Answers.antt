@@ -9,7 +9,7 @@ pub returns-in_err-apart_from : goal.returns-in_err-apart_from
 returns-in_err-apart_from c =
     let ds = map det_of c.args.dets.now in
     let as' = c.args.alternatives.now in
-    let p = err_from_is_err_and c.from_residual.result c.from_residual.ensures.1 in
+    let p = err_from_is_err_and c.from_residual-in_err-apart_from.result c.from_residual-in_err-apart_from.ensures.1 in
     rw (p.1, p.2) (pairs_in ds c.args.path.now as' (pairs ds c.args.path.now 0 (cases_of as')) c.loop-at.at c.index-alternatives-at.result c.items.result.now c.behind.result.now c.in_err-apart_from.field-0.0 c.loop-at-test.true c.index-alternatives-at.is c.items.ensures c.behind.ensures c.loop-at.invariant c.in_err-apart_from.ensures)
 
 pub loop-at-preserved : goal.loop-at-preserved

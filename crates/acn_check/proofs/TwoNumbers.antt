@@ -1,0 +1,133 @@
+-- Conditions that ask two numbers of one slot don't hold together.
+use Rattle.std.proofs.Common.{◌≡◌, ◌⊎◌, inl, inr, ℕ, suc, ℤ, Bool, true, false, not, ◌&&◌, ◌||◌, List, [], ◌∷◌, ◌++◌, length, map, Option, Some, None, refl, sym, ap, ◌∙◌, subst, arith, nat_eq}
+use Rattle.std.specs.Prelude.{option_map, if◌then◌else◌, Result, Ok, Err, IfOk}
+use Rattle.std.specs.List.{list_any}
+use Rattle.std.specs.Ordering.{int_eq, int_cmp, is_eq}
+use Rattle.std.proofs.lemmas.Bool.{and_parts, or_parts, or_cases, not-true, cases_Bool}
+use Rattle.std.proofs.lemmas.Bool.Decides.{nat_tests}
+use Rattle.std.proofs.lemmas.Cmp.{int_cmp_total}
+use Rattle.std.proofs.lemmas.Int.{ints}
+use Rattle.std.proofs.lemmas.List.{append-nil}
+use Rattle.acn_grammar.specs.Env.{Env, at_slot, Holds, AllHold}
+use Rattle.acn_grammar.specs.Leaves.{all_differ}
+use Rattle.acn_grammar.specs.Slots.{first_of_two}
+use Rattle.acn_grammar.specs.declared.node.Test.{Test}
+use Rattle.acn_grammar.specs.declared.node.Test.TheVariants.{Flag, Equals}
+use Rattle.acn_leaf.proofs.Differ.{Tells}
+use Rattle.acn_check.specs.First.{Det, asked, gathered, given, only_if, permits, common, has_some, both_hold, overlapping, against, pairs, number_asked, is_other, disputes, clash, numbers_on, differ_in, have_own, NoneMeet}
+use Rattle.acn_check.proofs.Gathered.{gathering}
+
+int_eq_is : (x y : ℤ) → int_eq x y ≡ true → x ≡ y
+int_eq_is x y h = grind (arith, ints)
+
+int_same : (x : ℤ) → int_eq x x ≡ true
+int_same x = grind (arith, ints)
+
+eq_is : (a b : ℕ) → nat_eq a b ≡ true → a ≡ b
+eq_is a b h = grind (arith, nat_tests)
+
+-- What holds says what is asked.
+
+holds_asked : (env : Env) (t : Test) → Holds env t → at_slot env (asked t).0 ≡ Some (asked t).1
+holds_asked env (Flag s) h = h
+holds_asked env (Equals s k) h = h
+
+asked_holds : (env : Env) (us : List Test) (s : ℕ) (y : ℤ) → AllHold env us → number_asked s us ≡ Some y → at_slot env s ≡ Some y
+asked_holds env [] s y h e = cc
+asked_holds env (u ∷ us) s y h e = by (cases_Bool (nat_eq (asked u).0 s)) (λ g. asked_holds env us s y h.1 g)
+  where
+    by : (nat_eq (asked u).0 s ≡ true) ⊎ (nat_eq (asked u).0 s ≡ false) → (number_asked s us ≡ Some y → at_slot env s ≡ Some y) → at_slot env s ≡ Some y
+    by (inl t) rest =
+        let here : Some (asked u).1 ≡ Some y = sym (ap (λ b. if b then Some (asked u).1 else number_asked s us) t) ∙ e in
+        sym (ap (at_slot env) (eq_is (asked u).0 s t)) ∙ (holds_asked env u h.0 ∙ here)
+    by (inr f) rest = rest (sym (ap (λ b. if b then Some (asked u).1 else number_asked s us) f) ∙ e)
+
+holds_left : (env : Env) (ts us : List Test) → AllHold env (ts ++ us) → AllHold env ts
+holds_left env [] us h = tt
+holds_left env (t ∷ ts) us h = (h.0, holds_left env ts us h.1)
+
+holds_right : (env : Env) (ts us : List Test) → AllHold env (ts ++ us) → AllHold env us
+holds_right env [] us h = h
+holds_right env (t ∷ ts) us h = holds_right env ts us h.1
+
+no_dispute : (env : Env) (us : List Test) (t : Test) → AllHold env us → Holds env t → disputes us t ≡ false
+no_dispute env us t h g = by (number_asked (asked t).0 us) refl
+  where
+    by : (o : Option ℤ) → number_asked (asked t).0 us ≡ o → is_other (asked t).1 o ≡ false
+    by None e = refl
+    by (Some y) e =
+        let one : Some (asked t).1 ≡ Some y = sym (holds_asked env t g) ∙ asked_holds env us (asked t).0 y h e in
+        let same : (asked t).1 ≡ y = cc in
+        ap not (subst (λ z. int_eq (asked t).1 z ≡ true) same (int_same (asked t).1))
+
+no_clash : (env : Env) (ts us : List Test) → AllHold env ts → AllHold env us → clash ts us ≡ false
+no_clash env [] us h g = refl
+no_clash env (t ∷ ts) us h g = ap (λ b. b || clash ts us) (no_dispute env us t g h.0) ∙ no_clash env ts us h.1 g
+
+-- what both sides ask is gathered nowhere where a test of theirs excludes that all hold
+none_if : (ds : List Det) (ts us : List Test) → ((env : Env) → AllHold env ts → AllHold env us → ⊥) → both_hold ds ts us ≡ None
+none_if ds ts us never = by (gathered (ts ++ us) []) refl
+  where
+    in_none : (b : Bool) (o : Option Env) → o ≡ None → (if b then given o (λ es. only_if (Rattle.std.specs.List.list_all (permits ds) es) es) else None) ≡ None
+    in_none true o e = ap (λ p. given p (λ es. only_if (Rattle.std.specs.List.list_all (permits ds) es) es)) e
+    in_none false o e = refl
+
+    by : (o : Option Env) → gathered (ts ++ us) [] ≡ o → both_hold ds ts us ≡ None
+    by None e = in_none (has_some ts && has_some us) (gathered (ts ++ us) []) e
+    by (Some es) e =
+        let g = gathering (ts ++ us) [] es tt e in
+        absurd (never es (holds_left es ts us g.all) (holds_right es ts us g.all))
+
+clash_apart : (ds : List Det) (ts us : List Test) → clash ts us ≡ true → both_hold ds ts us ≡ None
+clash_apart ds ts us h = none_if ds ts us (λ env p q. (let n = no_clash env ts us p q in cc))
+
+pub clash_overlapping : (ds : List Det) (path : List ℕ) (i : ℕ) (ts : List Test) (j : ℕ) (us : List Test) → clash ts us ≡ true → overlapping ds path i ts j us ≡ None
+clash_overlapping ds path i ts j us h = ap (option_map (Rattle.acn_grammar.specs.Check.overlap path i j)) (clash_apart ds ts us h)
+
+two_numbers : (ds : List Det) (ts us : List Test) (s : ℕ) (x y : ℤ) → number_asked s ts ≡ Some x → number_asked s us ≡ Some y → int_eq x y ≡ false → both_hold ds ts us ≡ None
+two_numbers ds ts us s x y e g n = none_if ds ts us (λ env p q.
+    let a = asked_holds env ts s x p e in
+    let b = asked_holds env us s y q g in
+    let same : x ≡ y = cc in
+    let t = subst (λ z. int_eq x z ≡ true) same (int_same x) in
+    cc)
+
+-- Numbers of their own.
+
+parts : (o : Option ℤ) (p : Option (List ℤ)) (xs : List ℤ) → given o (λ x. option_map (λ ys. x ∷ ys) p) ≡ Some xs → (x : ℤ) × (ys : List ℤ) × (o ≡ Some x) × (p ≡ Some ys) × (x ∷ ys ≡ xs)
+parts None p xs h = cc
+parts (Some x) None xs h = cc
+parts (Some x) (Some ys) xs h = (x, ys, refl, refl, cc)
+
+module _ (ds : List Det) (path : List ℕ) (s : ℕ) where
+  none_against : (i : ℕ) (ts : List Test) (x : ℤ) → number_asked s ts ≡ Some x → (j : ℕ) (cases : List (List ℕ × List Test)) (ys : List ℤ) → numbers_on s cases ≡ Some ys → list_any (int_eq x) ys ≡ false → against ds path i ts j cases ≡ None
+  none_against i ts x e j [] ys g n = refl
+  none_against i ts x e j (c ∷ cases) ys g n =
+      let p = parts (number_asked s c.1) (numbers_on s cases) ys g in
+      let m = or_parts (int_eq x p.0) (list_any (int_eq x) p.1) (subst (λ l. list_any (int_eq x) l ≡ false) (sym p.4) n) in
+      let here : overlapping ds path i ts j c.1 ≡ None = ap (option_map (Rattle.acn_grammar.specs.Check.overlap path i j)) (two_numbers ds ts c.1 s x p.0 e p.2 m.0) in
+      ap (λ o. first_of_two o (against ds path i ts (suc j) cases)) here ∙ none_against i ts x e (suc j) cases p.1 p.3 m.1
+
+  none_meet : (i : ℕ) (cases : List (List ℕ × List Test)) (xs : List ℤ) → numbers_on s cases ≡ Some xs → all_differ int_eq xs ≡ true → pairs ds path i cases ≡ None
+  none_meet i [] xs g n = refl
+  none_meet i (c ∷ cases) xs g n =
+      let p = parts (number_asked s c.1) (numbers_on s cases) xs g in
+      let f = and_parts (not (list_any (int_eq p.0) p.1)) (all_differ int_eq p.1) (subst (λ l. all_differ int_eq l ≡ true) (sym p.4) n) in
+      ap (λ o. first_of_two o (pairs ds path (suc i) cases)) (none_against i c.1 p.0 p.2 (suc i) cases p.1 p.3 (not-true _ f.0)) ∙ none_meet (suc i) cases p.1 p.3 f.1
+
+pub own_apart : (s : ℕ) (cases : List (List ℕ × List Test)) → have_own s cases ≡ true → NoneMeet cases
+own_apart s cases h ds path = by (numbers_on s cases) refl h
+  where
+    by : (o : Option (List ℤ)) → numbers_on s cases ≡ o → differ_in o ≡ true → pairs ds path 0 cases ≡ None
+    by None e d = cc
+    by (Some xs) e d = none_meet ds path s 0 cases xs e d
+
+pub if_own : {E : Type 0} (r : Result Bool E) (s : ℕ) (cases : List (List ℕ × List Test)) → IfOk r (λ own. own ≡ have_own s cases) → IfOk r (λ told. told ≡ true → NoneMeet cases)
+if_own (Ok b) s cases h = λ t. own_apart s cases (sym h ∙ t)
+if_own (Err e) s cases h = tt
+
+pub by_numbers : Tells int_cmp int_eq
+by_numbers = record { total = int_cmp_total; ties = λ x y. tied x y; is = int_eq_is }
+  where
+    tied : (x y : ℤ) → int_eq x y ≡ is_eq (int_cmp x y)
+    tied x y = grind (arith, ints)
