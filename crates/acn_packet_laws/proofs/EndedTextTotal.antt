@@ -21,6 +21,7 @@ use Rattle.acn_packet_laws.proofs.LeafTotal.{less_or_not, octets_whole}
 use Rattle.acn_packet_laws.proofs.NodeTotal.{TextTotal}
 use Rattle.acn_packet_laws.proofs.TextLaws.{characters_octets, whole_octets}
 use Rattle.acn_packet_laws.proofs.TextTotal.{chars_total, one_char, Result, sized_total}
+use Rattle.acn_grammar.proofs.Characters.{same_name-is, same_name-refl}
 
 -- The first place that passes.
 

@@ -8,7 +8,7 @@ use Rattle.acn_grammar.specs.Check.{CheckFault, forward, Undecodable}
 use Rattle.acn_grammar.specs.Grammar.{Grammar, Form, Fields, Alternatives, node, num, octets, bits, text, seq, list, choice, contained, no_fields, component, inserted, no_alternatives, alternative}
 use Rattle.acn_grammar.specs.Scoped.{Known, with_slot, TestsIn, PresenceIn, RuleIn, FineField, choose_known, with_own, after, fields_after, names_of}
 use Rattle.acn_grammar.specs.Tree.{IsTree, holds, is_slot, near, near_node, role_fine, own_fine, presence_fine, encloses, form_fine, same_numbers, slots_of, all_true, stand_rules}
-use Rattle.acn_grammar.specs.Walk.{Stand, Role, a_component, an_inserted, an_alternative, an_element, a_content, root_node, nodes, nodes_of, form_nodes, field_nodes, slot_here, Use, condition, slot_of, uses, own_tests, presence_tests, form_uses, rule_uses}
+use Rattle.acn_grammar.specs.Walk.{Stand, Role, a_component, an_inserted, an_alternative, an_element, a_content, root_node, nodes, nodes_of, form_nodes, field_nodes, slot_here, Use, condition, slot_of, uses, own_tests, presence_tests, form_uses, rule_uses, conditions_of}
 use Rattle.acn_grammar.specs.declared.node.Presence.{Presence}
 use Rattle.acn_grammar.specs.declared.node.Presence.TheVariants.{Always, Bit, When}
 use Rattle.acn_grammar.specs.declared.node.SizeRule.{SizeRule}
