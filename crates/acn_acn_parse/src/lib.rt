@@ -10,6 +10,3 @@ mod words;
 
 pub use maps::parse_map;
 pub use parse::parse_acn;
-
-#[cfg(test)]
-mod tests;

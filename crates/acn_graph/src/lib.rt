@@ -7,6 +7,3 @@ mod rows;
 mod search;
 
 pub use ring::{Ring, first_ring};
-
-#[cfg(test)]
-mod tests;

@@ -8,8 +8,6 @@ mod lexing;
 mod literal;
 mod number;
 mod scan;
-#[cfg(test)]
-mod tests;
 
 pub use fault::LexFault;
 pub use laws::{numbers_are_decimal, one_answer_holds};

@@ -32,12 +32,7 @@ fn graph_of(alloc: Global, count: usize, steps: &[&str]) -> Result<Vec<Row<usize
 }
 
 // The nodes behind a node, up to this many and up to the last.
-fn ahead_of(
-    alloc: Global,
-    node: usize,
-    width: usize,
-    last: usize,
-) -> Result<Row<usize>, NoMemory> {
+fn ahead_of(alloc: Global, node: usize, width: usize, last: usize) -> Result<Row<usize>, NoMemory> {
     let mut row = Row::new(alloc);
     for ahead in 0..width {
         let to = node.saturating_add(ahead).saturating_add(1);

@@ -4,12 +4,12 @@ ghost use Rattle.std.specs.List.{All};
 ghost use Rattle.acn_world.specs.Viewed.{world_view};
 ghost use Rattle.acn_world.specs.World.{IsType};
 
-use crate::asn_printer::{base_in_words, constraint_in_words, value_in_words};
 use crate::names::push_full_name;
 use crate::trouble::Trouble;
 use acn_acn_syntax::AcnEntry;
 use acn_asn_syntax::Constraint;
 use acn_case_lines::{small, word};
+use acn_source_printer::{base_in_words, constraint_in_words, value_in_words};
 use acn_world::{Chain, TypeId, World};
 use std::alloc::Global;
 

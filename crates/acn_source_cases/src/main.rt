@@ -7,9 +7,7 @@
 //! two hexadecimal digits are one byte.
 #![tactic(auto)]
 
-mod acn_printer;
 mod answer;
-mod asn_printer;
 mod graph;
 mod looking;
 mod measure;

@@ -1,12 +1,11 @@
 //! Tokens, and trees that are printed back.
 
-use crate::acn_printer::{acn_in_words, map_in_words};
-use crate::asn_printer::asn_in_words;
 use crate::sheet::{Kind, Sheet};
 use crate::texts::{add, bytes_of, no_files, tokens_of};
 use crate::trouble::Trouble;
 use acn_lex::{Kind as TokenKind, Token, Tokens};
 use acn_num::NoMemory;
+use acn_source_printer::{acn_in_words, asn_in_words, map_in_words};
 use acn_world::Sources;
 use std::alloc::Global;
 

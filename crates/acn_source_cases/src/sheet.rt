@@ -1,6 +1,5 @@
 //! The question and the files of a group.
 
-use acn_case_lines::of_word;
 use acn_num::NoMemory;
 use std::alloc::Global;
 
@@ -120,13 +119,13 @@ fn put_piece(parts: &[&str], piece: &str, text: &mut String) -> Result<(), NoMem
 }
 
 // Adds what stands behind a `$` for one number of `times`.
-fn put_turn(number: i128, piece: &str, text: &mut String) -> Result<(), NoMemory> {
+fn put_turn(number: u32, piece: &str, text: &mut String) -> Result<(), NoMemory> {
     if let Some(rest) = piece.strip_prefix("i") {
         write!(text, "{number}{rest}")?;
     } else if let Some(rest) = piece.strip_prefix("h") {
         write!(text, "{}{rest}", number.saturating_sub(1))?;
     } else if let Some(rest) = piece.strip_prefix("e") {
-        write!(text, "{}{rest}", number.saturating_mul(2))?;
+        write!(text, "{}{rest}", u64::from(number) * 2)?;
     } else {
         write!(text, "${piece}")?;
     }
@@ -134,7 +133,7 @@ fn put_turn(number: i128, piece: &str, text: &mut String) -> Result<(), NoMemory
 }
 
 // Adds a text for one number of `times`, behind a space.
-fn put_turns(number: i128, pattern: &str, text: &mut String) -> Result<(), NoMemory> {
+fn put_turns(number: u32, pattern: &str, text: &mut String) -> Result<(), NoMemory> {
     text.push_str(" ")?;
     for (place, piece) in pattern.split("$").enumerate() {
         if place == 0 {
@@ -147,11 +146,16 @@ fn put_turns(number: i128, pattern: &str, text: &mut String) -> Result<(), NoMem
 }
 
 // Adds a text for each number from one up to another.
-fn put_times(low: i128, high: i128, pattern: &str, text: &mut String) -> Result<(), NoMemory> {
+fn put_times(low: u32, high: u32, pattern: &str, text: &mut String) -> Result<(), NoMemory> {
     for number in low..high {
         put_turns(number, pattern, text)?;
     }
     Ok(())
+}
+
+// The count that a word says, or 0.
+fn count_of(word: &str) -> u32 {
+    word.parse::<u32>().unwrap_or(0)
 }
 
 impl File {
@@ -216,7 +220,7 @@ impl Sheet {
         };
         match self.files.last_mut() {
             Some(file) => {
-                put_times(of_word(low), of_word(high), pattern, &mut file.text)?;
+                put_times(count_of(low), count_of(high), pattern, &mut file.text)?;
                 Ok(true)
             }
             None => Ok(false),

@@ -51,8 +51,8 @@ fn twice(alloc: Global, tree: Tree, first: &str) -> Result<String, NoMemory> {
 fn path_of(text: &str) -> Option<Path> {
     let mut path = Path::new();
     if text != "root" {
-        for (place, step) in text.split(".").enumerate() {
-            if place > 63 {
+        for step in text.split(".") {
+            if path.steps().len() > 63 {
                 return None;
             }
             path.push(step.parse::<u32>().unwrap_or(u32::MAX));

@@ -1,9 +1,9 @@
 //! The tree of ASN.1 modules as a text, with a space before each token.
 
 use acn_asn_syntax::{
-    AsnBase, AsnModule, AsnModules, AsnRange, AsnType, AsnValue, Assign, Component, Constraint,
-    Element, Exports, Import, Item, Meet, Named, Oid, OidPart, Part, Rest, Set, Tag, TagClass,
-    TagMode, Tagging,
+    Alternative, AsnBase, AsnModule, AsnModules, AsnRange, AsnType, AsnValue, Assign, Component,
+    Constraint, Element, Exports, Import, Item, Meet, Named, Oid, OidPart, Part, Rest, Set, Tag,
+    TagClass, TagMode, Tagging,
 };
 use acn_num::{Name, NoMemory};
 use std::alloc::Global;
@@ -230,6 +230,24 @@ impl<'a> Parts<'a> {
         self.push(Job::Type(element))
     }
 
+    fn alternatives(&mut self, alternatives: &'a [Alternative]) -> Result<(), NoMemory> {
+        self.text(b"{")?;
+        for (at, alternative) in alternatives.iter().enumerate() {
+            self.comma(at)?;
+            self.name(&alternative.name)?;
+            self.push(Job::Type(&alternative.of))?;
+        }
+        self.text(b"}")
+    }
+
+    fn reference(&mut self, module: &'a Option<Name>, name: &'a Name) -> Result<(), NoMemory> {
+        if let Some(module) = module {
+            self.name(module)?;
+            self.text(b".")?;
+        }
+        self.name(name)
+    }
+
     fn base(&mut self, base: &'a AsnBase) -> Result<(), NoMemory> {
         match base {
             AsnBase::Boolean => self.text(b"BOOLEAN"),
@@ -261,21 +279,9 @@ impl<'a> Parts<'a> {
             AsnBase::SequenceOf(constraint, of) => self.list(constraint, of.get()),
             AsnBase::Choice(alternatives) => {
                 self.text(b"CHOICE")?;
-                self.text(b"{")?;
-                for (at, alternative) in alternatives.items().iter().enumerate() {
-                    self.comma(at)?;
-                    self.name(&alternative.name)?;
-                    self.push(Job::Type(&alternative.of))?;
-                }
-                self.text(b"}")
+                self.alternatives(alternatives.items())
             }
-            AsnBase::Ref(module, name) => {
-                if let Some(module) = module {
-                    self.name(module)?;
-                    self.text(b".")?;
-                }
-                self.name(name)
-            }
+            AsnBase::Ref(module, name) => self.reference(module, name),
         }
     }
 
