@@ -8,7 +8,7 @@ use acn_num::{Boxed, NoMemory, Row};
 use std::alloc::Global;
 
 /// What stands before the type of a list's elements.
-#[derive(Debug, Drop)]
+#[derive(Drop)]
 pub struct ListHead {
     /// The tag of the list.
     pub tag: Option<Tag>,
@@ -17,7 +17,7 @@ pub struct ListHead {
 }
 
 /// What one step of reading a type gives.
-#[derive(Debug, Drop)]
+#[derive(Drop)]
 pub enum Step {
     /// The head of a list type, whose element is read next.
     Head(ListHead),
