@@ -8,8 +8,8 @@ ghost use Rattle.acn_asn_types.specs.Types as types;
 use crate::headers::{ModuleHead, exports_at, head_at, imports_at};
 use acn_asn_syntax::{AsnModule, AsnModules, AsnType, AsnValue, Assign, Exports, Import};
 use acn_asn_types::{row_of, type_at, value};
-use acn_cursor::{Cursor, ParseFault, identifier, is_identifier, reference};
-use acn_lex::Kind;
+use acn_cursor::{Cursor, ParseFault, identifier, reference};
+use acn_lex::{Kind, is_identifier};
 use acn_num::{Name, Row};
 use std::alloc::Global;
 
