@@ -2,8 +2,7 @@
 
 ghost use Rattle.std.specs.Prelude.{◌≡◌, ◌^◌, ◌<◌, map, ◌∷◌, length, true, IfOk};
 ghost use Rattle.acn_cursor.specs.Exact.{IsLeftOut, IsOnly, IsTooDeep};
-ghost use Rattle.acn_cursor.specs.Screens.{written};
-ghost use Rattle.acn_cursor.specs.Steps.{Reads, many};
+ghost use Rattle.acn_cursor.specs.Steps.{Reads, many, ReadsFreely};
 ghost use Rattle.acn_lex.specs.Lexeme.{lexemes};
 ghost use Rattle.acn_acn_syntax.specs.View.{entry_of, module_of, modules_of};
 ghost use Rattle.acn_acn_parse.specs.AttributeReading.{has_comma as has_comma_next};
@@ -119,7 +118,7 @@ fn entries(
 
 #[tactic(auto, unfolding(crate::specs::FieldReading::heading))]
 fn heading(cursor: &mut Cursor<'_>) -> Result<(), ParseFault>
-    ensures { Reads (spec.heading cursor.old) result cursor.new }
+    ensures { ReadsFreely (spec.heading cursor.old) result cursor.new }
 {
     cursor.expect(Kind::Word, b"DEFINITIONS")?;
     cursor.expect(Kind::Mark, b"::=")?;
