@@ -11,7 +11,7 @@ use crate::words::{Attribute, acn_identifier, alignment, attribute_name, encodin
 use acn_acn_syntax::{AcnPath, Attr, Condition, Literal, Signed, SizeAttr};
 use acn_cursor::{Cursor, ParseFault};
 use acn_lex::Kind;
-use acn_num::{Name, NoMemory, Row};
+use acn_num::{Boxed, Name, NoMemory, Row};
 use std::alloc::Global;
 
 /// The first item and those behind it.
@@ -225,9 +225,9 @@ fn attributes(alloc: Global, cursor: &mut Cursor<'_>) -> Result<Row<Attr>, Parse
     if cursor.sees(Kind::Mark, b"]") {
         return Ok(Row::new(alloc));
     }
-    let first = attribute(alloc, cursor)?;
+    let first = Boxed::new(alloc, attribute(alloc, cursor)?)?;
     let more = more_attributes(alloc, cursor)?;
-    Ok(with_first(alloc, first, more)?)
+    Ok(with_first(alloc, first.into_inner(), more)?)
 }
 
 /// Takes attributes between brackets.

@@ -15,7 +15,7 @@ use crate::words::acn_identifier;
 use acn_acn_syntax::{AcnEntry, AcnModule, Param, ParamKind};
 use acn_cursor::{Cursor, ParseFault, reference};
 use acn_lex::Kind;
-use acn_num::{NoMemory, Row};
+use acn_num::{Boxed, NoMemory, Row};
 use std::alloc::Global;
 
 #[tactic(auto, unfolding(crate::specs::FieldReading::parameter_kind))]
@@ -70,10 +70,10 @@ fn parameters(alloc: Global, cursor: &mut Cursor<'_>) -> Result<Row<Param>, Pars
     if !cursor.eat(Kind::Mark, b"<") {
         return Ok(Row::new(alloc));
     }
-    let first = one_parameter(alloc, cursor)?;
+    let first = Boxed::new(alloc, one_parameter(alloc, cursor)?)?;
     let more = more_parameters(alloc, cursor)?;
     cursor.expect(Kind::Mark, b">")?;
-    Ok(with_first(alloc, first, more)?)
+    Ok(with_first(alloc, first.into_inner(), more)?)
 }
 
 #[tactic(auto, unfolding(crate::specs::FieldReading::entry_at))]
