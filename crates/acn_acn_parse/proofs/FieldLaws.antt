@@ -7,7 +7,7 @@ use Rattle.std.proofs.lemmas.Slice.Eq.{bytes_eq-Decides}
 use Rattle.acn_lex.specs.declared.Kind.TheVariants.{Word, Mark}
 use Rattle.acn_lex.specs.Lexeme.{Lexeme, same_kind}
 use Rattle.acn_cursor.specs.Steps.{token, given, sees, eat, expect, word, many, Parser}
-use Rattle.acn_cursor.specs.Words.{is_reference, is_upper, is_reserved, reserved}
+use Rattle.acn_lex.specs.Words.{is_reference, is_upper, is_reserved, reserved}
 use Rattle.acn_cursor.proofs.Laws.{Takes, done, then_found, then_again, given_found, sees_again, sees_kind, sees_text, eat_again, eat_nothing, expect_found, expect_again, word_found, word_again, repeat_found, many_again}
 use Rattle.acn_acn_syntax.specs.MapTokens.{signed_tokens}
 use Rattle.acn_acn_syntax.specs.Mirror.{Field, Braces, Fields, plain, inserted, number, no_braces, braces, no_fields, and_field}

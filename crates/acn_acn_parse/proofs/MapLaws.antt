@@ -14,7 +14,8 @@ use Rattle.acn_acn_syntax.specs.declared.maps.Signed.{Signed}
 use Rattle.acn_acn_syntax.specs.declared.maps.MapLine.{MapLine}
 use Rattle.acn_acn_syntax.specs.declared.maps.MapTable.{MapTable}
 use Rattle.acn_acn_syntax.specs.declared.maps.MapTables.{MapTables}
-use Rattle.acn_acn_syntax.specs.MapTokens.{signed_tokens, last_tokens, line_tokens, table_tokens, tokens_of, is_identifier, IsSigned, IsLine, IsTable, IsProper}
+use Rattle.acn_lex.specs.Words.{is_identifier}
+use Rattle.acn_acn_syntax.specs.MapTokens.{signed_tokens, last_tokens, line_tokens, table_tokens, tokens_of, IsSigned, IsLine, IsTable, IsProper}
 use Rattle.acn_acn_parse.specs.MapReading.{signed, last_if, last, line, has_line, table, has_more, tables}
 
 -- ---- numbers

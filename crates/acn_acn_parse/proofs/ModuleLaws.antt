@@ -6,7 +6,7 @@ use Rattle.std.specs.List.{flat_map, list_all, AllByRecursion}
 use Rattle.acn_lex.specs.declared.Kind.TheVariants.{Word, Mark}
 use Rattle.acn_lex.specs.Lexeme.{Lexeme, same_kind}
 use Rattle.acn_cursor.specs.Steps.{token, given, sees, eat, expect, word, many}
-use Rattle.acn_cursor.specs.Words.{is_reference, is_reserved, reserved}
+use Rattle.acn_lex.specs.Words.{is_reference, is_reserved, reserved}
 use Rattle.acn_cursor.proofs.Laws.{Takes, done, outcome, then_found, then_again, given_found, sees_again, sees_kind, sees_text, eat_again, eat_nothing, expect_found, expect_again, word_found, word_again, repeat_found, many_again}
 use Rattle.acn_acn_syntax.specs.Mirror.{Braces, Entry, Module, no_braces, braces}
 use Rattle.acn_acn_syntax.specs.ModuleTokens.{Tokens, mark, joined, bracket_tokens, brace_tokens, parameter_kind_token, parameter_tokens_of, parameter_tokens, entry_tokens, module_tokens, tokens_of, is_acn_identifier, is_attr, is_parameter_kind, is_parameter, are_braces, is_entry, is_module, is_proper}

@@ -7,7 +7,7 @@ use Rattle.std.proofs.lemmas.Slice.Eq.{bytes_eq-Decides}
 use Rattle.acn_lex.specs.declared.Kind.TheVariants.{Word}
 use Rattle.acn_lex.specs.Lexeme.{Lexeme}
 use Rattle.acn_cursor.specs.Steps.{token, taken_if, text_of}
-use Rattle.acn_cursor.specs.Words.{is_identifier}
+use Rattle.acn_lex.specs.Words.{is_identifier}
 use Rattle.acn_cursor.proofs.Laws.{ap2, taken_found, then_some, text_of_found, text_of_again}
 use Rattle.acn_acn_syntax.specs.ModuleTokens.{encoding_word, order_word, align_word, attribute_words, is_acn_identifier}
 use Rattle.acn_acn_syntax.specs.declared.modules.Alignment.{Alignment}

@@ -3,7 +3,8 @@ use Rattle.std.specs.Prelude.{◌≡◌, ℕ, zero, suc, map, Bool, true, false,
 use Rattle.acn_lex.specs.declared.Kind.TheVariants.{Word, Mark}
 use Rattle.acn_lex.specs.Lexeme.{Lexeme}
 use Rattle.acn_cursor.specs.Steps.{Parser, ◌>>=◌, ◌>>◌, pure, refuse, eat, expect, sees, word, many, Fails, is_whole, Refused, token}
-use Rattle.acn_cursor.specs.Words.{is_reference, acn_left_out_words}
+use Rattle.acn_lex.specs.Words.{is_reference, acn_left_out_words}
+use Rattle.acn_cursor.specs.Screens.{tokens_of}
 use Rattle.acn_cursor.specs.declared.fault.ParseFault.{ParseFault}
 use Rattle.acn_acn_syntax.specs.Mirror.{Field, Braces, Fields, plain, inserted, number, no_braces, braces, Entry, Module}
 use Rattle.acn_acn_syntax.specs.ModuleTokens.{is_acn_identifier}
@@ -29,7 +30,7 @@ WholeAs view outcome (Err e) = Refused (is_whole outcome) e
 
 -- the words that are left out of ACN files
 unfoldable pub left_out_tokens : List Lexeme
-left_out_tokens = map (token Word) acn_left_out_words
+left_out_tokens = tokens_of acn_left_out_words []
 
 -- ---- arguments
 

@@ -7,7 +7,7 @@ use Rattle.acn_acn_syntax.specs.declared.maps.Signed.{Signed}
 use Rattle.acn_acn_syntax.specs.declared.maps.MapLine.{MapLine}
 use Rattle.acn_acn_syntax.specs.declared.maps.MapTable.{MapTable}
 use Rattle.acn_acn_syntax.specs.declared.maps.MapTables.{MapTables}
-use Rattle.acn_acn_syntax.specs.MapTokens.{is_identifier}
+use Rattle.acn_lex.specs.Words.{is_identifier}
 
 unfoldable pub signed : Parser Signed
 signed = do

@@ -1,7 +1,7 @@
 //! Paths, conditions and attributes.
 
-ghost use Rattle.std.specs.Prelude.{◌≡◌, ◌∷◌, IfOk};
-ghost use Rattle.acn_cursor.specs.Steps.{Reads, many, word};
+ghost use Rattle.std.specs.Prelude.{◌≡◌, ◌∷◌, IfOk, IfErr};
+ghost use Rattle.acn_cursor.specs.Steps.{Reads, many, word, ReadsFreely};
 ghost use Rattle.acn_acn_syntax.specs.ModuleTokens.{is_acn_identifier};
 ghost use Rattle.acn_lex.specs.declared.Kind.TheVariants.{Word, Number, Bits, Hex};
 ghost use Rattle.acn_acn_parse.specs.AttributeReading as spec;
@@ -11,7 +11,7 @@ use crate::words::{Attribute, acn_identifier, alignment, attribute_name, encodin
 use acn_acn_syntax::{AcnPath, Attr, Condition, Literal, Signed, SizeAttr};
 use acn_cursor::{Cursor, ParseFault};
 use acn_lex::Kind;
-use acn_num::{Name, NoMemory, Row};
+use acn_num::{Boxed, Name, NoMemory, Row};
 use std::alloc::Global;
 
 /// The first item and those behind it.
@@ -65,7 +65,7 @@ pub fn path(alloc: Global, cursor: &mut Cursor<'_>) -> Result<AcnPath, ParseFaul
 
 #[tactic(auto, unfolding(crate::specs::AttributeReading::equals))]
 fn equals(cursor: &mut Cursor<'_>) -> Result<Option<Signed>, ParseFault>
-    ensures { Reads (spec.equals cursor.old) result cursor.new }
+    ensures { ReadsFreely (spec.equals cursor.old) result cursor.new }
 {
     if cursor.eat(Kind::Mark, b"==") {
         Ok(Some(signed(cursor)?))
@@ -142,17 +142,20 @@ fn size(alloc: Global, cursor: &mut Cursor<'_>) -> Result<SizeAttr, ParseFault>
 
 #[tactic(auto, unfolding(crate::specs::AttributeReading::literal_of))]
 fn literal(alloc: Global, cursor: &mut Cursor<'_>) -> Result<Literal, ParseFault>
-    ensures { Reads (spec.literal_of cursor.old) result cursor.new }
+    ensures read { Reads (spec.literal_of cursor.old) result cursor.new }
+    ensures kept { IfErr result (λ _. cursor.new ≡ cursor.old) }
 {
     match cursor.text_of(Kind::Bits) {
         Some(text) => {
+            let name = Name::copy(alloc, text)?;
             cursor.skip();
-            Ok(Literal::Bits(Name::copy(alloc, text)?))
+            Ok(Literal::Bits(name))
         }
         None => match cursor.text_of(Kind::Hex) {
             Some(text) => {
+                let name = Name::copy(alloc, text)?;
                 cursor.skip();
-                Ok(Literal::Hex(Name::copy(alloc, text)?))
+                Ok(Literal::Hex(name))
             }
             None => Err(cursor.refuse()),
         },
@@ -222,9 +225,9 @@ fn attributes(alloc: Global, cursor: &mut Cursor<'_>) -> Result<Row<Attr>, Parse
     if cursor.sees(Kind::Mark, b"]") {
         return Ok(Row::new(alloc));
     }
-    let first = attribute(alloc, cursor)?;
+    let first = Boxed::new(alloc, attribute(alloc, cursor)?)?;
     let more = more_attributes(alloc, cursor)?;
-    Ok(with_first(alloc, first, more)?)
+    Ok(with_first(alloc, first.into_inner(), more)?)
 }
 
 /// Takes attributes between brackets.

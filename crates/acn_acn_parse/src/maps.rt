@@ -1,5 +1,5 @@
 ghost use Rattle.std.specs.Prelude.{◌≡◌, ◌^◌, ◌<◌, [], ◌∷◌, length, IfOk};
-ghost use Rattle.acn_cursor.specs.Steps.{Reads, Whole, many, word};
+ghost use Rattle.acn_cursor.specs.Steps.{Reads, ReadsFreely, Whole, many};
 ghost use Rattle.acn_lex.specs.Lexeme.{lexemes};
 ghost use Rattle.acn_acn_syntax.specs.declared.maps.MapTables.{MapTables};
 ghost use Rattle.acn_cursor.specs.Exact.{IsFound, IsOnly, IsLeftOut, IsTooDeep};
@@ -8,15 +8,15 @@ ghost use Rattle.acn_acn_syntax.specs.MapTokens as spelling;
 
 use crate::attributes::with_first;
 use acn_acn_syntax::{MapLine, MapTable, MapTables, Signed};
-use acn_cursor::{Cursor, ParseFault, screened};
+use acn_cursor::{Cursor, ParseFault, identifier, screened};
 use acn_lex::{Kind, Token, Tokens};
-use acn_num::{Name, Row};
+use acn_num::Row;
 use std::alloc::Global;
 
 /// Takes a number with its sign.
 #[tactic(auto, unfolding(crate::specs::MapReading::signed))]
 pub fn signed(cursor: &mut Cursor<'_>) -> Result<Signed, ParseFault>
-    ensures { Reads (spec.signed cursor.old) result cursor.new }
+    ensures { ReadsFreely (spec.signed cursor.old) result cursor.new }
 {
     let negative = cursor.eat(Kind::Mark, b"-");
     let n = cursor.number()?;
@@ -25,7 +25,7 @@ pub fn signed(cursor: &mut Cursor<'_>) -> Result<Signed, ParseFault>
 
 #[tactic(auto, unfolding(crate::specs::MapReading::last))]
 fn last(cursor: &mut Cursor<'_>) -> Result<Option<Signed>, ParseFault>
-    ensures { Reads (spec.last cursor.old) result cursor.new }
+    ensures { ReadsFreely (spec.last cursor.old) result cursor.new }
 {
     if cursor.eat(Kind::Mark, b"..") {
         Ok(Some(signed(cursor)?))
@@ -36,7 +36,7 @@ fn last(cursor: &mut Cursor<'_>) -> Result<Option<Signed>, ParseFault>
 
 #[tactic(auto, unfolding(crate::specs::MapReading::line))]
 fn line(cursor: &mut Cursor<'_>) -> Result<MapLine, ParseFault>
-    ensures { Reads (spec.line cursor.old) result cursor.new }
+    ensures { ReadsFreely (spec.line cursor.old) result cursor.new }
 {
     let first = signed(cursor)?;
     let last = last(cursor)?;
@@ -57,32 +57,6 @@ fn lines(alloc: Global, cursor: &mut Cursor<'_>) -> Result<Row<MapLine>, ParseFa
         lines.push(line)?;
     }
     Ok(lines)
-}
-
-fn is_identifier(text: &[u8]) -> bool
-    ensures { result ≡ spelling.is_identifier text.now }
-{
-    match text {
-        [] => false,
-        [first, ..] => 97 <= *first && *first <= 122,
-    }
-}
-
-#[tactic(auto, unfolding(acn_cursor::specs::Steps::word))]
-fn identifier(alloc: Global, cursor: &mut Cursor<'_>) -> Result<Name, ParseFault>
-    ensures { Reads (word spelling.is_identifier cursor.old) result cursor.new }
-{
-    match cursor.text_of(Kind::Word) {
-        None => Err(cursor.refuse()),
-        Some(text) => {
-            if is_identifier(text) {
-                cursor.skip();
-                Ok(Name::copy(alloc, text)?)
-            } else {
-                Err(cursor.refuse())
-            }
-        }
-    }
 }
 
 #[tactic(auto, unfolding(crate::specs::MapReading::table))]
@@ -135,7 +109,7 @@ fn whole(alloc: Global, tokens: &[Token<'_>]) -> Result<MapTables, ParseFault>
 
 /// The tables of a mapping file, from its tokens, of which there are fewer than `2^32`.
 ///
-/// `Ok` is the one proper tree that has these tokens. `TooDeep` comes exactly where the level of a token is over 64,
+/// `Ok` is the one proper tree that has these tokens. `TooDeep` comes exactly where the level of a token is over `MOST_LEVEL`,
 /// and `Syntax` exactly where no level is and no proper tree has these tokens; each keeps its token's number. No word
 /// is left out of mapping files.
 pub fn parse_map(alloc: Global, tokens: &Tokens<'_>) -> Result<MapTables, ParseFault>
@@ -146,7 +120,7 @@ pub fn parse_map(alloc: Global, tokens: &Tokens<'_>) -> Result<MapTables, ParseF
     ensures too_deep { IsTooDeep [] (lexemes tokens.now.list) result }
 {
     let list = tokens.list.items();
-    match screened(list, &[]) {
+    match screened(list, &[], &[]) {
         Ok(()) => whole(alloc, list),
         Err(fault) => Err(fault),
     }

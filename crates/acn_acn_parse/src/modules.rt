@@ -2,8 +2,7 @@
 
 ghost use Rattle.std.specs.Prelude.{◌≡◌, ◌^◌, ◌<◌, map, ◌∷◌, length, true, IfOk};
 ghost use Rattle.acn_cursor.specs.Exact.{IsLeftOut, IsOnly, IsTooDeep};
-ghost use Rattle.acn_cursor.specs.Screens.{written};
-ghost use Rattle.acn_cursor.specs.Steps.{Reads, many};
+ghost use Rattle.acn_cursor.specs.Steps.{Reads, many, ReadsFreely};
 ghost use Rattle.acn_lex.specs.Lexeme.{lexemes};
 ghost use Rattle.acn_acn_syntax.specs.View.{entry_of, module_of, modules_of};
 ghost use Rattle.acn_acn_parse.specs.AttributeReading.{has_comma as has_comma_next};
@@ -16,7 +15,7 @@ use crate::words::acn_identifier;
 use acn_acn_syntax::{AcnEntry, AcnModule, Param, ParamKind};
 use acn_cursor::{Cursor, ParseFault, reference};
 use acn_lex::Kind;
-use acn_num::{NoMemory, Row};
+use acn_num::{Boxed, NoMemory, Row};
 use std::alloc::Global;
 
 #[tactic(auto, unfolding(crate::specs::FieldReading::parameter_kind))]
@@ -71,10 +70,10 @@ fn parameters(alloc: Global, cursor: &mut Cursor<'_>) -> Result<Row<Param>, Pars
     if !cursor.eat(Kind::Mark, b"<") {
         return Ok(Row::new(alloc));
     }
-    let first = one_parameter(alloc, cursor)?;
+    let first = Boxed::new(alloc, one_parameter(alloc, cursor)?)?;
     let more = more_parameters(alloc, cursor)?;
     cursor.expect(Kind::Mark, b">")?;
-    Ok(with_first(alloc, first, more)?)
+    Ok(with_first(alloc, first.into_inner(), more)?)
 }
 
 #[tactic(auto, unfolding(crate::specs::FieldReading::entry_at))]
@@ -119,7 +118,7 @@ fn entries(
 
 #[tactic(auto, unfolding(crate::specs::FieldReading::heading))]
 fn heading(cursor: &mut Cursor<'_>) -> Result<(), ParseFault>
-    ensures { Reads (spec.heading cursor.old) result cursor.new }
+    ensures { ReadsFreely (spec.heading cursor.old) result cursor.new }
 {
     cursor.expect(Kind::Word, b"DEFINITIONS")?;
     cursor.expect(Kind::Mark, b"::=")?;

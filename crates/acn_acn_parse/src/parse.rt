@@ -12,55 +12,17 @@ ghost use Rattle.acn_acn_parse.specs.FieldReading.{WholeAs, left_out_tokens};
 
 use crate::modules::modules;
 use acn_acn_syntax::AcnModules;
-use acn_cursor::{Cursor, ParseFault, Written, screened};
-use acn_lex::{Kind, Token, Tokens};
+use acn_cursor::{Cursor, ParseFault, screened};
+use acn_lex::{ACN_LEFT_OUT, Token, Tokens};
 use std::alloc::Global;
 
-// Refuses tokens with a word that is left out of ACN files, and then those with a level over 64.
+// Refuses tokens with a word that is left out of ACN files, and then those with a level over `MOST_LEVEL`.
 #[tactic(auto, unfolding(crate::specs::FieldReading::left_out_tokens))]
 fn screen(tokens: &[Token<'_>]) -> Result<(), ParseFault>
     requires { length tokens.now < 2 ^ 32 }
     ensures { exact.Screened (exact.screen left_out_tokens (lexemes tokens.now)) result }
 {
-    let words = [
-        Written {
-            kind: Kind::Word,
-            text: b"REAL",
-        },
-        Written {
-            kind: Kind::Word,
-            text: b"CONSTANT",
-        },
-        Written {
-            kind: Kind::Word,
-            text: b"IEEE754-1985-32",
-        },
-        Written {
-            kind: Kind::Word,
-            text: b"IEEE754-1985-64",
-        },
-        Written {
-            kind: Kind::Word,
-            text: b"post-encoding-function",
-        },
-        Written {
-            kind: Kind::Word,
-            text: b"save-position",
-        },
-        Written {
-            kind: Kind::Word,
-            text: b"and",
-        },
-        Written {
-            kind: Kind::Word,
-            text: b"or",
-        },
-        Written {
-            kind: Kind::Word,
-            text: b"not",
-        },
-    ];
-    screened(tokens, &words)
+    screened(tokens, &ACN_LEFT_OUT, &[])
 }
 
 fn whole(alloc: Global, tokens: &[Token<'_>]) -> Result<AcnModules, ParseFault>
@@ -79,7 +41,7 @@ fn whole(alloc: Global, tokens: &[Token<'_>]) -> Result<AcnModules, ParseFault>
 /// The modules of an ACN file, from its tokens, of which there are fewer than `2^32`.
 ///
 /// `Ok` is the one proper tree that has these tokens. `LeftOut` comes exactly where one of the words stands that this
-/// profile leaves out of ACN; `TooDeep` exactly where none stands and the level of a token is over 64; `Syntax` exactly
+/// profile leaves out of ACN; `TooDeep` exactly where none stands and the level of a token is over `MOST_LEVEL`; `Syntax` exactly
 /// where neither holds and no proper tree has these tokens. Each keeps its token's number.
 pub fn parse_acn(alloc: Global, tokens: &Tokens<'_>) -> Result<AcnModules, ParseFault>
     requires { length tokens.now.list < 2 ^ 32 }

@@ -1,14 +1,14 @@
 //! Words of attributes, and names in ACN files.
 
-ghost use Rattle.std.specs.Prelude.{◌≡◌};
+ghost use Rattle.std.specs.Prelude.{◌≡◌, IfErr};
 ghost use Rattle.std.specs.Str.{bytes_eq};
-ghost use Rattle.acn_cursor.specs.Steps.{Reads, word};
+ghost use Rattle.acn_cursor.specs.Steps.{Reads, word, ReadsFreely};
 ghost use Rattle.acn_acn_syntax.specs.ModuleTokens as spelling;
 ghost use Rattle.acn_acn_parse.specs.WordReading as spec;
 
 use acn_acn_syntax::{Alignment, Encoding, Endianness};
-use acn_cursor::{Cursor, ParseFault, is_identifier, is_one_of};
-use acn_lex::Kind;
+use acn_cursor::{Cursor, ParseFault};
+use acn_lex::{Kind, is_identifier, is_one_of};
 use acn_num::Name;
 use std::alloc::Global;
 
@@ -154,7 +154,8 @@ fn alignment_of(text: &[u8]) -> Option<Alignment>
 /// Takes the next token, which has to be the name of an attribute.
 #[tactic(auto, unfolding(crate::specs::WordReading::word_as))]
 pub fn attribute_name(cursor: &mut Cursor<'_>) -> Result<Attribute, ParseFault>
-    ensures { Reads (spec.word_as spec.attribute_of cursor.old) result cursor.new }
+    ensures read { ReadsFreely (spec.word_as spec.attribute_of cursor.old) result cursor.new }
+    ensures kept { IfErr result (λ _. cursor.new ≡ cursor.old) }
 {
     match cursor.text_of(Kind::Word) {
         None => Err(cursor.refuse()),
@@ -171,7 +172,8 @@ pub fn attribute_name(cursor: &mut Cursor<'_>) -> Result<Attribute, ParseFault>
 /// Takes the next token, which has to be the word of an encoding.
 #[tactic(auto, unfolding(crate::specs::WordReading::word_as))]
 pub fn encoding(cursor: &mut Cursor<'_>) -> Result<Encoding, ParseFault>
-    ensures { Reads (spec.word_as spec.encoding_of cursor.old) result cursor.new }
+    ensures read { ReadsFreely (spec.word_as spec.encoding_of cursor.old) result cursor.new }
+    ensures kept { IfErr result (λ _. cursor.new ≡ cursor.old) }
 {
     match cursor.text_of(Kind::Word) {
         None => Err(cursor.refuse()),
@@ -188,7 +190,8 @@ pub fn encoding(cursor: &mut Cursor<'_>) -> Result<Encoding, ParseFault>
 /// Takes the next token, which has to be the word of an order of octets.
 #[tactic(auto, unfolding(crate::specs::WordReading::word_as))]
 pub fn endianness(cursor: &mut Cursor<'_>) -> Result<Endianness, ParseFault>
-    ensures { Reads (spec.word_as spec.endianness_of cursor.old) result cursor.new }
+    ensures read { ReadsFreely (spec.word_as spec.endianness_of cursor.old) result cursor.new }
+    ensures kept { IfErr result (λ _. cursor.new ≡ cursor.old) }
 {
     match cursor.text_of(Kind::Word) {
         None => Err(cursor.refuse()),
@@ -205,7 +208,8 @@ pub fn endianness(cursor: &mut Cursor<'_>) -> Result<Endianness, ParseFault>
 /// Takes the next token, which has to be the word of an alignment.
 #[tactic(auto, unfolding(crate::specs::WordReading::word_as))]
 pub fn alignment(cursor: &mut Cursor<'_>) -> Result<Alignment, ParseFault>
-    ensures { Reads (spec.word_as spec.alignment_of cursor.old) result cursor.new }
+    ensures read { ReadsFreely (spec.word_as spec.alignment_of cursor.old) result cursor.new }
+    ensures kept { IfErr result (λ _. cursor.new ≡ cursor.old) }
 {
     match cursor.text_of(Kind::Word) {
         None => Err(cursor.refuse()),
@@ -264,14 +268,16 @@ fn is_acn_identifier(text: &[u8]) -> bool
 /// Takes the next token, which has to be an identifier that is no attribute word.
 #[tactic(auto, unfolding(acn_cursor::specs::Steps::word))]
 pub fn acn_identifier(alloc: Global, cursor: &mut Cursor<'_>) -> Result<Name, ParseFault>
-    ensures { Reads (word spelling.is_acn_identifier cursor.old) result cursor.new }
+    ensures read { Reads (word spelling.is_acn_identifier cursor.old) result cursor.new }
+    ensures kept { IfErr result (λ _. cursor.new ≡ cursor.old) }
 {
     match cursor.text_of(Kind::Word) {
         None => Err(cursor.refuse()),
         Some(text) => {
             if is_acn_identifier(text) {
+                let name = Name::copy(alloc, text)?;
                 cursor.skip();
-                Ok(Name::copy(alloc, text)?)
+                Ok(name)
             } else {
                 Err(cursor.refuse())
             }

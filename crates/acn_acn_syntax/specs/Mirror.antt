@@ -1,4 +1,4 @@
--- The trees of ACN modules as plain data, with no memory behind them.
+-- The trees of ACN modules as plain data, with no memory behind them. What the trees are is read in ModuleTokens, which says their tokens.
 use Rattle.std.specs.Prelude.{ℕ, List}
 use Rattle.acn_acn_syntax.specs.declared.maps.Signed.{Signed}
 use Rattle.acn_acn_syntax.specs.declared.modules.AcnPath.{AcnPath}

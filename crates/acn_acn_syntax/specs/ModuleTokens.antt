@@ -1,4 +1,5 @@
--- The tokens of ACN modules, and which trees of them are proper. The notation is this profile's own.
+-- The tokens of ACN modules, and which trees of them are proper. The notation is this profile's own; words, numbers and literals are those of X.680, clause 12
+-- (08/2015), and a reference is a typereference there (12.2).
 use Rattle.std.specs.Prelude.{◌≡◌, ℕ, ◌^◌, Bool, true, false, not, ◌&&◌, nat_lt, List, [], ◌∷◌, ◌++◌, Option, Some, None, codes}
 use Rattle.std.specs.List.{flat_map, list_all, list_any}
 use Rattle.std.specs.Fmt.{decimal}
@@ -6,7 +7,7 @@ use Rattle.std.specs.Str.{bytes_eq}
 use Rattle.acn_lex.specs.declared.Kind.TheVariants.{Word, Number, Mark, Bits, Hex}
 use Rattle.acn_lex.specs.Lexeme.{Lexeme}
 use Rattle.acn_cursor.specs.Steps.{token}
-use Rattle.acn_cursor.specs.Words.{is_identifier, is_reference}
+use Rattle.acn_lex.specs.Words.{is_identifier, is_reference}
 use Rattle.acn_acn_syntax.specs.MapTokens.{signed_tokens}
 use Rattle.acn_acn_syntax.specs.Mirror.{Field, Braces, Fields, plain, inserted, number, no_braces, braces, no_fields, and_field, Entry, Module}
 use Rattle.acn_acn_syntax.specs.View.{modules_of}
@@ -59,6 +60,7 @@ abbrev pub equals_tokens : Option Signed → Tokens
 equals_tokens None = []
 equals_tokens (Some n) = mark (codes "==") ∷ signed_tokens n
 
+-- one condition of a present-when: a path to a flag, or to a number that it has to equal
 unfoldable pub condition_tokens : Condition → Tokens
 condition_tokens c = path_tokens c.path ++ equals_tokens c.equals
 
@@ -86,6 +88,7 @@ unfoldable pub literal_token : Literal → Lexeme
 literal_token (literal.Bits text) = token Bits text
 literal_token (literal.Hex text) = token Hex text
 
+-- an attribute, by its name and what is written behind it
 unfoldable pub attr_tokens : Attr → Tokens
 attr_tokens (attr.Size s) = word (codes "size") ∷ size_tokens s
 attr_tokens (attr.Encoding e) = word (codes "encoding") ∷ word (encoding_word e) ∷ []
@@ -100,6 +103,7 @@ attr_tokens (attr.PresentWhen conditions) = word (codes "present-when") ∷ flat
 attr_tokens (attr.Determinant p) = word (codes "determinant") ∷ path_tokens p
 attr_tokens (attr.MappingFunction name) = word (codes "mapping-function") ∷ word name ∷ []
 
+-- the attributes of an entry or a field
 unfoldable pub bracket_tokens : List Attr → Tokens
 bracket_tokens attributes = between (codes "[") (codes "]") (joined (codes ",") attr_tokens attributes)
 
@@ -116,6 +120,7 @@ unfoldable pub argument_tokens : List AcnPath → Tokens
 argument_tokens [] = []
 argument_tokens (p ∷ ps) = between (codes "<") (codes ">") (joined (codes ",") path_tokens (p ∷ ps))
 
+-- A field of the type, a field that is inserted, or the number of an item.
 abbrev mutual
   pub field_tokens : Field → Tokens
   field_tokens (plain name arguments attributes fs) = word name ∷ (argument_tokens arguments ++ (bracket_tokens attributes ++ brace_tokens fs))
@@ -150,6 +155,7 @@ unfoldable pub parameter_tokens : List Param → Tokens
 parameter_tokens [] = []
 parameter_tokens (p ∷ ps) = between (codes "<") (codes ">") (joined (codes ",") parameter_tokens_of (p ∷ ps))
 
+-- what is said of one type assignment
 unfoldable pub entry_tokens : Entry → Tokens
 entry_tokens e = word e.name ∷ (parameter_tokens e.parameters ++ (bracket_tokens e.attributes ++ brace_tokens e.fields))
 
@@ -169,7 +175,7 @@ attribute_words = codes "size" ∷ codes "encoding" ∷ codes "endianness" ∷ c
     ∷ codes "null-terminated" ∷ codes "pos-int" ∷ codes "twos-complement" ∷ codes "BCD" ∷ codes "ASCII" ∷ codes "big" ∷ codes "little"
     ∷ codes "byte" ∷ codes "word" ∷ codes "dword" ∷ []
 
--- begins with a lower-case letter, and is no attribute word
+-- an identifier (X.680, 12.3) that is no attribute word
 unfoldable pub is_acn_identifier : List ℕ → Bool
 is_acn_identifier text = is_identifier text && not (list_any (bytes_eq text) attribute_words)
 

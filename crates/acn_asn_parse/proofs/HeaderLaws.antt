@@ -11,7 +11,7 @@ use Rattle.acn_lex.specs.declared.Kind.TheVariants.{Word, Number, Mark}
 use Rattle.acn_lex.specs.Lexeme.{Lexeme, same_kind}
 use Rattle.acn_cursor.specs.Steps.{Parser, given, and_then, ◌>>=◌, ◌>>◌, pure, token, sees, text_of, eat, expect, number, many}
 use Rattle.acn_cursor.specs.Steps as steps
-use Rattle.acn_cursor.specs.Words.{is_identifier, is_reference, is_reserved, is_upper, reserved}
+use Rattle.acn_lex.specs.Words.{is_identifier, is_reference, is_reserved, is_upper, reserved}
 use Rattle.acn_cursor.proofs.Laws.{Takes, done, then_found, then_again, given_found, eat_again, eat_nothing, expect_found, expect_again, word_found, word_again, number_found, number_again, text_of_again, sees_kind, sees_text, sees_again, repeat_found, many_again, outcome}
 use Rattle.acn_asn_syntax.specs.declared.modules.OidPart.{OidPart}
 use Rattle.acn_asn_syntax.specs.declared.modules.OidPart.TheVariants as part

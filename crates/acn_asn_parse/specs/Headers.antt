@@ -3,7 +3,7 @@ use Rattle.std.specs.Prelude.{ℕ, Bool, true, false, not, if◌then◌else◌, 
 use Rattle.acn_lex.specs.declared.Kind.TheVariants.{Word, Mark}
 use Rattle.acn_lex.specs.Lexeme.{Lexeme}
 use Rattle.acn_cursor.specs.Steps.{Parser, ◌>>=◌, ◌>>◌, pure, eat, expect, sees, text_of, word, number, many}
-use Rattle.acn_cursor.specs.Words.{is_identifier, is_reference}
+use Rattle.acn_lex.specs.Words.{is_identifier, is_reference}
 use Rattle.acn_asn_syntax.specs.declared.modules.OidPart.{OidPart}
 use Rattle.acn_asn_syntax.specs.declared.modules.OidPart.TheVariants as part
 use Rattle.acn_asn_syntax.specs.declared.modules.Oid.{Oid}

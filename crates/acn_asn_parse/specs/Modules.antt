@@ -3,7 +3,7 @@ use Rattle.std.specs.Prelude.{ℕ, Bool, true, false, not, if◌then◌else◌, 
 use Rattle.acn_lex.specs.declared.Kind.TheVariants.{Word, Mark}
 use Rattle.acn_lex.specs.Lexeme.{Lexeme}
 use Rattle.acn_cursor.specs.Steps.{Parser, ◌>>=◌, ◌>>◌, pure, expect, sees, text_of, word, with_front, many}
-use Rattle.acn_cursor.specs.Words.{is_identifier, is_reference}
+use Rattle.acn_lex.specs.Words.{is_identifier, is_reference}
 use Rattle.acn_asn_syntax.specs.declared.modules.Assign.{Assign}
 use Rattle.acn_asn_syntax.specs.declared.modules.Assign.TheVariants as assign
 use Rattle.acn_asn_syntax.specs.declared.modules.AsnModule.{AsnModule}

@@ -1,15 +1,15 @@
 //! What stands before a module's assignments.
 
-ghost use Rattle.std.specs.Prelude.{◌≡◌};
-ghost use Rattle.acn_cursor.specs.Steps.{Reads, many, word};
+ghost use Rattle.std.specs.Prelude.{◌≡◌, IfErr};
+ghost use Rattle.acn_cursor.specs.Steps.{Reads, many, word, ReadsFreely};
 ghost use Rattle.acn_asn_syntax.specs.Modules as spelling;
 ghost use Rattle.acn_asn_types.specs.Lists.{listed, more_of, next};
 ghost use Rattle.acn_asn_parse.specs.Headers as spec;
 
 use acn_asn_syntax::{Exports, Import, Oid, OidPart, Tagging};
 use acn_asn_types::{has, has_comma, literal, row_of};
-use acn_cursor::{Cursor, ParseFault, is_identifier, is_reference, reference};
-use acn_lex::Kind;
+use acn_cursor::{Cursor, ParseFault, reference};
+use acn_lex::{Kind, is_identifier, is_reference};
 use acn_num::{Name, Row};
 use std::alloc::Global;
 
@@ -26,7 +26,7 @@ pub struct ModuleHead {
 
 #[tactic(auto, unfolding(crate::specs::Headers::grouped_part))]
 fn grouped_part(cursor: &mut Cursor<'_>) -> Result<OidPart, ParseFault>
-    ensures { Reads (spec.grouped_part cursor.old) result cursor.new }
+    ensures { ReadsFreely (spec.grouped_part cursor.old) result cursor.new }
 {
     let n = cursor.number()?;
     cursor.expect(Kind::Mark, b")")?;
@@ -42,7 +42,7 @@ fn word_part(alloc: Global, cursor: &mut Cursor<'_>) -> Result<OidPart, ParseFau
 
 #[tactic(auto, unfolding(crate::specs::Headers::number_part))]
 fn number_part(cursor: &mut Cursor<'_>) -> Result<OidPart, ParseFault>
-    ensures { Reads (spec.number_part cursor.old) result cursor.new }
+    ensures { ReadsFreely (spec.number_part cursor.old) result cursor.new }
 {
     Ok(OidPart::Number(cursor.number()?))
 }
@@ -105,7 +105,7 @@ fn oid_at(alloc: Global, cursor: &mut Cursor<'_>) -> Result<Option<Oid>, ParseFa
 
 #[tactic(auto, unfolding(crate::specs::Headers::with_tags))]
 fn with_tags(cursor: &mut Cursor<'_>, tagging: Tagging) -> Result<Option<Tagging>, ParseFault>
-    ensures { Reads (spec.with_tags tagging cursor.old) result cursor.new }
+    ensures { ReadsFreely (spec.with_tags tagging cursor.old) result cursor.new }
 {
     cursor.expect(Kind::Word, b"TAGS")?;
     Ok(Some(tagging))
@@ -113,7 +113,7 @@ fn with_tags(cursor: &mut Cursor<'_>, tagging: Tagging) -> Result<Option<Tagging
 
 #[tactic(auto, unfolding(crate::specs::Headers::tagging_at))]
 fn tagging_at(cursor: &mut Cursor<'_>) -> Result<Option<Tagging>, ParseFault>
-    ensures { Reads (spec.tagging_at cursor.old) result cursor.new }
+    ensures { ReadsFreely (spec.tagging_at cursor.old) result cursor.new }
 {
     if cursor.eat(Kind::Word, b"EXPLICIT") {
         return with_tags(cursor, Tagging::Explicit);
@@ -147,14 +147,16 @@ fn is_name(text: &[u8]) -> bool
 /// A name that is exported or imported.
 #[tactic(auto, unfolding(acn_cursor::specs::Steps::word))]
 fn name(alloc: Global, cursor: &mut Cursor<'_>) -> Result<Name, ParseFault>
-    ensures { Reads (word spelling.is_name cursor.old) result cursor.new }
+    ensures read { Reads (word spelling.is_name cursor.old) result cursor.new }
+    ensures kept { IfErr result (λ _. cursor.new ≡ cursor.old) }
 {
     match cursor.text_of(Kind::Word) {
         None => Err(cursor.refuse()),
         Some(text) => {
             if is_name(text) {
+                let name = Name::copy(alloc, text)?;
                 cursor.skip();
-                Ok(Name::copy(alloc, text)?)
+                Ok(name)
             } else {
                 Err(cursor.refuse())
             }
@@ -214,7 +216,7 @@ fn names_at(alloc: Global, cursor: &mut Cursor<'_>) -> Result<Row<Name>, ParseFa
 
 #[tactic(auto, unfolding(crate::specs::Headers::all_exports))]
 fn all_exports(cursor: &mut Cursor<'_>) -> Result<Option<Exports>, ParseFault>
-    ensures { Reads (spec.all_exports cursor.old) result cursor.new }
+    ensures { ReadsFreely (spec.all_exports cursor.old) result cursor.new }
 {
     cursor.expect(Kind::Mark, b";")?;
     Ok(Some(Exports::All))

@@ -4,6 +4,5 @@
 mod headers;
 mod modules;
 mod parse;
-mod words;
 
 pub use parse::parse_asn;

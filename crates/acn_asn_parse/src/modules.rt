@@ -8,9 +8,9 @@ ghost use Rattle.acn_asn_types.specs.Types as types;
 use crate::headers::{ModuleHead, exports_at, head_at, imports_at};
 use acn_asn_syntax::{AsnModule, AsnModules, AsnType, AsnValue, Assign, Exports, Import};
 use acn_asn_types::{row_of, type_at, value};
-use acn_cursor::{Cursor, ParseFault, identifier, is_identifier, reference};
-use acn_lex::Kind;
-use acn_num::{Name, Row};
+use acn_cursor::{Cursor, ParseFault, identifier, reference};
+use acn_lex::{Kind, is_identifier};
+use acn_num::{Boxed, Name, Row};
 use std::alloc::Global;
 
 #[tactic(auto, unfolding(crate::specs::Modules::has_identifier))]
@@ -70,9 +70,9 @@ fn value_assign(alloc: Global, depth: usize, cursor: &mut Cursor<'_>) -> Result<
     ensures { Reads (spec.value_assign (types.type_at depth) cursor.old) result cursor.new }
 {
     let name = identifier(alloc, cursor)?;
-    let of = type_at(alloc, depth, cursor)?;
+    let of = Boxed::new(alloc, type_at(alloc, depth, cursor)?)?;
     let value = assigned(alloc, cursor)?;
-    Ok(value_is(name, of, value))
+    Ok(value_is(name, of.into_inner(), value))
 }
 
 #[tactic(auto, unfolding(crate::specs::Modules::assign_at))]

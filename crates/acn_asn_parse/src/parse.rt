@@ -12,19 +12,18 @@ ghost use Rattle.acn_asn_types.specs.Types.{type_at};
 ghost use Rattle.acn_asn_parse.specs.Whole as left;
 
 use crate::modules::modules;
-use crate::words::LEFT_OUT;
 use acn_asn_syntax::AsnModules;
 use acn_cursor::{Cursor, ParseFault, screened};
-use acn_lex::{Token, Tokens};
+use acn_lex::{ASN_LEFT_OUT, ASN_LEFT_OUT_MARKS, Token, Tokens};
 use std::alloc::Global;
 
-// Refuses tokens with a word or mark that is left out of ASN.1 files, and then those with a level over 64.
+// Refuses tokens with a word or mark that is left out of ASN.1 files, and then those with a level over `MOST_LEVEL`.
 #[tactic(auto, unfolding(crate::specs::Whole::left_out))]
 fn screen(tokens: &[Token<'_>]) -> Result<(), ParseFault>
     requires { length tokens.now < 2 ^ 32 }
     ensures { exact.Screened (exact.screen left.left_out (lexemes tokens.now)) result }
 {
-    screened(tokens, &LEFT_OUT)
+    screened(tokens, &ASN_LEFT_OUT, &ASN_LEFT_OUT_MARKS)
 }
 
 fn whole(alloc: Global, tokens: &[Token<'_>]) -> Result<AsnModules, ParseFault>
@@ -43,7 +42,7 @@ fn whole(alloc: Global, tokens: &[Token<'_>]) -> Result<AsnModules, ParseFault>
 /// The modules of an ASN.1 file, from its tokens, of which there are fewer than `2^32`.
 ///
 /// `Ok` is the one proper tree that has these tokens. `LeftOut` comes exactly where one of the words or marks stands that
-/// this profile leaves out of ASN.1; `TooDeep` exactly where none stands and the level of a token is over 64; `Syntax`
+/// this profile leaves out of ASN.1; `TooDeep` exactly where none stands and the level of a token is over `MOST_LEVEL`; `Syntax`
 /// exactly where neither holds and no proper tree has these tokens. Each keeps its token's number.
 pub fn parse_asn(alloc: Global, tokens: &Tokens<'_>) -> Result<AsnModules, ParseFault>
     requires { length tokens.now.list < 2 ^ 32 }

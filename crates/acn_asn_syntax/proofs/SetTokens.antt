@@ -1,5 +1,5 @@
 -- The tokens of each form of a set, and when it is proper.
-use Rattle.std.proofs.Common.{◌≡◌, Bool, true, false, ◌&&◌, cond, List, [], ◌∷◌, ◌++◌, Option, Some, None, refl, sym, ap, subst, ◌∙◌, append_assoc}
+use Rattle.std.proofs.Common.{◌≡◌, Bool, true, false, ◌&&◌, cond, List, [], ◌∷◌, ◌++◌, Option, Some, None, refl, sym, ap, subst, ◌∙◌}
 use Rattle.std.specs.Prelude.{codes, map, option_map}
 use Rattle.std.specs.List.{flat_map, list_all}
 use Rattle.std.specs.Prelude.{ℕ}
@@ -13,7 +13,7 @@ use Rattle.acn_asn_syntax.specs.declared.sets.Set.{Set}
 use Rattle.acn_asn_syntax.specs.declared.sets.Set.TheVariants as set
 use Rattle.acn_asn_syntax.specs.declared.sets.Meet.{Meet}
 use Rattle.acn_asn_syntax.specs.declared.sets.Part.{Part}
-use Rattle.acn_asn_syntax.specs.declared.sets.Element.TheOpen.{Element-F, Set-F, Meet-F, Part-F}
+use Rattle.acn_asn_syntax.specs.declared.sets.Element.TheOpen.{Element-F, Set-F}
 use Rattle.acn_asn_syntax.specs.declared.sets.Element.TheViews.{roll-Element, roll-Set, roll-Meet, roll-Part, out-Element, out-Set, out-Meet, out-Part, roll-out-Element, roll-out-Set, roll-out-Meet, roll-out-Part}
 use Rattle.acn_asn_syntax.specs.declared.sets.Element.TheFolds.{fold-roll-Element, fold-roll-Set, fold-roll-Meet, fold-roll-Part}
 use Rattle.acn_asn_syntax.specs.Mirror as plain

@@ -1,9 +1,9 @@
 -- The tokens of each form of a type, and when it is proper.
-use Rattle.std.proofs.Common.{◌≡◌, ℕ, Bool, true, false, ◌&&◌, cond, List, [], ◌∷◌, ◌++◌, Option, Some, None, refl, sym, ap, subst, ◌∙◌, append_assoc}
+use Rattle.std.proofs.Common.{◌≡◌, ℕ, Bool, true, false, ◌&&◌, cond, List, [], ◌∷◌, ◌++◌, Option, Some, None, refl, sym, ap, subst, ◌∙◌}
 use Rattle.std.specs.Prelude.{codes, map}
 use Rattle.std.specs.List.{flat_map, list_all}
 use Rattle.acn_lex.specs.Lexeme.{Lexeme}
-use Rattle.acn_cursor.specs.Words.{is_identifier, is_reference}
+use Rattle.acn_lex.specs.Words.{is_identifier, is_reference}
 use Rattle.acn_asn_syntax.specs.declared.sets.Set.{Set}
 use Rattle.acn_asn_syntax.specs.declared.types.Tag.{Tag}
 use Rattle.acn_asn_syntax.specs.declared.types.Named.{Named}
@@ -16,7 +16,7 @@ use Rattle.acn_asn_syntax.specs.declared.types.Constraint.{Constraint}
 use Rattle.acn_asn_syntax.specs.declared.types.Constraint.TheVariants as constraint
 use Rattle.acn_asn_syntax.specs.declared.types.Component.{Component}
 use Rattle.acn_asn_syntax.specs.declared.types.Alternative.{Alternative}
-use Rattle.acn_asn_syntax.specs.declared.types.AsnBase.TheOpen.{AsnBase-F, Constraint-F, AsnType-F, Component-F, Alternative-F}
+use Rattle.acn_asn_syntax.specs.declared.types.AsnBase.TheOpen.{AsnBase-F, Constraint-F}
 use Rattle.acn_asn_syntax.specs.declared.types.AsnBase.TheViews.{roll-AsnBase, roll-AsnType, roll-Constraint, roll-Component, roll-Alternative, out-AsnBase, out-AsnType, out-Constraint, out-Component, out-Alternative, roll-out-AsnBase, roll-out-AsnType, roll-out-Constraint, roll-out-Component, roll-out-Alternative}
 use Rattle.acn_asn_syntax.specs.declared.types.AsnBase.TheFolds.{fold-roll-AsnBase, fold-roll-AsnType, fold-roll-Constraint, fold-roll-Component, fold-roll-Alternative}
 use Rattle.acn_asn_syntax.specs.Mirror as plain

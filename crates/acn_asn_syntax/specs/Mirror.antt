@@ -1,4 +1,5 @@
--- The trees of ASN.1 modules as plain data, over which definitions compute.
+-- The trees of ASN.1 modules as plain data, over which definitions compute. What the trees are is read in Spelling and Modules, which say their tokens; this
+-- page only spells the types of src without memory behind them.
 use Rattle.std.specs.Prelude.{ℕ, Bool, List, [], ◌∷◌, Option, Some, None}
 use Rattle.acn_asn_syntax.specs.declared.values.AsnValue.{AsnValue}
 use Rattle.acn_asn_syntax.specs.declared.sets.AsnRange.{AsnRange}

@@ -1,7 +1,7 @@
--- The tokens of sets and types, and which of them are proper.
-use Rattle.std.specs.Prelude.{ℕ, Bool, true, false, not, ◌&&◌, if◌then◌else◌, List, [], ◌∷◌, ◌++◌, Option, Some, None, codes}
-use Rattle.std.specs.List.{flat_map, list_all}
-use Rattle.acn_cursor.specs.Words.{is_identifier, is_reference}
+-- The tokens of sets and types, and which of them are proper. The productions are those of X.680 and X.682 (08/2015), as far as this profile reads them.
+use Rattle.std.specs.Prelude.{ℕ, Bool, true, false, ◌&&◌, if◌then◌else◌, List, [], ◌∷◌, ◌++◌, Option, Some, None, codes}
+use Rattle.std.specs.List.{list_all}
+use Rattle.acn_lex.specs.Words.{is_identifier, is_reference}
 use Rattle.acn_asn_syntax.specs.declared.types.TagClass.{TagClass}
 use Rattle.acn_asn_syntax.specs.declared.types.TagClass.TheVariants as class
 use Rattle.acn_asn_syntax.specs.declared.types.TagMode.{TagMode}
@@ -14,12 +14,14 @@ use Rattle.acn_asn_syntax.specs.declared.types.Rest.TheVariants as rest
 use Rattle.acn_asn_syntax.specs.Mirror.{Set, Meets, Meet, Parts, Part, Element, AsnType, AsnBase, Constraints, Constraint, Components, Alternatives, all_except, union_of, no_meets, and_meet, meet_of, no_parts, and_part, part_of, part_but, value_of, range_of, size_of, from_of, inner_of, type_of, boolean, null, integer, enumerated, octet_string, bit_string, ia5_string, sequence, sequence_of, sequence_size, choice, reference, no_constraints, and_constraint, by_set, by_size, containing, no_components, and_component, no_alternatives, and_alternative}
 use Rattle.acn_asn_syntax.specs.Values.{Tokens, word, mark, number, number_fits, signed_tokens, value_tokens, value_fits, range_tokens, range_fits, in_parentheses, in_braces, with_commas, option_tokens, option_fits}
 
--- ---- sets
+-- ---- sets (X.680, clause 50)
 
--- the mark before what is joined, which is a word or a sign
+-- UnionMark and IntersectionMark: the mark before what is joined, which is a word or a sign
 abbrev pub joined : List ℕ → List ℕ → Bool → Tokens
 joined sign written is_word = (if is_word then word written else mark sign) ∷ []
 
+-- Set is ElementSetSpec: ALL Exclusions, or Unions. Meet is Intersections, Part is IntersectionElements, with Exclusions where it has two elements (X.680, 50.1).
+-- Element is Elements: SingleValue (51.2), ValueRange (51.4), SizeConstraint (51.5), PermittedAlphabet (51.7), or an ElementSetSpec in parentheses.
 unfoldable mutual
   pub set_tokens : Set → Tokens
   set_tokens (all_except e) = word (codes "ALL") ∷ word (codes "EXCEPT") ∷ element_tokens e
@@ -76,6 +78,7 @@ unfoldable mutual
 
 -- ---- what stands in types
 
+-- Class (X.680, 31.2.1)
 abbrev pub class_tokens : TagClass → Tokens
 class_tokens class.Universal = word (codes "UNIVERSAL") ∷ []
 class_tokens class.Application = word (codes "APPLICATION") ∷ []
@@ -85,6 +88,7 @@ abbrev pub mode_tokens : TagMode → Tokens
 mode_tokens mode.Implicit = word (codes "IMPLICIT") ∷ []
 mode_tokens mode.Explicit = word (codes "EXPLICIT") ∷ []
 
+-- Tag, and the word of TaggedType behind it (X.680, 31.2.1)
 unfoldable pub tag_tokens : Tag → Tokens
 tag_tokens t = mark (codes "[") ∷ (option_tokens class_tokens t.class ++ number t.number ∷ mark (codes "]") ∷ option_tokens mode_tokens t.mode)
 
@@ -95,18 +99,21 @@ tag_fits t = number_fits t.number
 abbrev pub grouped_tokens : Bool × ℕ → Tokens
 grouped_tokens n = in_parentheses (signed_tokens n.0 n.1)
 
+-- NamedNumber (X.680, 19.1), with a number in this profile
 unfoldable pub named_tokens : Named → Tokens
 named_tokens n = word n.name ∷ grouped_tokens (n.negative, n.number)
 
 abbrev pub named_fits : Named → Bool
 named_fits n = is_identifier n.name && number_fits n.number
 
+-- EnumerationItem (X.680, 20.1)
 unfoldable pub item_tokens : Item → Tokens
 item_tokens i = word i.name ∷ option_tokens grouped_tokens i.number
 
 abbrev pub item_fits : Item → Bool
 item_fits i = is_identifier i.name && option_fits (λ n. number_fits n.1) i.number
 
+-- what stands behind the type in a ComponentType (X.680, 25.1)
 unfoldable pub rest_tokens : Rest → Tokens
 rest_tokens rest.Required = []
 rest_tokens rest.Optional = word (codes "OPTIONAL") ∷ []
@@ -122,13 +129,17 @@ abbrev pub is_some : {A : Type 0} → List A → Bool
 is_some [] = false
 is_some (x ∷ xs) = true
 
--- a type's name, with that of its module
+-- DefinedType: a type's name, or with that of its module an ExternalTypeReference (X.680, 14.1)
 unfoldable pub ref_tokens : Option (List ℕ) → List ℕ → Tokens
 ref_tokens None name = word name ∷ []
 ref_tokens (Some from) name = word from ∷ mark (codes ".") ∷ word name ∷ []
 
 -- ---- types
 
+-- Type (X.680, 17.1), its constraints behind it (ConstrainedType, 49.1): BooleanType (18.1), NullType (24.1), IntegerType with NamedNumberList (19.1),
+-- EnumeratedType with Enumerations (20.1), OctetStringType (23.1), BitStringType (22.1), IA5String (41.1), SequenceType with ComponentTypeLists (25.1),
+-- SequenceOfType (26.1), also with a Constraint or a SizeConstraint before OF (TypeWithConstraint, 49.5), ChoiceType with AlternativeTypeLists (29.1), and
+-- DefinedType. A constraint is a SubtypeConstraint (49.7), or ContentsConstraint (X.682, 11.1).
 unfoldable mutual
   pub type_tokens : AsnType → Tokens
   type_tokens (type_of tag base cs) = option_tokens tag_tokens tag ++ base_tokens base ++ constraints_tokens cs
@@ -173,7 +184,7 @@ unfoldable mutual
   more_alternatives no_alternatives = []
   more_alternatives (and_alternative name t more) = mark (codes ",") ∷ word name ∷ (type_tokens t ++ more_alternatives more)
 
--- SEQUENCE OF, whose element has the constraints behind it
+-- SEQUENCE OF, whose element has the constraints behind it (X.680, 49.2)
 abbrev pub is_list : AsnBase → Bool
 is_list boolean = false
 is_list null = false

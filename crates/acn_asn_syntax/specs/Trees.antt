@@ -9,7 +9,7 @@ use Rattle.acn_asn_syntax.specs.declared.types.AsnBase.{AsnBase}
 use Rattle.acn_asn_syntax.specs.declared.types.Constraint.{Constraint}
 use Rattle.acn_asn_syntax.specs.declared.types.Component.{Component}
 use Rattle.acn_asn_syntax.specs.declared.types.Alternative.{Alternative}
-use Rattle.acn_cursor.specs.Words.{is_identifier}
+use Rattle.acn_lex.specs.Words.{is_identifier}
 use Rattle.acn_asn_syntax.specs.Values.{Tokens, word}
 use Rattle.acn_asn_syntax.specs.View.{element_view, set_view, meet_view, part_view, type_view, base_view, constraint_view, component_view, alternative_view}
 use Rattle.acn_asn_syntax.specs.Spelling as plain

@@ -1,11 +1,11 @@
--- The tokens of values and ranges, and which are proper.
-use Rattle.std.specs.Prelude.{ℕ, ◌^◌, Bool, true, false, ◌&&◌, nat_lt, if◌then◌else◌, List, [], ◌∷◌, ◌++◌, Option, Some, None, codes}
+-- The tokens of values and ranges, and which are proper: Value (X.680, 17.7) and ValueRange (X.680, 51.4). Clauses are those of X.680 and X.682 (08/2015).
+use Rattle.std.specs.Prelude.{ℕ, ◌^◌, Bool, true, ◌&&◌, nat_lt, List, [], ◌∷◌, ◌++◌, Option, Some, None, codes}
 use Rattle.std.specs.List.{flat_map}
 use Rattle.std.specs.Fmt.{decimal}
 use Rattle.acn_lex.specs.declared.Kind.TheVariants.{Word, Number, Bits, Hex, Text, Mark}
 use Rattle.acn_lex.specs.Lexeme.{Lexeme}
 use Rattle.acn_cursor.specs.Steps.{token, given}
-use Rattle.acn_cursor.specs.Words.{is_identifier}
+use Rattle.acn_lex.specs.Words.{is_identifier}
 use Rattle.acn_asn_syntax.specs.declared.values.AsnValue.{AsnValue}
 use Rattle.acn_asn_syntax.specs.declared.values.AsnValue.TheVariants as value
 use Rattle.acn_asn_syntax.specs.declared.sets.AsnRange.{AsnRange}
@@ -26,10 +26,12 @@ number n = token Number (decimal n)
 abbrev pub number_fits : ℕ → Bool
 number_fits n = nat_lt n (2 ^ 64)
 
--- a number with its sign
+-- a number with its sign: SignedNumber (X.680, 19.1)
 unfoldable pub signed_tokens : Bool → ℕ → Tokens
 signed_tokens negative n = given negative (mark (codes "-")) ++ number n ∷ []
 
+-- Value: IntegerValue (X.680, 19.9), BooleanValue (18.3), NullValue (24.3), a reference to a value or the identifier of an item (clause 20), a bstring or
+-- hstring (22.9, 23.3) and a cstring (41.8)
 unfoldable pub value_tokens : AsnValue → Tokens
 value_tokens (value.Number negative n) = signed_tokens negative n
 value_tokens value.True = word (codes "TRUE") ∷ []
@@ -50,7 +52,7 @@ value_fits (value.Bits text) = true
 value_fits (value.Hex text) = true
 value_fits (value.Text text) = true
 
--- an end of a range, or the word for none
+-- LowerEndValue or UpperEndValue, MIN and MAX where no value is written (X.680, 51.4.1)
 unfoldable pub end_tokens : List ℕ → Option AsnValue → Tokens
 end_tokens text None = word text ∷ []
 end_tokens text (Some v) = value_tokens v
@@ -59,6 +61,7 @@ abbrev pub end_fits : Option AsnValue → Bool
 end_fits None = true
 end_fits (Some v) = value_fits v
 
+-- ValueRange, LowerEndpoint `..` UpperEndpoint: a `<` leaves its end out (X.680, 51.4)
 unfoldable pub range_tokens : AsnRange → Tokens
 range_tokens r = end_tokens (codes "MIN") r.low ++ (given r.low_out (mark (codes "<")) ++ (mark (codes "..") ∷ (given r.high_out (mark (codes "<")) ++ end_tokens (codes "MAX") r.high)))
 

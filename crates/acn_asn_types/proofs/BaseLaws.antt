@@ -8,7 +8,7 @@ use Rattle.acn_lex.specs.declared.Kind.TheVariants.{Word, Number, Mark}
 use Rattle.acn_lex.specs.Lexeme.{Lexeme, same_kind}
 use Rattle.acn_cursor.specs.Steps.{Parser, given, and_then, ◌>>=◌, ◌>>◌, pure, token, sees, eat, expect, number}
 use Rattle.acn_cursor.specs.Steps as steps
-use Rattle.acn_cursor.specs.Words.{is_identifier}
+use Rattle.acn_lex.specs.Words.{is_identifier}
 use Rattle.acn_cursor.proofs.Laws.{Takes, done, then_found, then_again, given_found, eat_again, eat_nothing, expect_found, expect_again, word_found, word_again, number_found, number_again, sees_kind, sees_text, outcome}
 use Rattle.acn_asn_syntax.specs.declared.types.TagClass.{TagClass}
 use Rattle.acn_asn_syntax.specs.declared.types.TagClass.TheVariants as class

@@ -21,7 +21,7 @@ use Rattle.acn_asn_syntax.specs.declared.sets.Set.{Set}
 use Rattle.acn_asn_syntax.specs.declared.sets.Set.TheVariants as set
 use Rattle.acn_asn_syntax.specs.declared.sets.Meet.{Meet, roll-Meet}
 use Rattle.acn_asn_syntax.specs.declared.sets.Part.{Part, roll-Part}
-use Rattle.acn_cursor.specs.Words.{is_identifier}
+use Rattle.acn_lex.specs.Words.{is_identifier}
 use Rattle.acn_asn_syntax.specs.Values.{word, mark, value_tokens, value_fits, end_tokens, end_fits, range_tokens, range_fits, in_parentheses}
 use Rattle.acn_asn_syntax.specs.Trees.{element_tokens, set_tokens, meet_tokens, part_tokens, element_fits, set_fits, meet_fits, part_fits}
 use Rattle.acn_asn_syntax.proofs.SetTokens.{joined_tokens, but_tokens, but_proper}

@@ -9,7 +9,7 @@ use Rattle.acn_lex.specs.declared.Kind.TheVariants.{Word, Mark}
 use Rattle.acn_lex.specs.Lexeme.{Lexeme, same_kind}
 use Rattle.acn_cursor.specs.Steps.{Parser, given, and_then, ◌>>=◌, ◌>>◌, pure, token, sees, eat, expect}
 use Rattle.acn_cursor.specs.Steps as steps
-use Rattle.acn_cursor.specs.Words.{is_reference, is_reserved, is_upper, reserved}
+use Rattle.acn_lex.specs.Words.{is_reference, is_reserved, is_upper, reserved}
 use Rattle.acn_cursor.proofs.Laws.{Takes, done, then_found, then_again, given_found, eat_again, eat_nothing, expect_found, expect_again, word_found, word_again, sees_kind, sees_text, sees_again, outcome}
 use Rattle.acn_asn_syntax.specs.declared.types.Named.{Named}
 use Rattle.acn_asn_syntax.specs.declared.types.Item.{Item}

@@ -8,7 +8,7 @@ use Rattle.std.proofs.lemmas.List.{append-nil}
 use Rattle.acn_lex.specs.declared.Kind.TheVariants.{Word, Mark}
 use Rattle.acn_lex.specs.Lexeme.{Lexeme, same_kind}
 use Rattle.acn_cursor.specs.Steps.{Parser, given, and_then, ◌>>=◌, ◌>>◌, pure, token, sees, eat, expect, many}
-use Rattle.acn_cursor.specs.Words.{is_identifier, is_reference, reserved}
+use Rattle.acn_lex.specs.Words.{is_identifier, is_reference, reserved}
 use Rattle.acn_cursor.proofs.Laws.{then_again, eat_again, eat_nothing, expect_again, word_again, many_again, sees_again, sees_kind, sees_text, outcome}
 use Rattle.acn_asn_syntax.specs.declared.types.Tag.{Tag}
 use Rattle.acn_asn_syntax.specs.declared.types.Rest.{Rest}

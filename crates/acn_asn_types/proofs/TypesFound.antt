@@ -8,7 +8,7 @@ use Rattle.acn_lex.specs.declared.Kind.TheVariants.{Word, Mark}
 use Rattle.acn_lex.specs.Lexeme.{Lexeme}
 use Rattle.acn_cursor.specs.Steps.{Parser, given, and_then, ◌>>=◌, ◌>>◌, pure, sees, eat, expect, many}
 use Rattle.acn_cursor.specs.Steps as steps
-use Rattle.acn_cursor.specs.Words.{is_identifier}
+use Rattle.acn_lex.specs.Words.{is_identifier}
 use Rattle.acn_cursor.proofs.Laws.{Takes, done, then_found, given_found, expect_found, word_found, repeat_found, outcome}
 use Rattle.acn_asn_syntax.specs.declared.types.Tag.{Tag}
 use Rattle.acn_asn_syntax.specs.declared.types.Rest.{Rest}

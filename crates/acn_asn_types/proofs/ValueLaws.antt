@@ -10,7 +10,7 @@ use Rattle.acn_lex.specs.declared.Kind.TheVariants.{Word, Number, Bits, Hex, Tex
 use Rattle.acn_lex.specs.Lexeme.{Lexeme, same_kind}
 use Rattle.acn_cursor.specs.Steps.{Parser, given, and_then, ◌>>=◌, ◌>>◌, pure, token, sees, behind, eat, expect, text_of, taken_if, number}
 use Rattle.acn_cursor.specs.Steps as steps
-use Rattle.acn_cursor.specs.Words.{is_identifier}
+use Rattle.acn_lex.specs.Words.{is_identifier}
 use Rattle.acn_cursor.proofs.Laws.{Takes, done, then_found, then_again, given_found, given_again, eat_again, eat_nothing, word_found, word_again, number_found, number_again, text_of_found, text_of_again, sees_kind, sees_text, outcome, outcome_is, ap2}
 use Rattle.acn_asn_syntax.specs.declared.values.AsnValue.{AsnValue}
 use Rattle.acn_asn_syntax.specs.declared.values.AsnValue.TheVariants as value

@@ -3,7 +3,7 @@ use Rattle.std.specs.Prelude.{ℕ, Bool, true, false, List, [], ◌∷◌, Optio
 use Rattle.acn_lex.specs.declared.Kind.TheVariants.{Word, Mark}
 use Rattle.acn_lex.specs.Lexeme.{Lexeme}
 use Rattle.acn_cursor.specs.Steps.{Parser, ◌>>=◌, ◌>>◌, pure, eat, expect, word, number}
-use Rattle.acn_cursor.specs.Words.{is_identifier, is_reference}
+use Rattle.acn_lex.specs.Words.{is_identifier, is_reference}
 use Rattle.acn_asn_syntax.specs.declared.types.TagClass.{TagClass}
 use Rattle.acn_asn_syntax.specs.declared.types.TagClass.TheVariants as class
 use Rattle.acn_asn_syntax.specs.declared.types.TagMode.{TagMode}

@@ -3,7 +3,7 @@ use Rattle.std.specs.Prelude.{ℕ, zero, suc, Bool, true, false, if◌then◌els
 use Rattle.acn_lex.specs.declared.Kind.TheVariants.{Word, Mark}
 use Rattle.acn_lex.specs.Lexeme.{Lexeme}
 use Rattle.acn_cursor.specs.Steps.{Parser, ◌>>=◌, ◌>>◌, pure, refuse, eat, expect, sees, word, many}
-use Rattle.acn_cursor.specs.Words.{is_identifier}
+use Rattle.acn_lex.specs.Words.{is_identifier}
 use Rattle.acn_asn_syntax.specs.declared.types.Tag.{Tag}
 use Rattle.acn_asn_syntax.specs.declared.types.Rest.{Rest}
 use Rattle.acn_asn_syntax.specs.declared.types.AsnBase.{AsnBase}

@@ -4,7 +4,7 @@ use Rattle.acn_lex.specs.declared.Kind.{Kind}
 use Rattle.acn_lex.specs.declared.Kind.TheVariants.{Word, Mark, Bits, Hex, Text}
 use Rattle.acn_lex.specs.Lexeme.{Lexeme}
 use Rattle.acn_cursor.specs.Steps.{Parser, ◌>>=◌, ◌>>◌, pure, refuse, eat, expect, sees, text_of, taken_if, word, number, many}
-use Rattle.acn_cursor.specs.Words.{is_identifier}
+use Rattle.acn_lex.specs.Words.{is_identifier}
 use Rattle.acn_asn_syntax.specs.declared.values.AsnValue.{AsnValue}
 use Rattle.acn_asn_syntax.specs.declared.values.AsnValue.TheVariants as value
 

@@ -1,6 +1,6 @@
 //! Tags, named numbers, items, and types without types in them.
 
-ghost use Rattle.acn_cursor.specs.Steps.{Reads};
+ghost use Rattle.acn_cursor.specs.Steps.{Reads, ReadsFreely};
 ghost use Rattle.std.specs.Prelude.{◌≡◌};
 ghost use Rattle.acn_asn_types.specs.Lists.{has_comma as comes_comma, listed, more_of, next};
 ghost use Rattle.acn_asn_types.specs.Bases as spec;
@@ -23,7 +23,7 @@ pub fn has_comma(cursor: &Cursor<'_>) -> bool
 
 #[tactic(auto, unfolding(crate::specs::Bases::class_at))]
 fn class_at(cursor: &mut Cursor<'_>) -> Result<Option<TagClass>, ParseFault>
-    ensures { Reads (spec.class_at cursor.old) result cursor.new }
+    ensures { ReadsFreely (spec.class_at cursor.old) result cursor.new }
 {
     if cursor.eat(Kind::Word, b"UNIVERSAL") {
         return Ok(Some(TagClass::Universal));
@@ -39,7 +39,7 @@ fn class_at(cursor: &mut Cursor<'_>) -> Result<Option<TagClass>, ParseFault>
 
 #[tactic(auto, unfolding(crate::specs::Bases::mode_at))]
 fn mode_at(cursor: &mut Cursor<'_>) -> Result<Option<TagMode>, ParseFault>
-    ensures { Reads (spec.mode_at cursor.old) result cursor.new }
+    ensures { ReadsFreely (spec.mode_at cursor.old) result cursor.new }
 {
     if cursor.eat(Kind::Word, b"IMPLICIT") {
         return Ok(Some(TagMode::Implicit));
@@ -52,7 +52,7 @@ fn mode_at(cursor: &mut Cursor<'_>) -> Result<Option<TagMode>, ParseFault>
 
 #[tactic(auto, unfolding(crate::specs::Bases::tag_in))]
 fn tag_in(cursor: &mut Cursor<'_>) -> Result<Tag, ParseFault>
-    ensures { Reads (spec.tag_in cursor.old) result cursor.new }
+    ensures { ReadsFreely (spec.tag_in cursor.old) result cursor.new }
 {
     let class = class_at(cursor)?;
     let number = cursor.number()?;
@@ -68,7 +68,7 @@ fn tag_in(cursor: &mut Cursor<'_>) -> Result<Tag, ParseFault>
 /// A tag, if one comes next.
 #[tactic(auto, unfolding(crate::specs::Bases::tag_at))]
 pub fn tag_at(cursor: &mut Cursor<'_>) -> Result<Option<Tag>, ParseFault>
-    ensures { Reads (spec.tag_at cursor.old) result cursor.new }
+    ensures { ReadsFreely (spec.tag_at cursor.old) result cursor.new }
 {
     if !cursor.eat(Kind::Mark, b"[") {
         return Ok(None);
@@ -78,7 +78,7 @@ pub fn tag_at(cursor: &mut Cursor<'_>) -> Result<Option<Tag>, ParseFault>
 
 #[tactic(auto, unfolding(crate::specs::Bases::grouped))]
 fn grouped(cursor: &mut Cursor<'_>) -> Result<(bool, u64), ParseFault>
-    ensures { Reads (spec.grouped cursor.old) result cursor.new }
+    ensures { ReadsFreely (spec.grouped cursor.old) result cursor.new }
 {
     let n = signed(cursor)?;
     cursor.expect(Kind::Mark, b")")?;
@@ -136,7 +136,7 @@ fn named_numbers(alloc: Global, cursor: &mut Cursor<'_>) -> Result<Row<Named>, P
 
 #[tactic(auto, unfolding(crate::specs::Bases::item_number))]
 fn item_number(cursor: &mut Cursor<'_>) -> Result<Option<(bool, u64)>, ParseFault>
-    ensures { Reads (spec.item_number cursor.old) result cursor.new }
+    ensures { ReadsFreely (spec.item_number cursor.old) result cursor.new }
 {
     if !cursor.eat(Kind::Mark, b"(") {
         return Ok(None);

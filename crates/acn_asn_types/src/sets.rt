@@ -1,7 +1,7 @@
 //! Sets. The depth is how many sets there may still be in one another.
 
 ghost use Rattle.std.specs.Prelude.{◌≡◌};
-ghost use Rattle.acn_cursor.specs.Steps.{Reads, many};
+ghost use Rattle.acn_cursor.specs.Steps.{Reads, many, ReadsFreely};
 ghost use Rattle.acn_asn_types.specs.Sets as spec;
 
 use crate::values::value;
@@ -65,7 +65,7 @@ fn plain(alloc: Global, cursor: &mut Cursor<'_>) -> Result<Element, ParseFault>
 /// The mark between two parts, and whether it is a word.
 #[tactic(auto, unfolding(crate::specs::Sets::mark_at))]
 fn mark_at(cursor: &mut Cursor<'_>, sign: &[u8], written: &[u8]) -> Result<bool, ParseFault>
-    ensures { Reads (spec.mark_at sign.now written.now cursor.old) result cursor.new }
+    ensures { ReadsFreely (spec.mark_at sign.now written.now cursor.old) result cursor.new }
 {
     if cursor.eat(Kind::Word, written) {
         return Ok(true);
@@ -82,7 +82,7 @@ fn has_mark(cursor: &Cursor<'_>, sign: &[u8], written: &[u8]) -> bool
 
 #[tactic(auto, unfolding(crate::specs::Sets::part_mark))]
 fn part_mark(cursor: &mut Cursor<'_>) -> Result<bool, ParseFault>
-    ensures { Reads (spec.part_mark cursor.old) result cursor.new }
+    ensures { ReadsFreely (spec.part_mark cursor.old) result cursor.new }
 {
     mark_at(cursor, b"^", b"INTERSECTION")
 }
@@ -96,7 +96,7 @@ fn has_part_mark(cursor: &Cursor<'_>) -> bool
 
 #[tactic(auto, unfolding(crate::specs::Sets::meet_mark))]
 fn meet_mark(cursor: &mut Cursor<'_>) -> Result<bool, ParseFault>
-    ensures { Reads (spec.meet_mark cursor.old) result cursor.new }
+    ensures { ReadsFreely (spec.meet_mark cursor.old) result cursor.new }
 {
     mark_at(cursor, b"|", b"UNION")
 }

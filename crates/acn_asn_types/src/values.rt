@@ -1,7 +1,7 @@
 //! Values.
 
-ghost use Rattle.std.specs.Prelude.{◌≡◌};
-ghost use Rattle.acn_cursor.specs.Steps.{Reads};
+ghost use Rattle.std.specs.Prelude.{◌≡◌, IfErr};
+ghost use Rattle.acn_cursor.specs.Steps.{Reads, ReadsFreely};
 ghost use Rattle.acn_asn_types.specs.Values as spec;
 
 use acn_asn_syntax::AsnValue;
@@ -13,7 +13,7 @@ use std::alloc::Global;
 /// A number, and whether a minus stands before it.
 #[tactic(auto, unfolding(crate::specs::Values::signed))]
 pub fn signed(cursor: &mut Cursor<'_>) -> Result<(bool, u64), ParseFault>
-    ensures { Reads (spec.signed cursor.old) result cursor.new }
+    ensures { ReadsFreely (spec.signed cursor.old) result cursor.new }
 {
     let negative = cursor.eat(Kind::Mark, b"-");
     let n = cursor.number()?;
@@ -22,7 +22,7 @@ pub fn signed(cursor: &mut Cursor<'_>) -> Result<(bool, u64), ParseFault>
 
 #[tactic(auto, unfolding(crate::specs::Values::signed_value))]
 fn signed_value(cursor: &mut Cursor<'_>) -> Result<AsnValue, ParseFault>
-    ensures { Reads (spec.signed_value cursor.old) result cursor.new }
+    ensures { ReadsFreely (spec.signed_value cursor.old) result cursor.new }
 {
     let (negative, n) = signed(cursor)?;
     Ok(AsnValue::Number(negative, n))
@@ -45,13 +45,15 @@ pub fn has(cursor: &Cursor<'_>, kind: Kind) -> bool
 /// The text of the next token, which has to be of this kind.
 #[tactic(auto, unfolding(crate::specs::Values::literal))]
 pub fn literal(alloc: Global, cursor: &mut Cursor<'_>, kind: Kind) -> Result<Name, ParseFault>
-    ensures { Reads (spec.literal kind cursor.old) result cursor.new }
+    ensures read { Reads (spec.literal kind cursor.old) result cursor.new }
+    ensures kept { IfErr result (λ _. cursor.new ≡ cursor.old) }
 {
     match cursor.text_of(kind) {
         None => Err(cursor.refuse()),
         Some(text) => {
+            let name = Name::copy(alloc, text)?;
             cursor.skip();
-            Ok(Name::copy(alloc, text)?)
+            Ok(name)
         }
     }
 }

@@ -1,14 +1,13 @@
--- A loop over tokens, beside `first_from`, and what it counts.
-use Rattle.std.proofs.Common.{◌≡◌, ℕ, ◌+◌, ◌<◌, ◌≤◌, Bool, true, false, cond, not, nat_lt, List, [], ◌∷◌, ◌++◌, length, get_or, take, drop, reverse, Option, Some, refl, sym, ap, subst, ◌∙◌, add-one, drop-cons, arith}
-use Rattle.std.proofs.lemmas.List.{reverse-append, map-append, length-map, length-take-le}
+-- A loop over tokens, beside `first_from`.
+use Rattle.std.proofs.Common.{◌≡◌, ℕ, ◌+◌, ◌<◌, Bool, true, false, ◌||◌, List, [], ◌∷◌, ◌++◌, length, map, get_or, take, drop, Option, Some, refl, sym, ap, subst, ◌∙◌, add-one, drop-cons, arith}
+use Rattle.std.proofs.lemmas.List.{map-append, length-map, length-take-le}
 use Rattle.std.proofs.Math.Seq.{take-suc}
-use Rattle.std.proofs.lemmas.List.Sums.{take_while-cons, sum_by-append}
-use Rattle.std.specs.List.{count_by, take_while}
-use Rattle.acn_lex.specs.declared.Kind.TheVariants.{Word}
+use Rattle.acn_lex.specs.declared.Kind.TheVariants.{Word, Mark}
 use Rattle.acn_lex.specs.declared.Token.{Token}
 use Rattle.acn_lex.specs.Lexeme.{Lexeme, lexeme, lexemes}
-use Rattle.acn_cursor.specs.Screens.{first_from, opens, closes, is_of, restarts, ofs_since, is_over, count_of}
-use Rattle.acn_cursor.specs.declared.screens.Level.{Level}
+use Rattle.std.proofs.lemmas.List.Folds.{list_any-append}
+use Rattle.acn_cursor.specs.Screens.{first_from, is_among, tokens_of, is_token}
+use Rattle.acn_cursor.specs.Steps.{token}
 
 -- what stands where no token is
 abbrev pub blank : Token
@@ -28,54 +27,8 @@ pub stops : (test : List Lexeme → Lexeme → Bool) (front : List Lexeme) (t : 
     → test front t ≡ true → first_from test front (t ∷ behind) ≡ whole → Some (length front) ≡ whole
 stops test front t behind whole passes e = sym (rw passes refl) ∙ e
 
-pub count_one : (p : Lexeme → Bool) (front : List Lexeme) (t : Lexeme) → count_by p (front ++ t ∷ []) ≡ count_by p front + count_of (p t)
-count_one p front t = sum_by-append (λ x. cond (p x) 1 0) front (t ∷ []) ∙ ap (λ n. count_by p front + n) (omega arith)
-
-pub ofs_one : (front : List Lexeme) (t : Lexeme) → ofs_since (front ++ t ∷ []) ≡ cond (restarts t) 0 (ofs_since front + count_of (is_of t))
-ofs_one front t = rw (reverse-append front (t ∷ []), take_while-cons (λ t. not (restarts t)) t (reverse front)) (by_restart (restarts t))
-  where
-    since : List Lexeme
-    since = take_while (λ t. not (restarts t)) (reverse front)
-
-    by_restart : (b : Bool) → count_by is_of (cond (not b) (t ∷ since) []) ≡ cond b 0 (count_by is_of since + count_of (is_of t))
-    by_restart true = refl
-    by_restart false = sum_by-append (λ x. cond (is_of x) 1 0) (t ∷ []) since ∙ omega arith
-
--- what the level behind these tokens counts, at most one a token
-pub record IsLevel (l : Level) (front : List Lexeme) (at : ℕ) : Type 0 where
-  pub opened : l.opened ≡ count_by opens front
-  pub closed : l.closed ≡ count_by closes front
-  pub ofs : l.ofs ≡ ofs_since front
-  pub few_opened : l.opened ≤ at
-  pub few_closed : l.closed ≤ at
-  pub few_ofs : l.ofs ≤ at
-
-over_by : (a b c d e f : ℕ) → a ≡ d → b ≡ e → c ≡ f → nat_lt (b + 64) (a + c) ≡ nat_lt (e + 64) (d + f)
-over_by a b c d e f p q r = cc (p, q, r)
-
-pub is_over_by : (l : Level) (front : List Lexeme) (at : ℕ) → IsLevel l front at → nat_lt (l.closed + 64) (l.opened + l.ofs) ≡ is_over front
-is_over_by l front at level = over_by l.opened l.closed l.ofs _ _ _ level.opened level.closed level.ofs
-
-count_fits : (b : Bool) (n m at : ℕ) → n ≡ m + count_of b → m ≤ at → n ≤ at + 1
-count_fits true n m at e le = omega arith
-count_fits false n m at e le = omega arith
-
-ofs_fits : (b : Bool) (c : Bool) (n m at : ℕ) → n ≡ cond b 0 (m + count_of c) → m ≤ at → n ≤ at + 1
-ofs_fits true c n m at e le = omega arith
-ofs_fits false c n m at e le = count_fits c n m at e le
-
--- the level behind one more token
-pub level_one : (l m : Level) (front : List Lexeme) (at : ℕ) (t : Lexeme) → IsLevel l front at
-    → m.opened ≡ l.opened + count_of (opens t) → m.closed ≡ l.closed + count_of (closes t) → m.ofs ≡ cond (restarts t) 0 (l.ofs + count_of (is_of t))
-    → IsLevel m (front ++ t ∷ []) (at + 1)
-level_one l m front at t level o c f = record {
-  opened = o ∙ ap (λ n. n + count_of (opens t)) level.opened ∙ sym (count_one opens front t);
-  closed = c ∙ ap (λ n. n + count_of (closes t)) level.closed ∙ sym (count_one closes front t);
-  ofs = f ∙ ap (λ n. cond (restarts t) 0 (n + count_of (is_of t))) level.ofs ∙ sym (ofs_one front t);
-  few_opened = count_fits (opens t) m.opened l.opened at o level.few_opened;
-  few_closed = count_fits (closes t) m.closed l.closed at c level.few_closed;
-  few_ofs = ofs_fits (restarts t) (is_of t) m.ofs l.ofs at f level.few_ofs;
-}
+pub among_both : (words marks : List (List ℕ)) (t : Lexeme) → is_among (tokens_of words marks) t ≡ (is_among (map (token Word) words) t || is_among (map (token Mark) marks) t)
+among_both words marks t = list_any-append (λ w. is_token w.kind w.text t) (map (token Word) words) (map (token Mark) marks)
 
 module _ (test : List Lexeme → Lexeme → Bool) (ts : List Token) where
   abbrev pub Rest : ℕ → Type 0

@@ -4,7 +4,14 @@ use Rattle.std.proofs.lemmas.List.{append-nil}
 use Rattle.acn_lex.specs.Lexeme.{Lexeme}
 use Rattle.acn_cursor.specs.declared.fault.ParseFault.{ParseFault}
 use Rattle.acn_cursor.specs.declared.fault.ParseFault.TheVariants.{Syntax, TooDeep, LeftOut, NoMemory}
-use Rattle.acn_cursor.specs.Steps.{Parser, and_then, pure, repeat, with_front, Fails}
+use Rattle.acn_cursor.specs.Steps.{Parser, and_then, pure, repeat, with_front, Fails, FailsFreely}
+
+-- a failure that is no want of memory
+pub freely : {A : Type 0} (f : ParseFault) (o : Option (A × List Lexeme)) → FailsFreely o f → Fails o f
+freely (Syntax _) o e = e
+freely (TooDeep _) o e = e
+freely (LeftOut _) o e = e
+freely NoMemory o e = tt
 
 module _ {A : Type 0} (goes : List Lexeme → Bool) (item : Parser A) where
   abbrev pub left_of : ℕ → ℕ → List Lexeme → Option (List A × List Lexeme)

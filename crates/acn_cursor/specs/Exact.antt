@@ -5,7 +5,7 @@ use Rattle.acn_cursor.specs.declared.fault.ParseFault.{ParseFault}
 use Rattle.acn_cursor.specs.declared.fault.ParseFault.TheVariants.{Syntax, TooDeep, LeftOut, NoMemory}
 use Rattle.acn_cursor.specs.Screens.{first_left_out, first_too_deep}
 
--- the fault that is found before the grammar is asked: a left-out word, and else a level over 64
+-- the fault that is found before the grammar is asked: a left-out word, and else a level over MOST_LEVEL
 abbrev pub screen_by : Option ℕ → Option ℕ → Option ParseFault
 screen_by (Some n) deep = Some (LeftOut n)
 screen_by None (Some n) = Some (TooDeep n)
@@ -23,7 +23,7 @@ Screened fault (Err e) = fault ≡ Some e
 abbrev pub IsLeftOut : {T : Type 0} → List Lexeme → List Lexeme → Result T ParseFault → Type 0
 IsLeftOut words ts r = (n : ℕ) → (r ≡ Err (LeftOut n)) ↔ (first_left_out words ts ≡ Some n)
 
--- TooDeep comes exactly where none stands and a level is over 64, with the number of the first such token
+-- TooDeep comes exactly where none stands and a level is over MOST_LEVEL, with the number of the first such token
 abbrev pub IsTooDeep : {T : Type 0} → List Lexeme → List Lexeme → Result T ParseFault → Type 0
 IsTooDeep words ts r = (n : ℕ) → (r ≡ Err (TooDeep n)) ↔ ((first_left_out words ts ≡ None) × (first_too_deep ts ≡ Some n))
 

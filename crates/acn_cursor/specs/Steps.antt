@@ -96,7 +96,7 @@ IsSyntax (TooDeep _) = ⊥
 IsSyntax (LeftOut _) = ⊥
 IsSyntax NoMemory = ⊥
 
--- what a function that parses ensures: the parser's outcome, unless memory fails
+-- What a function that parses ensures: the parser's outcome, unless memory fails. Of the tokens that are left after a failure it says nothing.
 abbrev pub Fails : {A : Type 0} → Option (A × List Lexeme) → ParseFault → Type 0
 Fails outcome (Syntax _) = outcome ≡ None
 Fails outcome (TooDeep _) = ⊥
@@ -106,6 +106,17 @@ Fails outcome NoMemory = Unit {0}
 abbrev pub Reads : {A : Type 0} → Option (A × List Lexeme) → Result A ParseFault → List Lexeme → Type 0
 Reads outcome (Ok a) new = outcome ≡ Some (a, new)
 Reads outcome (Err e) new = Fails outcome e
+
+-- What a function that parses and takes no memory ensures: the parser's outcome.
+abbrev pub FailsFreely : {A : Type 0} → Option (A × List Lexeme) → ParseFault → Type 0
+FailsFreely outcome (Syntax _) = outcome ≡ None
+FailsFreely outcome (TooDeep _) = ⊥
+FailsFreely outcome (LeftOut _) = ⊥
+FailsFreely outcome NoMemory = ⊥
+
+abbrev pub ReadsFreely : {A : Type 0} → Option (A × List Lexeme) → Result A ParseFault → List Lexeme → Type 0
+ReadsFreely outcome (Ok a) new = outcome ≡ Some (a, new)
+ReadsFreely outcome (Err e) new = FailsFreely outcome e
 
 -- the answer of a parser that has to take all tokens
 abbrev pub is_whole : {A : Type 0} → Option (A × List Lexeme) → Option A

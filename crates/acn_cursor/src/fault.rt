@@ -6,7 +6,7 @@ use std::alloc::{AllocError, AllocFailed};
 pub enum ParseFault {
     /// No tree has these tokens. Reading stopped at this token, or behind the last.
     Syntax { at: u32 },
-    /// This token is the first whose level is over 64.
+    /// This token is the first whose level is over `MOST_LEVEL`.
     TooDeep { at: u32 },
     /// This token is the first of the words that this profile leaves out.
     LeftOut { at: u32 },

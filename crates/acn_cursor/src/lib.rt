@@ -2,22 +2,27 @@
 #![tactic(auto)]
 
 mod fault;
+mod level;
 mod screens;
 mod words;
 
-ghost use Rattle.std.specs.Prelude.{◌≡◌, ◌^◌, ◌<◌, [], ◌∷◌, length, MatchOption, Some};
+ghost use Rattle.std.specs.Prelude.{◌≡◌, ◌^◌, ◌<◌, [], ◌∷◌, length, MatchOption, Some, IfErr};
 ghost use Rattle.std.specs.Option.{option_copied};
 ghost use Rattle.acn_lex.specs.Lexeme.{lexemes, lexeme};
 ghost use Rattle.acn_cursor.specs.Steps as spec;
-ghost use Rattle.acn_cursor.specs.Steps.{Reads, IsSyntax};
+ghost use Rattle.acn_cursor.specs.Steps.{ReadsFreely, IsSyntax};
 
 use acn_lex::{Kind, Token, number_of, same_kind};
 pub use fault::ParseFault;
-pub use screens::{Level, Written, left_out, screened, too_deep};
+pub use level::MOST_LEVEL;
+pub use screens::{left_out, screened, too_deep};
 use std::marker::Model;
-pub use words::{identifier, is_identifier, is_one_of, is_reference, is_reserved, reference};
+pub use words::{identifier, reference};
 
 /// The tokens that are left to read, and the number of the next one.
+///
+/// A step that takes one token or none leaves the cursor as it was where it fails. After an `Err` of a parser that is made
+/// of several steps nothing is said of the tokens that are left: the cursor is then to be let go.
 #[derive(Drop)]
 pub struct Cursor<'a> {
     tokens: &'a [Token<'a>],
@@ -84,7 +89,8 @@ impl<'a> Cursor<'a> {
     /// Takes the next token, which has to be of this kind and text.
     #[tactic(auto, unfolding(crate::specs::Steps::expect))]
     pub fn expect(&mut self, kind: Kind, text: &[u8]) -> Result<(), ParseFault>
-        ensures { Reads (spec.expect kind text.now self.old) result self.new }
+        ensures read { ReadsFreely (spec.expect kind text.now self.old) result self.new }
+        ensures kept { IfErr result (λ _. self.new ≡ self.old) }
     {
         if self.sees(kind, text) {
             self.take();
@@ -128,7 +134,8 @@ impl<'a> Cursor<'a> {
     /// Takes the next token, which has to be a number.
     #[tactic(auto, unfolding(crate::specs::Steps::number))]
     pub fn number(&mut self) -> Result<u64, ParseFault>
-        ensures { Reads (spec.number self.old) result self.new }
+        ensures read { ReadsFreely (spec.number self.old) result self.new }
+        ensures kept { IfErr result (λ _. self.new ≡ self.old) }
     {
         match self.text_of(Kind::Number) {
             None => Err(self.refuse()),

@@ -18,6 +18,7 @@ use Rattle.acn_lex.specs.Lexes.{IsForm, IsToken, IsGap, white, line, block, IsMa
 use Rattle.acn_lex.proofs.Shapes.{Found}
 use Rattle.acn_lex.proofs.Steps.{found, gap_again, wide_found_again, unclosed_again}
 use Rattle.acn_lex.proofs.Longest.{token_found, token_again, bad_found, bad_again}
+use Rattle.acn_lex.specs.declared.lexing.TheConstants.{MOST_TOKENS}
 
 gap_some : (piece rest : List ℕ) → IsGap piece rest → 0 < length piece
 gap_some _ rest (white e) = omega arith
@@ -205,10 +206,10 @@ faults_again n room at bytes fault.NoMemory f le = absurd f
 
 -- what the turns over all bytes give
 abbrev Turned : List ℕ → Result Tokens LexFault → Type 0
-Turned bytes r = Gives (lex_from (length bytes) 1000000 0 bytes) r
+Turned bytes r = Gives (lex_from (length bytes) MOST_TOKENS 0 bytes) r
 
-ran_whole : (bytes : List ℕ) → Ran 1000000 0 bytes (lex_from (length bytes) 1000000 0 bytes)
-ran_whole bytes = ran (length bytes) 1000000 0 bytes (omega arith)
+ran_whole : (bytes : List ℕ) → Ran MOST_TOKENS 0 bytes (lex_from (length bytes) MOST_TOKENS 0 bytes)
+ran_whole bytes = ran (length bytes) MOST_TOKENS 0 bytes (omega arith)
 
 failed : (o : Outcome) (e : LexFault) → FailsWith o e → (e ≡ fault.NoMemory → ⊥) → o ≡ Err e
 failed o (fault.BadByte p) h n = h
@@ -218,20 +219,20 @@ failed o (fault.TooManyTokens p) h n = h
 failed o fault.NoMemory h n = absurd (n refl)
 
 pub are_tokens : (bytes : List ℕ) (r : Result Tokens LexFault) → Turned bytes r → IfOk r (λ ts. Lexes 0 bytes (map placed ts.list))
-are_tokens bytes (Ok us) h = (subst (λ (o : Outcome). Ran 1000000 0 bytes o) h (ran_whole bytes)).0
+are_tokens bytes (Ok us) h = (subst (λ (o : Outcome). Ran MOST_TOKENS 0 bytes o) h (ran_whole bytes)).0
 are_tokens bytes (Err e) h = tt
 
 map_same_length : (ts : List Token) → length (map placed ts) ≡ length ts
 map_same_length [] = refl
 map_same_length (t ∷ ts) = ap suc (map_same_length ts)
 
-pub are_few : (bytes : List ℕ) (r : Result Tokens LexFault) → Turned bytes r → IfOk r (λ ts. length ts.list ≤ 1000000)
-are_few bytes (Ok us) h = omega (arith, (subst (λ (o : Outcome). Ran 1000000 0 bytes o) h (ran_whole bytes)).1, map_same_length us.list)
+pub are_few : (bytes : List ℕ) (r : Result Tokens LexFault) → Turned bytes r → IfOk r (λ ts. length ts.list ≤ MOST_TOKENS)
+are_few bytes (Ok us) h = omega (arith, (subst (λ (o : Outcome). Ran MOST_TOKENS 0 bytes o) h (ran_whole bytes)).1, map_same_length us.list)
 are_few bytes (Err e) h = tt
 
 pub is_fault : (bytes : List ℕ) (r : Result Tokens LexFault) → Turned bytes r → IfErr r (λ e. e ≢ fault.NoMemory → Faults bytes e)
 is_fault bytes (Ok us) h = tt
-is_fault bytes (Err e) h = λ n. subst (λ (o : Outcome). Ran 1000000 0 bytes o) (failed (lex_from (length bytes) 1000000 0 bytes) e h n) (ran_whole bytes)
+is_fault bytes (Err e) h = λ n. subst (λ (o : Outcome). Ran MOST_TOKENS 0 bytes o) (failed (lex_from (length bytes) MOST_TOKENS 0 bytes) e h n) (ran_whole bytes)
 
 told : (o : Outcome) (ts : List Placed) (e : LexFault) → o ≡ Ok ts → FailsWith o e → e ≡ fault.NoMemory
 told o ts (fault.BadByte p) k h = absurd cc
@@ -247,13 +248,13 @@ refused o f (fault.TooWide p) k h = inl cc
 refused o f (fault.TooManyTokens p) k h = inl cc
 refused o f fault.NoMemory k h = inr refl
 
-pub each_told : (bytes : List ℕ) (r : Result Tokens LexFault) → Turned bytes r → (ts : List Placed) → Lexes 0 bytes ts → length ts ≤ 1000000 → AnswersTokens ts r
-each_told bytes (Ok us) h ts l few = let k = lexes_again (length bytes) 1000000 0 bytes ts l (omega arith) few in cc
-each_told bytes (Err e) h ts l few = told (lex_from (length bytes) 1000000 0 bytes) ts e (lexes_again (length bytes) 1000000 0 bytes ts l (omega arith) few) h
+pub each_told : (bytes : List ℕ) (r : Result Tokens LexFault) → Turned bytes r → (ts : List Placed) → Lexes 0 bytes ts → length ts ≤ MOST_TOKENS → AnswersTokens ts r
+each_told bytes (Ok us) h ts l few = let k = lexes_again (length bytes) MOST_TOKENS 0 bytes ts l (omega arith) few in cc
+each_told bytes (Err e) h ts l few = told (lex_from (length bytes) MOST_TOKENS 0 bytes) ts e (lexes_again (length bytes) MOST_TOKENS 0 bytes ts l (omega arith) few) h
 
 pub first_told : (bytes : List ℕ) (r : Result Tokens LexFault) → Turned bytes r → (f : LexFault) → Faults bytes f → AnswersFault f r
-first_told bytes (Ok us) h f l = let k = faults_again (length bytes) 1000000 0 bytes f l (omega arith) in absurd cc
-first_told bytes (Err e) h f l = refused (lex_from (length bytes) 1000000 0 bytes) f e (faults_again (length bytes) 1000000 0 bytes f l (omega arith)) h
+first_told bytes (Ok us) h f l = let k = faults_again (length bytes) MOST_TOKENS 0 bytes f l (omega arith) in absurd cc
+first_told bytes (Err e) h f l = refused (lex_from (length bytes) MOST_TOKENS 0 bytes) f e (faults_again (length bytes) MOST_TOKENS 0 bytes f l (omega arith)) h
 
 one_list : (o : Outcome) (ts us : List Placed) → o ≡ Ok ts → o ≡ Ok us → ts ≡ us
 one_list o ts us h k = cc
@@ -268,11 +269,11 @@ one_fault o e f h k = cc
 
 pub faults_determined : FaultsAreDetermined
 faults_determined bytes e f l k =
-    one_fault (lex_from (length bytes) 1000000 0 bytes) e f (faults_again (length bytes) 1000000 0 bytes e l (omega arith)) (faults_again (length bytes) 1000000 0 bytes f k (omega arith))
+    one_fault (lex_from (length bytes) MOST_TOKENS 0 bytes) e f (faults_again (length bytes) MOST_TOKENS 0 bytes e l (omega arith)) (faults_again (length bytes) MOST_TOKENS 0 bytes f k (omega arith))
 
 none_both : (o : Outcome) (ts : List Placed) (e : LexFault) → o ≡ Ok ts → o ≡ Err e → ⊥
 none_both o ts e h k = absurd cc
 
 pub faults_without_tokens : FaultsHaveNoTokens
 faults_without_tokens bytes e ts l k few =
-    none_both (lex_from (length bytes) 1000000 0 bytes) ts e (lexes_again (length bytes) 1000000 0 bytes ts k (omega arith) few) (faults_again (length bytes) 1000000 0 bytes e l (omega arith))
+    none_both (lex_from (length bytes) MOST_TOKENS 0 bytes) ts e (lexes_again (length bytes) MOST_TOKENS 0 bytes ts k (omega arith) few) (faults_again (length bytes) MOST_TOKENS 0 bytes e l (omega arith))

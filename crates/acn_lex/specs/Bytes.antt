@@ -3,6 +3,22 @@ use Rattle.std.specs.Prelude.{ℕ, Bool, false, not, ◌&&◌, ◌||◌, ◌==�
 use Rattle.std.specs.List.{list_any}
 use Rattle.std.specs.Char.{is_ascii_digit, is_ascii_alphanumeric}
 
+-- bytes that have a name here
+abbrev pub quote : ℕ
+quote = 34
+
+abbrev pub apostrophe : ℕ
+apostrophe = 39
+
+abbrev pub asterisk : ℕ
+asterisk = 42
+
+abbrev pub hyphen : ℕ
+hyphen = 45
+
+abbrev pub slash : ℕ
+slash = 47
+
 -- tab, line feed, vertical tab, form feed, carriage return and space (X.680, 12.1)
 abbrev pub is_white : ℕ → Bool
 is_white b = b == 32 || nat_le 9 b && nat_le b 13

@@ -1,6 +1,7 @@
 -- What holds of numbers, tokens and faults, whoever reads the file.
 use Rattle.std.specs.Prelude.{◌≡◌, ℕ, ◌<◌, ◌≤◌, ◌^◌, List, length, Some, decimal}
 use Rattle.acn_lex.specs.declared.fault.LexFault.{LexFault}
+use Rattle.acn_lex.specs.declared.lexing.TheConstants.{MOST_TOKENS}
 use Rattle.acn_lex.specs.Lexeme.{Placed}
 use Rattle.acn_lex.specs.Number.{number_in}
 use Rattle.acn_lex.specs.Lexes.{Lexes, Faults}
@@ -23,4 +24,4 @@ FaultsAreDetermined = (bytes : List ℕ) (e f : LexFault) → Faults bytes e →
 
 -- bytes with a fault have no tokens, or more than there may be
 abbrev pub FaultsHaveNoTokens : Type 0
-FaultsHaveNoTokens = (bytes : List ℕ) (e : LexFault) (ts : List Placed) → Faults bytes e → Lexes 0 bytes ts → length ts ≤ 1000000 → ⊥
+FaultsHaveNoTokens = (bytes : List ℕ) (e : LexFault) (ts : List Placed) → Faults bytes e → Lexes 0 bytes ts → length ts ≤ MOST_TOKENS → ⊥

@@ -1,5 +1,4 @@
 -- The tokens of some bytes, by rules, and the faults of bytes that have none.
--- Bytes are written as numbers: 34 is a quotation mark, 39 an apostrophe, 42 an asterisk, 45 a hyphen, 47 a slash, 48 a zero, 66 a B and 72 an H.
 use Rattle.std.specs.Prelude.{◌≡◌, ℕ, zero, suc, ◌+◌, ◌-◌, ◌*◌, ◌<◌, ◌≤◌, ◌^◌, ◌==◌, Bool, true, false, ◌&&◌, List, [], ◌∷◌, ◌++◌, length, map, Result, Ok, Err, ◌⊎◌, codes}
 use Rattle.std.specs.Char.{is_ascii_digit, is_ascii_alphabetic}
 use Rattle.std.specs.List.{list_all}
@@ -8,8 +7,9 @@ use Rattle.acn_lex.specs.declared.Kind.TheVariants.{Word, Number, Bits, Hex, Tex
 use Rattle.acn_lex.specs.declared.Tokens.{Tokens}
 use Rattle.acn_lex.specs.declared.fault.LexFault.{LexFault}
 use Rattle.acn_lex.specs.declared.fault.LexFault.TheVariants.{BadByte, Unclosed, TooManyTokens, TooWide, NoMemory}
+use Rattle.acn_lex.specs.declared.lexing.TheConstants.{MOST_TOKENS}
 use Rattle.acn_lex.specs.Number.{is_unwritten}
-use Rattle.acn_lex.specs.Bytes.{is_white, is_line_end, starts_with, continues, is_hex_or_white, is_bit_or_white, is_text_byte, is_single}
+use Rattle.acn_lex.specs.Bytes.{is_white, is_line_end, starts_with, continues, is_hex_or_white, is_bit_or_white, is_text_byte, is_single, quote, apostrophe, asterisk, hyphen, slash}
 use Rattle.acn_lex.specs.Lexeme.{Placed, placed}
 
 -- letters, digits and single hyphens, each hyphen before a letter or digit (X.680, 12.2 and 12.3)
@@ -30,7 +30,7 @@ is_digits (b ∷ bs) = list_all is_ascii_digit (b ∷ bs)
 -- What stands between the quotation marks of a text: one of its own is written twice (X.680, 12.14).
 pub data IsTextBody : List ℕ → Type 0 where
   none : IsTextBody []
-  pair : {bs : List ℕ} → IsTextBody bs → IsTextBody (34 ∷ 34 ∷ bs)
+  pair : {bs : List ℕ} → IsTextBody bs → IsTextBody (quote ∷ quote ∷ bs)
   byte : {b : ℕ} {bs : List ℕ} → is_text_byte b ≡ true → IsTextBody bs → IsTextBody (b ∷ bs)
 
 -- the marks (X.680, 12.20 to 12.22 and 12.37; the doubled equals sign is ACN's, and the ampersand X.681's)
@@ -45,15 +45,15 @@ pub data IsMark : List ℕ → Type 0 where
 abbrev pub IsForm : Kind → List ℕ → Type 0
 IsForm Word text = is_word text ≡ true
 IsForm Number text = is_digits text ≡ true
-IsForm Bits text = (body : List ℕ) × (list_all is_bit_or_white body ≡ true) × (text ≡ 39 ∷ (body ++ 39 ∷ 66 ∷ []))
-IsForm Hex text = (body : List ℕ) × (list_all is_hex_or_white body ≡ true) × (text ≡ 39 ∷ (body ++ 39 ∷ 72 ∷ []))
-IsForm Text text = (body : List ℕ) × IsTextBody body × (text ≡ 34 ∷ (body ++ 34 ∷ []))
+IsForm Bits text = (body : List ℕ) × (list_all is_bit_or_white body ≡ true) × (text ≡ apostrophe ∷ (body ++ codes "'B"))
+IsForm Hex text = (body : List ℕ) × (list_all is_hex_or_white body ≡ true) × (text ≡ apostrophe ∷ (body ++ codes "'H"))
+IsForm Text text = (body : List ℕ) × IsTextBody body × (text ≡ quote ∷ (body ++ quote ∷ []))
 IsForm Mark text = IsMark text
 
 -- two hyphens stand in front
 abbrev pub starts_line_comment : List ℕ → Bool
 starts_line_comment [] = false
-starts_line_comment (b ∷ bs) = b == 45 && starts_with 45 bs
+starts_line_comment (b ∷ bs) = b == hyphen && starts_with hyphen bs
 
 -- the number that digits spell, behind those of n
 abbrev pub spelled : ℕ → List ℕ → ℕ
@@ -70,37 +70,37 @@ pub record IsToken (kind : Kind) (text rest : List ℕ) : Type 0 where
   pub written : kind ≡ Number → is_unwritten text ≡ false
   pub small : kind ≡ Number → spelled 0 text < 2 ^ 64
   -- a text ends at a quotation mark that no other follows
-  pub closed : kind ≡ Text → starts_with 34 rest ≡ false
+  pub closed : kind ≡ Text → starts_with quote rest ≡ false
 
 -- From behind two hyphens to the end of that comment: the next line end, the next two hyphens, or the end of the file (X.680, 12.6).
 pub data IsLine : List ℕ → List ℕ → Type 0 where
   at_line_end : {b : ℕ} {rest : List ℕ} → is_line_end b ≡ true → IsLine (b ∷ []) rest
-  at_hyphens : {rest : List ℕ} → IsLine (45 ∷ 45 ∷ []) rest
+  at_hyphens : {rest : List ℕ} → IsLine (codes "--") rest
   at_end : IsLine [] []
   line_goes_on : {b : ℕ} {bs rest : List ℕ} → is_line_end b ≡ false → starts_line_comment (b ∷ bs) ≡ false → IsLine bs rest → IsLine (b ∷ bs) rest
 
 -- a slash and an asterisk stand in front
 abbrev pub starts_block : List ℕ → Bool
 starts_block [] = false
-starts_block (b ∷ bs) = b == 47 && starts_with 42 bs
+starts_block (b ∷ bs) = b == slash && starts_with asterisk bs
 
 -- an asterisk and a slash stand in front
 abbrev pub ends_block : List ℕ → Bool
 ends_block [] = false
-ends_block (b ∷ bs) = b == 42 && starts_with 47 bs
+ends_block (b ∷ bs) = b == asterisk && starts_with slash bs
 
 -- From inside a comment between slashes to its end, where this many comments inside it are open: they nest (X.680, 12.6).
 pub data IsBlock : ℕ → List ℕ → Type 0 where
-  ends : IsBlock zero (42 ∷ 47 ∷ [])
-  closes : {depth : ℕ} {bs : List ℕ} → IsBlock depth bs → IsBlock (suc depth) (42 ∷ 47 ∷ bs)
-  opens : {depth : ℕ} {bs : List ℕ} → IsBlock (suc depth) bs → IsBlock depth (47 ∷ 42 ∷ bs)
+  ends : IsBlock zero (codes "*/")
+  closes : {depth : ℕ} {bs : List ℕ} → IsBlock depth bs → IsBlock (suc depth) (asterisk ∷ slash ∷ bs)
+  opens : {depth : ℕ} {bs : List ℕ} → IsBlock (suc depth) bs → IsBlock depth (slash ∷ asterisk ∷ bs)
   block_goes_on : {depth b : ℕ} {bs : List ℕ} → starts_block (b ∷ bs) ≡ false → ends_block (b ∷ bs) ≡ false → IsBlock depth bs → IsBlock depth (b ∷ bs)
 
 -- a byte of white space, or a whole comment, before the rest (X.680, 12.1 and 12.6)
 pub data IsGap : List ℕ → List ℕ → Type 0 where
   white : {b : ℕ} {rest : List ℕ} → is_white b ≡ true → IsGap (b ∷ []) rest
-  line : {bs rest : List ℕ} → IsLine bs rest → IsGap (45 ∷ 45 ∷ bs) rest
-  block : {bs rest : List ℕ} → IsBlock zero bs → IsGap (47 ∷ 42 ∷ bs) rest
+  line : {bs rest : List ℕ} → IsLine bs rest → IsGap (hyphen ∷ hyphen ∷ bs) rest
+  block : {bs rest : List ℕ} → IsBlock zero bs → IsGap (slash ∷ asterisk ∷ bs) rest
 
 -- From the first place the bytes are white space, comments and tokens in turn, up to the second place and the bytes that are left there.
 pub data Front : ℕ → List ℕ → List Placed → ℕ → List ℕ → Type 0 where
@@ -115,9 +115,9 @@ Lexes at bytes ts = (to : ℕ) × Front at bytes ts to []
 
 -- A comment between slashes or a literal begins here that has no end: of digits and white space, or of the body of a text, nothing else follows.
 pub data IsUnclosed : List ℕ → Type 0 where
-  comment : {rest : List ℕ} → ((front back : List ℕ) → front ++ back ≡ rest → IsBlock zero front → ⊥) → IsUnclosed (47 ∷ 42 ∷ rest)
-  digits : {body : List ℕ} → list_all is_hex_or_white body ≡ true → IsUnclosed (39 ∷ body)
-  text : {body : List ℕ} → IsTextBody body → IsUnclosed (34 ∷ body)
+  comment : {rest : List ℕ} → ((front back : List ℕ) → front ++ back ≡ rest → IsBlock zero front → ⊥) → IsUnclosed (slash ∷ asterisk ∷ rest)
+  digits : {body : List ℕ} → list_all is_hex_or_white body ≡ true → IsUnclosed (apostrophe ∷ body)
+  text : {body : List ℕ} → IsTextBody body → IsUnclosed (quote ∷ body)
 
 -- the first byte is a digit
 abbrev pub starts_digit : List ℕ → Bool
@@ -152,9 +152,9 @@ FaultsFrom most at bytes (TooWide p) = (ts : List Placed) × (left : List ℕ) �
 FaultsFrom most at bytes (TooManyTokens p) = (ts : List Placed) × (kind : Kind) × (text rest : List ℕ) × Front at bytes ts p (text ++ rest) × (length ts ≡ most) × IsToken kind text rest
 FaultsFrom most at bytes NoMemory = ⊥
 
--- The first fault of a file, which may have 1,000,000 tokens in this profile. Want of memory is no fault of the bytes.
+-- The first fault of a file, which may have MOST_TOKENS tokens in this profile. Want of memory is no fault of the bytes.
 abbrev pub Faults : List ℕ → LexFault → Type 0
-Faults bytes fault = FaultsFrom 1000000 0 bytes fault
+Faults bytes fault = FaultsFrom MOST_TOKENS 0 bytes fault
 
 -- the answer is these tokens, unless memory ran out
 abbrev pub AnswersTokens : List Placed → Result Tokens LexFault → Type 0

@@ -8,7 +8,7 @@ pub enum LexFault {
     BadByte { at: u32 },
     /// The comment or literal that begins here has no end.
     Unclosed { at: u32 },
-    /// A token begins here that 1,000,000 stand before.
+    /// A token begins here that `MOST_TOKENS` stand before.
     TooManyTokens { at: u32 },
     /// The number that begins here is 2^64 or more.
     TooWide { at: u32 },

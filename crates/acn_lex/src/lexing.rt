@@ -2,6 +2,8 @@ ghost use Rattle.std.specs.Prelude.{◌≡◌, ◌≢◌, ◌≤◌, List, lengt
 ghost use Rattle.acn_lex.specs.Lexing as turns;
 ghost use Rattle.acn_lex.specs.Lexes as spec;
 ghost use Rattle.acn_lex.specs.Lexeme.{Placed, placed};
+ghost use Rattle.acn_lex.specs.declared.lexing.TheConstants.{MOST_TOKENS};
+ghost use Rattle.acn_num.specs.declared.limits.TheConstants.{MOST_FILE_BYTES};
 ghost use Rattle.acn_lex.specs.declared.fault.LexFault.TheVariants as fault;
 ghost use Rattle.acn_lex.specs.declared.fault.LexFault.{LexFault};
 
@@ -11,14 +13,14 @@ use crate::{Token, Tokens};
 use acn_num::Row;
 use std::alloc::Global;
 
-/// The most tokens of one file.
-const MOST_TOKENS: usize = 1_000_000;
+/// The greatest number of tokens of one file, this profile's own.
+pub const MOST_TOKENS: usize = 1_000_000;
 
 /// The tokens of a file of ASN.1, ACN or a map, in order: the lexical items of X.680, clause 12, of which this profile
 /// takes words, numbers, bits, hexadecimal digits, texts and marks. Each token has its place, the number of bytes before
 /// it, and the slice of its text. White space and comments stand between them.
 ///
-/// The bytes are at most 16,777,216, which the caller sees to.
+/// The bytes are at most `MOST_FILE_BYTES`, which the caller sees to.
 ///
 /// # Errors
 ///
@@ -28,13 +30,13 @@ const MOST_TOKENS: usize = 1_000_000;
 ///   below 32 or above 126 (this profile's own).
 /// - `Unclosed` where a comment between slashes (X.680, 12.6) or a literal begins that has no end.
 /// - `TooWide` where a number of 2^64 or more begins (this profile's own).
-/// - `TooManyTokens` where a token begins that 1,000,000 stand before (this profile's own).
+/// - `TooManyTokens` where a token begins that `MOST_TOKENS` stand before (this profile's own).
 /// - `NoMemory` where memory ran out.
 pub fn lex<'a>(alloc: Global, bytes: &'a [u8]) -> Result<Tokens<'a>, LexFault>
-    requires { length bytes.now ≤ 16777216 }
+    requires { length bytes.now ≤ MOST_FILE_BYTES }
     ensures tokens { IfOk result (λ ts. spec.Lexes 0 bytes.now (map placed ts.list)) }
-    ensures few { IfOk result (λ ts. length ts.list ≤ 1000000) }
-    ensures each { (ts : List Placed) → spec.Lexes 0 bytes.now ts → length ts ≤ 1000000 → spec.AnswersTokens ts result }
+    ensures few { IfOk result (λ ts. length ts.list ≤ MOST_TOKENS) }
+    ensures each { (ts : List Placed) → spec.Lexes 0 bytes.now ts → length ts ≤ MOST_TOKENS → spec.AnswersTokens ts result }
     ensures fault { IfErr result (λ e. e ≢ fault.NoMemory → spec.Faults bytes.now e) }
     ensures first { (e : LexFault) → spec.Faults bytes.now e → spec.AnswersFault e result }
 {
@@ -42,8 +44,8 @@ pub fn lex<'a>(alloc: Global, bytes: &'a [u8]) -> Result<Tokens<'a>, LexFault>
 }
 
 fn by_turns<'a>(alloc: Global, bytes: &'a [u8]) -> Result<Tokens<'a>, LexFault>
-    requires { length bytes.now ≤ 16777216 }
-    ensures { turns.Gives (turns.lex_from (length bytes.now) 1000000 0 bytes.now) result }
+    requires { length bytes.now ≤ MOST_FILE_BYTES }
+    ensures { turns.Gives (turns.lex_from (length bytes.now) MOST_TOKENS 0 bytes.now) result }
 {
     let mut list = Row::new(alloc);
     let mut at = 0u32;

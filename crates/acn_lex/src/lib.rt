@@ -8,11 +8,16 @@ mod lexing;
 mod literal;
 mod number;
 mod scan;
+mod words;
 
 pub use fault::LexFault;
 pub use laws::{numbers_are_decimal, one_answer_holds};
-pub use lexing::lex;
+pub use lexing::{MOST_TOKENS, lex};
 pub use number::number_of;
+pub use words::{
+    ACN_LEFT_OUT, ASN_LEFT_OUT, ASN_LEFT_OUT_MARKS, ASN_WORDS, is_identifier, is_one_of,
+    is_reference, is_reserved,
+};
 
 /// What a token is.
 #[derive(Clone, Copy, Debug, PartialEq, Eq)]

@@ -1,7 +1,8 @@
 use Rattle.std.proofs.Common.{take}
 use Rattle.acn_lex.specs.Lexeme.{lexemes}
 use Rattle.acn_cursor.specs.Screens.{is_over}
-use Rattle.acn_cursor.proofs.Firsts.{IsLevel, Rest}
+use Rattle.acn_cursor.proofs.Firsts.{Rest}
+use Rattle.acn_cursor.proofs.Levels.{IsLevel}
 use Rattle.acn_cursor.proofs.screens.too_deep.Given as goal
 
 abbrev pub invariant-loop-at : goal.invariant-loop-at

@@ -3,6 +3,7 @@ use Rattle.std.proofs.lemmas.List.{map_push}
 use Rattle.acn_lex.specs.Lexeme.{Placed, placed}
 use Rattle.acn_lex.proofs.LexTurns.{turn, ended, taken}
 use Rattle.acn_lex.proofs.lexing.by_turns.Goals as goal
+use Rattle.acn_lex.specs.declared.lexing.TheConstants.{MOST_TOKENS}
 
 pub returns-in-End : goal.returns-in-End
 returns-in-End c = ended _ _ (turn _ _ _ _ _ _ _ _ c.loop-test.true (sym c.in-End.ensures.value) c.loop.invariant.told)
@@ -29,10 +30,10 @@ loop-preserved c =
     let list = c.in_ok-push-in-Token.ensures.ok in
     let pushed : map placed c.push.new.self ≡ map placed c.loop.list ++ t ∷ [] = rw list (map_push placed c.loop.list _) in
     let same : length c.items.result.now ≡ length c.loop.list = ap length c.items.ensures in
-    let few : length c.loop.list < 1000000 = omega (arith, same, c.if-items-eq-MOST_TOKENS.false, c.loop.invariant.few) in
+    let few : length c.loop.list < MOST_TOKENS = omega (arith, same, c.if-items-eq-MOST_TOKENS.false, c.loop.invariant.few) in
     let longer : length c.push.new.self ≡ length c.loop.list + 1 = ap length list ∙ length-append c.loop.list _ in
     record {
       within = omega (arith, c.in-Token.ensures.within, c.split_at-in-Token.ensures.back_len);
       few = omega (arith, few, longer);
-      told = rw (pushed, longer, c.split_at-in-Token.ensures.back, c.split_at-in-Token.ensures.front) (taken _ 1000000 (length c.loop.list) _ _ _ _ few (turn _ _ _ _ _ _ _ _ c.loop-test.true (sym c.in-Token.ensures.value) c.loop.invariant.told));
+      told = rw (pushed, longer, c.split_at-in-Token.ensures.back, c.split_at-in-Token.ensures.front) (taken _ MOST_TOKENS (length c.loop.list) _ _ _ _ few (turn _ _ _ _ _ _ _ _ c.loop-test.true (sym c.in-Token.ensures.value) c.loop.invariant.told));
     }

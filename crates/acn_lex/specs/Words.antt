@@ -1,4 +1,4 @@
--- Words that stand for themselves, identifiers and references.
+-- Words that stand for themselves, identifiers and references (X.680, 12.2, 12.3, 12.5 and 12.38).
 use Rattle.std.specs.Prelude.{ℕ, Bool, false, not, ◌&&◌, nat_le, List, [], ◌∷◌, ◌++◌, map, codes}
 use Rattle.std.specs.Borrow.{Bor}
 use Rattle.std.specs.List.{list_any}
@@ -19,6 +19,10 @@ asn_left_out_words = codes "REAL" ∷ codes "SET" ∷ codes "ANY" ∷ codes "EXT
     ∷ codes "UTF8String" ∷ codes "NumericString" ∷ codes "PrintableString" ∷ codes "VisibleString" ∷ codes "ISO646String" ∷ codes "GeneralString"
     ∷ codes "GraphicString" ∷ codes "TeletexString" ∷ codes "T61String" ∷ codes "VideotexString" ∷ codes "BMPString" ∷ codes "UniversalString"
     ∷ codes "UTCTime" ∷ codes "GeneralizedTime" ∷ codes "ObjectDescriptor" ∷ codes "PLUS-INFINITY" ∷ codes "MINUS-INFINITY" ∷ codes "NOT-A-NUMBER" ∷ []
+
+-- the marks of ASN.1 that this profile leaves out
+abbrev pub asn_left_out_marks : List (List ℕ)
+asn_left_out_marks = codes "..." ∷ codes "@" ∷ codes "!" ∷ codes "&" ∷ []
 
 -- the words of ACN that this profile leaves out
 abbrev pub acn_left_out_words : List (List ℕ)

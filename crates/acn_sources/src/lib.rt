@@ -1,0 +1,10 @@
+//! The sources of files: from the bytes of ASN.1, ACN and mapping files to their trees, or the first refusal.
+#![tactic(auto)]
+
+mod fault;
+mod kind;
+mod reading;
+
+pub use fault::{FileFault, SourcesFault};
+pub use kind::FileKind;
+pub use reading::{read_acn, read_asn, read_map};
