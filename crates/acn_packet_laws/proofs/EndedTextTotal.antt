@@ -18,7 +18,9 @@ use Rattle.acn_grammar.specs.declared.node.TextLeaf.{TextLeaf}
 use Rattle.acn_grammar.proofs.Codings.{both_are, not_is, equal_numbers}
 use Rattle.acn_packet_laws.proofs.Envs.{FrontOf, Stuck, says, in_or_not, size_total}
 use Rattle.acn_packet_laws.proofs.LeafTotal.{less_or_not, octets_whole}
-use Rattle.acn_packet_laws.proofs.NodeTotal.{TextTotal}
+use Rattle.acn_packet_laws.proofs.NodeParts.{TextTotal}
+use Rattle.acn_packet_laws.proofs.Placed.{same_name-is}
+use Rattle.acn_packet_laws.proofs.PrefixNodes.{same_name-refl}
 use Rattle.acn_packet_laws.proofs.TextLaws.{characters_octets, whole_octets}
 use Rattle.acn_packet_laws.proofs.TextTotal.{chars_total, one_char, Result, sized_total}
 use Rattle.acn_grammar.proofs.Characters.{same_name-is, same_name-refl}

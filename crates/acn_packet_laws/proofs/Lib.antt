@@ -40,6 +40,7 @@ pub mod Lengths
 pub mod Moves
 pub mod NodeExclusion
 pub mod NodeLaws
+mod NodeParts
 pub mod NodeTotal
 pub mod NumberTotal
 pub mod Occurrences

@@ -171,7 +171,7 @@ FrontsExcludeFailures = (root : Grammar) (input : List Bool) (d : Data) (n : ℕ
 abbrev pub OneFailure : Type 0
 OneFailure = (root : Grammar) (input : List Bool) (f g : Fault) (m n : ℕ) → IsAccepted root → Refusal root input f m → Refusal root input g n → (f ≡ g) × (m ≡ n)
 
--- a failure other than the want of bits rests on bits that are there
+-- A failure other than the want of bits rests on bits that are there. Bits that are wanting in a list that a pattern ends are named with as many as the pattern has, which need not be there.
 abbrev pub ReachesLieInside : Type 0
 ReachesLieInside = (root : Grammar) (input : List Bool) (fault : Fault) (reach : ℕ) → IsAccepted root → Refusal root input fault reach → fault.reason ≢ short → reach ≤ length input
 
