@@ -1,7 +1,7 @@
 //! Whether the fields of a SEQUENCE, or the alternatives of a CHOICE, have different names (X.680 clauses 25 and 29).
 //!
-//! Few names are compared each with each. More are sorted, which takes no memory but a fixed part of the stack, since
-//! a tree has no more of them than nodes. A longer list is compared as few are: only a tree that is refused has one.
+//! Few names are compared each with each. More are listed on the stack and sorted there, which takes no memory. So many that
+//! their list would be long are compared each with each again, in a time that grows as their square.
 ghost use Rattle.std.specs.Prelude.{◌≡◌, ◌≤◌, length, map};
 ghost use Rattle.std.specs.List.{list_any};
 ghost use Rattle.acn_grammar.specs.Asks.{same_name};
@@ -9,18 +9,18 @@ ghost use Rattle.acn_grammar.specs.Leaves.{all_differ};
 ghost use Rattle.acn_grammar.specs.Tree as tree;
 ghost use Rattle.acn_grammar.specs.View.{field_of, fields_view, alternatives_view};
 ghost use Rattle.acn_grammar.specs.Walk.{conditions_of};
-ghost use Rattle.acn_grammar.specs.declared.limits.TheConstants.{MOST_NODES};
+ghost use Rattle.acn_well_formed.specs.declared.names.TheConstants.{MOST_NAMES};
 ghost use Rattle.acn_well_formed.specs.Kept as kept;
 
-use acn_grammar::{Alternative, Field, MOST_NODES};
+use acn_grammar::{Alternative, Field};
 use acn_leaf::{names_differ, same_text};
 use arrayvec::ArrayVec;
 
 /// So many names are compared each with each.
 const FEW_NAMES: usize = 64;
 
-/// So many names are sorted at most.
-const MOST_NAMES: usize = MOST_NODES as usize;
+/// So many names are sorted at most: their list takes 16 KiB of the stack.
+const MOST_NAMES: usize = 1024;
 
 fn field_name(field: &Field) -> &[u8]
     ensures { result.now ≡ kept.name_in (field_of field.now) }
@@ -58,7 +58,7 @@ fn each_field_differs(fields: &[Field]) -> bool
 // Whether no two fields have one name, by their order.
 #[inline(never)]
 fn sorted_fields_differ(fields: &[Field]) -> bool
-    requires { length fields.now ≤ MOST_NODES }
+    requires { length fields.now ≤ MOST_NAMES }
     ensures { result ≡ all_differ same_name (tree.field_names (fields_view fields.now)) }
 {
     let mut names: ArrayVec<&[u8], MOST_NAMES> = ArrayVec::new();
@@ -106,7 +106,7 @@ fn each_alternative_differs(alternatives: &[Alternative]) -> bool
 // Whether no two alternatives have one name, by their order.
 #[inline(never)]
 fn sorted_alternatives_differ(alternatives: &[Alternative]) -> bool
-    requires { length alternatives.now ≤ MOST_NODES }
+    requires { length alternatives.now ≤ MOST_NAMES }
     ensures { result ≡ all_differ same_name (map (λ c. c.0) (conditions_of (alternatives_view alternatives.now))) }
 {
     let mut names: ArrayVec<&[u8], MOST_NAMES> = ArrayVec::new();
