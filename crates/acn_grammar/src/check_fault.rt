@@ -4,7 +4,7 @@ use std::alloc::{AllocError, AllocFailed};
 /// What keeps a grammar from being decoded, in the order in which faults are answered, want of memory apart. A path has child
 /// numbers from the root, in a list 0. `det` is the field of a slot, `user` the node that uses it. The rules are this
 /// profile's own, and so are the limits (`acn_grammar/src/limits.rt`).
-#[derive(Debug, Drop)]
+#[derive(Drop)]
 pub enum CheckFault {
     /// The determinant stands behind its use.
     Forward {

@@ -1,16 +1,16 @@
 -- What is sorted differs where no two neighbours are the same.
-use Rattle.std.proofs.Common.{◌≡◌, ◌⊎◌, ℕ, ◌+◌, ◌≤◌, Bool, true, false, not, ◌&&◌, ◌||◌, List, [], ◌∷◌, map, nat_eq, cond, refl, sym, ap, subst, ◌∙◌, arith, inl, inr, Ordering, Less}
+use Rattle.std.proofs.Common.{zero, suc, ◌++◌, ◌≡◌, ◌⊎◌, ℕ, ◌+◌, ◌≤◌, Bool, true, false, not, ◌&&◌, ◌||◌, List, [], ◌∷◌, map, nat_eq, cond, refl, sym, ap, subst, ◌∙◌, arith, inl, inr, Ordering, Less}
 use Rattle.std.specs.List.{list_any, sum_by, dedup, dedup_from, AllByRecursion}
 use Rattle.std.specs.List.Sorted.{IsSorted, IsStrictlySortedBy, IsPermutation}
 use Rattle.std.specs.Cmp.{IsTotalOrder, both_ways}
 use Rattle.std.specs.Cmp.Lexicographic.{slice_cmp}
 use Rattle.std.specs.Ordering.{nat_cmp, is_eq}
-use Rattle.std.proofs.lemmas.Bool.{and_parts, and_from, or_parts, or_from, not-true, not_from_false, cases_Bool}
+use Rattle.std.proofs.lemmas.Bool.{false_from_ne_true, true≢false, and_parts, and_from, or_parts, or_from, not-true, not_from_false, cases_Bool}
 use Rattle.std.proofs.lemmas.Bool.Decides.{nat_tests}
 use Rattle.std.proofs.lemmas.Cmp.{on_total, nat_list_cmp_total, same_from_slice_cmp, eq_by_cmp_equiv}
 use Rattle.std.proofs.lemmas.List.Kept.{IsStrictlySortedBy-dedup}
 use Rattle.std.proofs.lemmas.List.Sorted.{IsPermutation-map, sum_by-IsPermutation}
-use Rattle.std.proofs.lemmas.List.Sums.{sum_by-cons}
+use Rattle.std.proofs.lemmas.List.Sums.{sum_by-cons, sum_by-append}
 use Rattle.acn_grammar.specs.Asks.{same_name}
 use Rattle.acn_grammar.specs.Leaves.{all_differ}
 use Rattle.acn_leaf.specs.Neighbours.{is_next, neighbours_differ}
@@ -50,10 +50,10 @@ module _ {K : Type 0} (R : K → K → Ordering) (same : K → K → Bool) (tell
 
   -- How often something stands in a list, which no order of the list changes.
 
-  abbrev one_if : K → K → ℕ
+  abbrev pub one_if : K → K → ℕ
   one_if x y = cond (same x y) 1 0
 
-  abbrev times : K → List K → ℕ
+  abbrev pub times : K → List K → ℕ
   times x ys = sum_by (one_if x) ys
 
   times_same : (x y : K) (ys : List K) → same x y ≡ true → times x (y ∷ ys) ≡ 1 + times x ys
@@ -101,6 +101,45 @@ module _ {K : Type 0} (R : K → K → Ordering) (same : K → K → Bool) (tell
   in_any_order ns ms p = both_ways (all_differ same ms) (all_differ same ns)
       (λ h. differ_by ns (λ x. subst (λ k. k ≤ 1) (sum_by-IsPermutation (one_if x) ns ms p) (once ms h x)))
       (λ h. differ_by ms (λ x. subst (λ k. k ≤ 1) (sym (sum_by-IsPermutation (one_if x) ns ms p)) (once ns h x)))
+
+  -- Parts of a list.
+
+  pub part_differs : (ns ms : List K) → ((x : K) → times x ns ≤ times x ms) → all_differ same ms ≡ true → all_differ same ns ≡ true
+  part_differs ns ms few h = differ_by ns (λ x. (let a = few x in let b = once ms h x in omega (arith, a, b)))
+
+  -- what stands in the front stands nowhere behind
+  abbrev pub Alone : (front behind : List K) → Type 0
+  Alone front behind = (x : K) → (times x front ≡ 0) ⊎ (times x behind ≡ 0)
+
+  pub alone_by : (front block : List K) → all_differ same (front ++ block) ≡ true → Alone front block
+  alone_by front block h x = by (times x front) (times x block) (sum_by-append (one_if x) front block) (once (front ++ block) h x)
+    where
+      by : (a b : ℕ) → times x (front ++ block) ≡ a + b → times x (front ++ block) ≤ 1 → (a ≡ 0) ⊎ (b ≡ 0)
+      by zero b e l = inl refl
+      by (suc a) b e l = inr (omega (arith, e, l))
+
+  pub alone_more : (front done block : List K) → Alone front done → all_differ same (front ++ block) ≡ true → Alone front (done ++ block)
+  alone_more front done block a h x = by (a x) (alone_by front block h x)
+    where
+      by : (times x front ≡ 0) ⊎ (times x done ≡ 0) → (times x front ≡ 0) ⊎ (times x block ≡ 0) → (times x front ≡ 0) ⊎ (times x (done ++ block) ≡ 0)
+      by (inl e) q = inl e
+      by (inr e) (inl f) = inl f
+      by (inr e) (inr f) = inr (let c = sum_by-append (one_if x) done block in omega (arith, c, e, f))
+
+  pub front_alone : (front behind : List K) → all_differ same front ≡ true → Alone front behind → all_differ same (front ++ behind) ≡ all_differ same behind
+  front_alone front behind f a = both_ways (all_differ same (front ++ behind)) (all_differ same behind)
+      (λ h. part_differs behind (front ++ behind) (λ x. (let c = sum_by-append (one_if x) front behind in omega (arith, c))) h)
+      (λ h. differ_by (front ++ behind) (λ x. by x (a x) (sum_by-append (one_if x) front behind) (once front f x) (once behind h x)))
+    where
+      by : (x : K) → (times x front ≡ 0) ⊎ (times x behind ≡ 0) → times x (front ++ behind) ≡ times x front + times x behind → times x front ≤ 1 → times x behind ≤ 1 → times x (front ++ behind) ≤ 1
+      by x (inl e) c p q = omega (arith, c, e, p, q)
+      by x (inr e) c p q = omega (arith, c, e, p, q)
+
+  pub block_fails : (front done block more : List K) → all_differ same (front ++ block) ≡ false → all_differ same (front ++ (done ++ (block ++ more))) ≡ false
+  block_fails front done block more h = false_from_ne_true _ (λ t.
+      let all = part_differs (front ++ block) (front ++ (done ++ (block ++ more)))
+                  (λ x. (let a = sum_by-append (one_if x) front block in let b = sum_by-append (one_if x) front (done ++ (block ++ more)) in let c = sum_by-append (one_if x) done (block ++ more) in let d = sum_by-append (one_if x) block more in omega (arith, a, b, c, d))) t in
+      true≢false (sym all ∙ h))
 
   -- Neighbours.
 

@@ -1,4 +1,5 @@
 pub mod AlternativeRows
+mod Blocks
 pub mod KeptRuns
 pub mod Listed
 pub mod RangeSteps

@@ -1,26 +1,25 @@
 //! Whether the fields of a SEQUENCE, or the alternatives of a CHOICE, have different names (X.680 clauses 25 and 29).
 //!
-//! Few names are compared each with each. More are sorted, which takes no memory but a fixed part of the stack, since
-//! a tree has no more of them than nodes. A longer list is compared as few are: only a tree that is refused has one.
-ghost use Rattle.std.specs.Prelude.{◌≡◌, ◌≤◌, length, map};
-ghost use Rattle.std.specs.List.{list_any};
+//! The names of two blocks at a time are listed on the stack and sorted there, which takes no memory: the same ones are
+//! neighbours then. Each pair of blocks is looked at.
+ghost use Rattle.std.specs.Prelude.{◌≡◌, ◌≤◌, ◌++◌, ◌&&◌, length, map};
 ghost use Rattle.acn_grammar.specs.Asks.{same_name};
 ghost use Rattle.acn_grammar.specs.Leaves.{all_differ};
 ghost use Rattle.acn_grammar.specs.Tree as tree;
 ghost use Rattle.acn_grammar.specs.View.{field_of, fields_view, alternatives_view};
 ghost use Rattle.acn_grammar.specs.Walk.{conditions_of};
-ghost use Rattle.acn_grammar.specs.declared.limits.TheConstants.{MOST_NODES};
+ghost use Rattle.acn_well_formed.specs.declared.names.TheConstants.{BLOCK};
 ghost use Rattle.acn_well_formed.specs.Kept as kept;
 
-use acn_grammar::{Alternative, Field, MOST_NODES};
-use acn_leaf::{names_differ, same_text};
+use acn_grammar::{Alternative, Field};
+use acn_leaf::names_differ;
 use arrayvec::ArrayVec;
 
-/// So many names are compared each with each.
-const FEW_NAMES: usize = 64;
+/// So many fields or alternatives make a block.
+const BLOCK: usize = 1024;
 
-/// So many names are sorted at most.
-const MOST_NAMES: usize = MOST_NODES as usize;
+/// The names of two blocks are sorted at once: their list takes 32 KiB of the stack.
+const TWO_BLOCKS: usize = 2048;
 
 fn field_name(field: &Field) -> &[u8]
     ensures { result.now ≡ kept.name_in (field_of field.now) }
@@ -31,98 +30,104 @@ fn field_name(field: &Field) -> &[u8]
     }
 }
 
-// Whether one of the fields has the name.
-fn names_field(name: &[u8], fields: &[Field]) -> bool
-    ensures { result ≡ list_any (same_name name.now) (tree.field_names (fields_view fields.now)) }
-{
-    for field in fields {
-        if same_text(name, field_name(field)) {
-            return true;
-        }
-    }
-    false
-}
-
-// Whether no two fields have one name, each being compared with each behind it.
-fn each_field_differs(fields: &[Field]) -> bool
-    ensures { result ≡ all_differ same_name (tree.field_names (fields_view fields.now)) }
-{
-    for at in 0..fields.len() {
-        if names_field(field_name(&fields[at]), &fields[at + 1..]) {
-            return false;
-        }
-    }
-    true
-}
-
-// Whether no two fields have one name, by their order.
+// Whether no two fields of both lists together have one name, by their order.
 #[inline(never)]
-fn sorted_fields_differ(fields: &[Field]) -> bool
-    requires { length fields.now ≤ MOST_NODES }
-    ensures { result ≡ all_differ same_name (tree.field_names (fields_view fields.now)) }
+fn both_fields_differ<'a>(front: &'a [Field], behind: &'a [Field]) -> bool
+    requires front { length front.now ≤ BLOCK }
+    requires behind { length behind.now ≤ BLOCK }
+    ensures { result ≡ all_differ same_name (tree.field_names (fields_view front.now) ++ tree.field_names (fields_view behind.now)) }
 {
-    let mut names: ArrayVec<&[u8], MOST_NAMES> = ArrayVec::new();
-    for field in fields {
+    let mut names: ArrayVec<&[u8], TWO_BLOCKS> = ArrayVec::new();
+    for field in front {
+        names.push(field_name(field));
+    }
+    for field in behind {
         names.push(field_name(field));
     }
     names_differ(names.as_mut_slice())
+}
+
+// Whether the names of a block of fields differ from each other and from those behind it.
+fn field_block_differs(block: &[Field], behind: &[Field]) -> bool
+    requires { length block.now ≤ BLOCK }
+    ensures { all_differ same_name (tree.field_names (fields_view block.now) ++ tree.field_names (fields_view behind.now)) ≡ (result && all_differ same_name (tree.field_names (fields_view behind.now))) }
+{
+    if !both_fields_differ(block, &[]) {
+        return false;
+    }
+    let mut rest = behind;
+    while !rest.is_empty() {
+        let (next, more) = rest.split_at(rest.len().min(BLOCK));
+        if !both_fields_differ(block, next) {
+            return false;
+        }
+        rest = more;
+    }
+    true
 }
 
 /// Whether no two fields have one name.
 pub fn field_names_differ(fields: &[Field]) -> bool
     ensures { result ≡ all_differ same_name (tree.field_names (fields_view fields.now)) }
 {
-    if fields.len() <= FEW_NAMES || fields.len() > MOST_NAMES {
-        each_field_differs(fields)
-    } else {
-        sorted_fields_differ(fields)
-    }
-}
-
-// Whether one of the alternatives has the name.
-fn names_alternative(name: &[u8], alternatives: &[Alternative]) -> bool
-    ensures { result ≡ list_any (same_name name.now) (map (λ c. c.0) (conditions_of (alternatives_view alternatives.now))) }
-{
-    for alternative in alternatives {
-        if same_text(name, alternative.name.bytes()) {
-            return true;
-        }
-    }
-    false
-}
-
-// Whether no two alternatives have one name, each being compared with each behind it.
-fn each_alternative_differs(alternatives: &[Alternative]) -> bool
-    ensures { result ≡ all_differ same_name (map (λ c. c.0) (conditions_of (alternatives_view alternatives.now))) }
-{
-    for at in 0..alternatives.len() {
-        if names_alternative(alternatives[at].name.bytes(), &alternatives[at + 1..]) {
+    let mut rest = fields;
+    while !rest.is_empty() {
+        let (block, behind) = rest.split_at(rest.len().min(BLOCK));
+        if !field_block_differs(block, behind) {
             return false;
         }
+        rest = behind;
     }
     true
 }
 
-// Whether no two alternatives have one name, by their order.
+// Whether no two alternatives of both lists together have one name, by their order.
 #[inline(never)]
-fn sorted_alternatives_differ(alternatives: &[Alternative]) -> bool
-    requires { length alternatives.now ≤ MOST_NODES }
-    ensures { result ≡ all_differ same_name (map (λ c. c.0) (conditions_of (alternatives_view alternatives.now))) }
+fn both_alternatives_differ<'a>(front: &'a [Alternative], behind: &'a [Alternative]) -> bool
+    requires front { length front.now ≤ BLOCK }
+    requires behind { length behind.now ≤ BLOCK }
+    ensures { result ≡ all_differ same_name (map (λ c. c.0) (conditions_of (alternatives_view front.now)) ++ map (λ c. c.0) (conditions_of (alternatives_view behind.now))) }
 {
-    let mut names: ArrayVec<&[u8], MOST_NAMES> = ArrayVec::new();
-    for alternative in alternatives {
+    let mut names: ArrayVec<&[u8], TWO_BLOCKS> = ArrayVec::new();
+    for alternative in front {
+        names.push(alternative.name.bytes());
+    }
+    for alternative in behind {
         names.push(alternative.name.bytes());
     }
     names_differ(names.as_mut_slice())
+}
+
+// Whether the names of a block of alternatives differ from each other and from those behind it.
+fn alternative_block_differs(block: &[Alternative], behind: &[Alternative]) -> bool
+    requires { length block.now ≤ BLOCK }
+    ensures { all_differ same_name (map (λ c. c.0) (conditions_of (alternatives_view block.now)) ++ map (λ c. c.0) (conditions_of (alternatives_view behind.now))) ≡ (result && all_differ same_name (map (λ c. c.0) (conditions_of (alternatives_view behind.now)))) }
+{
+    if !both_alternatives_differ(block, &[]) {
+        return false;
+    }
+    let mut rest = behind;
+    while !rest.is_empty() {
+        let (next, more) = rest.split_at(rest.len().min(BLOCK));
+        if !both_alternatives_differ(block, next) {
+            return false;
+        }
+        rest = more;
+    }
+    true
 }
 
 /// Whether no two alternatives have one name.
 pub fn alternative_names_differ(alternatives: &[Alternative]) -> bool
     ensures { result ≡ all_differ same_name (map (λ c. c.0) (conditions_of (alternatives_view alternatives.now))) }
 {
-    if alternatives.len() <= FEW_NAMES || alternatives.len() > MOST_NAMES {
-        each_alternative_differs(alternatives)
-    } else {
-        sorted_alternatives_differ(alternatives)
+    let mut rest = alternatives;
+    while !rest.is_empty() {
+        let (block, behind) = rest.split_at(rest.len().min(BLOCK));
+        if !alternative_block_differs(block, behind) {
+            return false;
+        }
+        rest = behind;
     }
+    true
 }
