@@ -8,6 +8,3 @@ mod write_cursor;
 
 pub use read_cursor::{ReadCursor, Short};
 pub use write_cursor::{Hole, WriteCursor};
-
-#[cfg(test)]
-mod tests;
