@@ -9,6 +9,3 @@ mod write_cursor;
 pub use read_cursor::{ReadCursor, Short};
 pub use word::WORD_BITS;
 pub use write_cursor::{Hole, WriteCursor};
-
-#[cfg(test)]
-mod tests;

@@ -20,6 +20,3 @@ pub use filler::{fill_num, list_num};
 pub use ordered::pattern_number;
 pub use reader::read_num;
 pub use writer::put_num;
-
-#[cfg(test)]
-mod tests;

@@ -313,30 +313,3 @@ pub fn width(leaf: &NumLeaf) -> Option<u32>
         }
     }
 }
-
-#[cfg(test)]
-mod tests {
-    use super::*;
-
-    #[test]
-    fn codes_grow_at_the_ends_of_octets_and_digits(rt: HostRuntime) {
-        let counted = NumCoding::CountedFrom { low: 5 };
-        for (y, want) in [(5, 16), (260, 16), (261, 24)] {
-            assert_eq!(rt; coding_length(&counted, &y), want, "counted {y}");
-        }
-        for (y, want) in [(127, 16), (128, 24), (-128, 16), (-129, 24)] {
-            assert_eq!(rt;
-                coding_length(&NumCoding::CountedSigned, &y),
-                want,
-                "signed {y}"
-            );
-        }
-        for (y, want) in [(0, 8), (9, 8), (10, 12), (9999, 20)] {
-            assert_eq!(rt;
-                coding_length(&NumCoding::BcdEnded, &y),
-                want,
-                "digits of {y}"
-            );
-        }
-    }
-}

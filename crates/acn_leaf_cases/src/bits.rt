@@ -150,7 +150,12 @@ fn written_in_words(alloc: Global, written: Written, octets: &[u8]) -> Result<St
     }
 }
 
-fn written(alloc: Global, octets: &[u8], filled: bool, words: &[&str]) -> Result<String, NoMemory> {
+fn write_told(
+    alloc: Global,
+    octets: &[u8],
+    filled: bool,
+    words: &[&str],
+) -> Result<String, NoMemory> {
     let mut buf = buffer(octets);
     let (zeros, bits) = (small(words, 0), small(words, 1));
     match write(&mut buf, filled, zeros, bits, wide(words, 2)) {
@@ -174,8 +179,8 @@ pub fn about_octets(
             let seen = look(octets, wide(words, 0), wide(words, 1), small(words, 2));
             seen_in_words(alloc, seen)
         }
-        "put" => written(alloc, octets, false, words),
-        "fill" => written(alloc, octets, true, words),
+        "put" => write_told(alloc, octets, false, words),
+        "fill" => write_told(alloc, octets, true, words),
         "each-width-read" => reads_bit_by_bit(alloc, octets),
         "each-width-written" => writes_bit_by_bit(alloc, octets, wide(words, 0)),
         _ => Ok(format!(in alloc; "not understood")?),

@@ -9,9 +9,8 @@ use acn_bits::{ReadCursor, WriteCursor};
 use acn_case_lines::{bits_in_words, number, octets_in_words, octets_of};
 use acn_grammar::{NumLeaf, ReadFault};
 use acn_ints::{fill_num, list_num, put_num, read_num};
-use acn_leaf::{num_fine, width};
+use acn_leaf::{fixed_width, num_fine, width};
 use acn_num::NoMemory;
-use acn_packet_laws::widths_are_lengths;
 use std::alloc::Global;
 
 // What stands at the front of the octets.
@@ -58,26 +57,23 @@ fn not_permitted(alloc: Global) -> Result<String, NoMemory> {
     Ok(format!(in alloc; "not permitted")?)
 }
 
-// A hole in front of the second number, which the first fills, in octets of ones; how many bits these are.
+// A hole in front of the second number, which the first fills, in octets of ones; how many bits these are. None comes where
+// the codes have no fixed width.
+#[tactic(auto, using(crate::proofs::Fixed::length_is_fixed, crate::proofs::Fixed::width_is_fixed))]
 fn filled(buf: &mut [u8; 64], leaf: &NumLeaf, first: i128, second: i128) -> Option<u64>
     requires fine { IsTrue (num_fine leaf.now) }
     requires first { In leaf.now.set first }
     requires second { In leaf.now.set second }
 {
-    widths_are_lengths();
-    match width(leaf) {
-        Some(bits) => {
-            if bits > 64 {
-                return None;
-            }
-            let mut out = WriteCursor::new(buf);
-            let hole = out.hole(bits);
-            put_num(&mut out, leaf, second);
-            fill_num(&mut out, hole, leaf, first);
-            Some(out.at())
-        }
-        None => None,
+    let bits = fixed_width(&leaf.coding)?;
+    if bits > 64 {
+        return None;
     }
+    let mut out = WriteCursor::new(buf);
+    let hole = out.hole(bits);
+    put_num(&mut out, leaf, second);
+    fill_num(&mut out, hole, leaf, first);
+    Some(out.at())
 }
 
 // The octets of these bits.

@@ -1,6 +1,6 @@
 //! What a text answers.
 
-ghost use Rattle.std.specs.Prelude.{◌≡◌, ◌≤◌, [], None, IfSome, IfTrue, IsTrue, length, not, pos, position};
+ghost use Rattle.std.specs.Prelude.{◌≡◌, ◌≤◌, [], None, IfSome, IsTrue, length, not, pos, position, true};
 ghost use Rattle.acn_num.specs.Ranges.{has};
 ghost use Rattle.acn_grammar.specs.Leaves.{text_fine};
 ghost use Rattle.acn_grammar.specs.Length.{text_length};
@@ -167,6 +167,7 @@ fn code_in_words(
 }
 
 // The bits of a value that is a text.
+#[tactic(auto, using(crate::proofs::Breach::none_left))]
 fn text_in_words(
     alloc: Global,
     root: &Node,
@@ -220,7 +221,7 @@ fn first_bad(alphabet: &RangeSet, text: &[u8]) -> Option<usize>
 
 // Whether a text is one of a leaf that no pattern ends.
 fn is_permitted(leaf: &TextLeaf, text: &[u8]) -> bool
-    ensures { IfTrue result (text_breach leaf.now text.now ≡ []) }
+    ensures { result ≡ true → text_breach leaf.now text.now ≡ [] }
 {
     match &leaf.ended {
         None => {

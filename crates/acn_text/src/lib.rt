@@ -12,6 +12,3 @@ mod writer;
 pub use lister::list_text;
 pub use reader::read_text;
 pub use writer::put_text;
-
-#[cfg(test)]
-mod tests;

@@ -59,20 +59,3 @@ impl Draw {
         (u128::from(high) * 4294967296 + u128::from(low)) % n
     }
 }
-
-#[cfg(test)]
-mod tests {
-    use super::*;
-
-    #[test]
-    fn a_start_determines_what_is_drawn(rt: HostRuntime) {
-        let mut draw = Draw::new(7);
-        for (n, want) in [(256, 127), (2, 0), (8, 7), (1_000_000_000, 804_607_016)] {
-            assert_eq!(rt; draw.pick(n), want, "of {n}");
-        }
-        let mut last = Draw::new(18_446_744_073_709_551_615);
-        for (n, want) in [(256, 111), (2, 1), (8, 6), (1_000_000_000, 725_611_311)] {
-            assert_eq!(rt; last.pick(n), want, "of {n}");
-        }
-    }
-}

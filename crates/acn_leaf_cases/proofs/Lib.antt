@@ -1,0 +1,2 @@
+mod Breach
+mod Fixed
