@@ -6,7 +6,6 @@ pub mod Order
 pub mod Packet
 pub mod Parsing
 pub mod Recording
-pub mod Reserved
 pub mod Run
 pub mod Text
 pub mod Words

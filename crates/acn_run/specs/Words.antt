@@ -3,7 +3,7 @@ use Rattle.std.specs.Prelude.{ℕ, Bool, true, false, not, ◌&&◌, ◌||◌, �
 use Rattle.std.specs.List.{ends_with}
 use Rattle.std.specs.Str.{bytes_eq}
 use Rattle.std.specs.Char.{is_ascii_uppercase, is_ascii_lowercase, is_ascii_alphanumeric}
-use Rattle.acn_run.specs.Reserved.{is_reserved}
+use Rattle.acn_lex.specs.Words.{is_reserved}
 
 abbrev pub starts_alphanumeric : List ℕ → Bool
 starts_alphanumeric [] = false

@@ -9,7 +9,6 @@ mod input;
 mod line;
 mod order;
 mod packet;
-mod reserved;
 mod top_call;
 mod words;
 

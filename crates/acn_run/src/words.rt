@@ -1,7 +1,7 @@
 ghost use Rattle.std.specs.Prelude.{◌≡◌, ◌+◌, ◌≤◌, length, take, drop, map, string_bytes, IsTrue, IsSome, IfSome, ◌↔◌};
 ghost use Rattle.acn_run.specs.Words as spec;
 
-use crate::reserved::is_reserved;
+use acn_lex::is_reserved;
 
 fn starts_alphanumeric(bytes: &[u8]) -> bool
     ensures { result ≡ spec.starts_alphanumeric bytes.now }

@@ -4,7 +4,9 @@
 mod fault;
 mod kind;
 mod reading;
+mod sources;
 
 pub use fault::{FileFault, SourcesFault};
 pub use kind::FileKind;
 pub use reading::{read_acn, read_asn, read_map};
+pub use sources::{File, read_sources};
