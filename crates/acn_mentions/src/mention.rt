@@ -13,7 +13,7 @@ pub enum Role {
 }
 
 /// Where the text of a type refers to something by name.
-#[derive(Clone, Copy, Debug)]
+#[derive(Clone, Copy)]
 pub enum Mention<'t> {
     /// A reference to a type.
     Type {
