@@ -3,7 +3,7 @@ use acn_asn_syntax::AsnModules;
 use acn_num::Row;
 
 /// The trees of all files, each sort in the order of its files.
-#[derive(Debug, Drop)]
+#[derive(Drop)]
 pub struct Sources {
     /// The trees of the ASN.1 files.
     pub asn: Row<AsnModules>,
