@@ -12,7 +12,7 @@ use Rattle.acn_acn_syntax.specs.declared.modules.AcnModule.{AcnModule}
 use Rattle.acn_acn_syntax.specs.declared.modules.AcnModules.{AcnModules}
 use Rattle.acn_acn_syntax.specs.declared.modules.AcnPath.{AcnPath}
 use Rattle.acn_acn_syntax.specs.declared.modules.Attr.{Attr}
-use Rattle.acn_acn_syntax.proofs.FieldViews.{view_plain, view_inserted, view_number}
+use Rattle.acn_acn_syntax.proofs.Views.{view_plain, view_inserted, view_number}
 
 abbrev mutual
   pub tree_of : Field → AcnField

@@ -1,2 +1,3 @@
+-- for the crates above that match on fields
+pub mod Views
 pub mod Back
-pub mod FieldViews

@@ -1,5 +1,5 @@
 -- The trees of ACN modules as plain data, with no memory behind them. What the trees are is read in ModuleTokens, which says their tokens.
-use Rattle.std.specs.Prelude.{ℕ, List}
+use Rattle.std.specs.Prelude.{ℕ, List, [], ◌∷◌, Option, Some, None}
 use Rattle.acn_acn_syntax.specs.declared.maps.Signed.{Signed}
 use Rattle.acn_acn_syntax.specs.declared.modules.AcnPath.{AcnPath}
 use Rattle.acn_acn_syntax.specs.declared.modules.Attr.{Attr}
@@ -21,6 +21,15 @@ mutual
   pub data Fields : Type 0 where
     no_fields : Fields
     and_field : Field → Fields → Fields
+
+abbrev pub field_list : Fields → List Field
+field_list no_fields = []
+field_list (and_field f more) = f ∷ field_list more
+
+-- the fields between braces; none where no braces are written
+abbrev pub braces_list : Braces → Option (List Field)
+braces_list no_braces = None
+braces_list (braces fields) = Some (field_list fields)
 
 pub record Entry : Type 0 where
   pub name : List ℕ

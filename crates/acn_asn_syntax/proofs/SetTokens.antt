@@ -19,8 +19,9 @@ use Rattle.acn_asn_syntax.specs.declared.sets.Element.TheFolds.{fold-roll-Elemen
 use Rattle.acn_asn_syntax.specs.Mirror as plain
 use Rattle.acn_asn_syntax.specs.Spelling as spelling
 use Rattle.acn_asn_syntax.specs.Values.{word, mark, value_tokens, value_fits, range_tokens, range_fits, in_parentheses}
-use Rattle.acn_asn_syntax.specs.View.{element_view, set_view, meet_view, part_view, element_step, set_step, meet_step, part_step, meets_of, parts_of}
+use Rattle.acn_asn_syntax.specs.View.{seen_meet, seen_part, element_view, set_view, meet_view, part_view, element_step, set_step, meet_step, part_step, meets_of, parts_of}
 use Rattle.acn_asn_syntax.specs.Trees.{element_tokens, set_tokens, meet_tokens, part_tokens, element_fits, set_fits, meet_fits, part_fits}
+use Rattle.acn_asn_syntax.proofs.Views.{view_Value, view_Range, view_Sized, view_Letters, view_Inner, view_AllExcept, view_Union, view_meet, view_part, view_but}
 
 -- what stands behind its mark, which is a word or a sign
 abbrev pub joined_tokens : List ℕ → List ℕ → Bool × List Lexeme → List Lexeme
@@ -39,54 +40,6 @@ more_meets = flat_map (λ p. joined_tokens (codes "|") (codes "UNION") (p.0, mee
 
 abbrev pub more_parts : List (Bool × Part) → List Lexeme
 more_parts = flat_map (λ p. joined_tokens (codes "^") (codes "INTERSECTION") (p.0, part_tokens p.1))
-
--- ---- the plain data of each form
-
-view_Value : (v : AsnValue) → element_view (element.Value v) ≡ plain.value_of v
-unfolding element_view
-view_Value v = ap element_view (sym (element.rolls-Value v)) ∙ fold-roll-Element _ _ _ _ element_step set_step meet_step part_step (Element-F.Value v)
-
-view_Range : (r : AsnRange) → element_view (element.Range r) ≡ plain.range_of r
-unfolding element_view
-view_Range r = ap element_view (sym (element.rolls-Range r)) ∙ fold-roll-Element _ _ _ _ element_step set_step meet_step part_step (Element-F.Range r)
-
-view_SizeOf : (s : Set) → element_view (element.SizeOf s) ≡ plain.size_of (set_view s)
-unfolding element_view set_view
-view_SizeOf s = ap element_view (sym (element.rolls-SizeOf s)) ∙ fold-roll-Element _ _ _ _ element_step set_step meet_step part_step (Element-F.SizeOf s)
-
-view_From : (s : Set) → element_view (element.From s) ≡ plain.from_of (set_view s)
-unfolding element_view set_view
-view_From s = ap element_view (sym (element.rolls-From s)) ∙ fold-roll-Element _ _ _ _ element_step set_step meet_step part_step (Element-F.From s)
-
-view_Inner : (s : Set) → element_view (element.Inner s) ≡ plain.inner_of (set_view s)
-unfolding element_view set_view
-view_Inner s = ap element_view (sym (element.rolls-Inner s)) ∙ fold-roll-Element _ _ _ _ element_step set_step meet_step part_step (Element-F.Inner s)
-
-view_AllExcept : (e : Element) → set_view (set.AllExcept e) ≡ plain.all_except (element_view e)
-unfolding element_view set_view
-view_AllExcept e = ap set_view (sym (set.rolls-AllExcept e)) ∙ fold-roll-Set _ _ _ _ element_step set_step meet_step part_step (Set-F.AllExcept e)
-
-abbrev seen_meet : Bool × Meet → Bool × plain.Meet
-seen_meet p = (p.0, meet_view p.1)
-
-abbrev seen_part : Bool × Part → Bool × plain.Part
-seen_part p = (p.0, part_view p.1)
-
-view_Union : (m : Meet) (more : List (Bool × Meet)) → set_view (set.Union m more) ≡ plain.union_of (meet_view m) (meets_of (map seen_meet more))
-unfolding set_view meet_view
-view_Union m more = ap set_view (sym (set.rolls-Union m more)) ∙ fold-roll-Set _ _ _ _ element_step set_step meet_step part_step (Set-F.Union m more)
-
-view_meet : (first : Part) (more : List (Bool × Part)) → meet_view (roll-Meet (record { first = first; more = more })) ≡ plain.meet_of (part_view first) (parts_of (map seen_part more))
-unfolding meet_view part_view
-view_meet first more = fold-roll-Meet _ _ _ _ element_step set_step meet_step part_step (record { first = first; more = more })
-
-view_part : (e : Element) → part_view (roll-Part (record { element = e; but = None })) ≡ plain.part_of (element_view e)
-unfolding part_view element_view
-view_part e = fold-roll-Part _ _ _ _ element_step set_step meet_step part_step (record { element = e; but = None })
-
-view_but : (e f : Element) → part_view (roll-Part (record { element = e; but = Some f })) ≡ plain.part_but (element_view e) (element_view f)
-unfolding part_view element_view
-view_but e f = fold-roll-Part _ _ _ _ element_step set_step meet_step part_step (record { element = e; but = Some f })
 
 -- ---- lists of them
 
@@ -122,11 +75,11 @@ tokens_Range r = ap spelling.element_tokens (view_Range r)
 
 pub tokens_SizeOf : (s : Set) → element_tokens (element.SizeOf s) ≡ word (codes "SIZE") ∷ in_parentheses (set_tokens s)
 unfolding element_tokens set_tokens spelling.element_tokens
-tokens_SizeOf s = ap spelling.element_tokens (view_SizeOf s)
+tokens_SizeOf s = ap spelling.element_tokens (view_Sized s)
 
 pub tokens_From : (s : Set) → element_tokens (element.From s) ≡ word (codes "FROM") ∷ in_parentheses (set_tokens s)
 unfolding element_tokens set_tokens spelling.element_tokens
-tokens_From s = ap spelling.element_tokens (view_From s)
+tokens_From s = ap spelling.element_tokens (view_Letters s)
 
 pub tokens_Inner : (s : Set) → element_tokens (element.Inner s) ≡ in_parentheses (set_tokens s)
 unfolding element_tokens set_tokens spelling.element_tokens
@@ -161,11 +114,11 @@ fits_Range r = ap spelling.element_fits (view_Range r)
 
 pub fits_SizeOf : (s : Set) → element_fits (element.SizeOf s) ≡ set_fits s
 unfolding element_fits set_fits spelling.element_fits
-fits_SizeOf s = ap spelling.element_fits (view_SizeOf s)
+fits_SizeOf s = ap spelling.element_fits (view_Sized s)
 
 pub fits_From : (s : Set) → element_fits (element.From s) ≡ set_fits s
 unfolding element_fits set_fits spelling.element_fits
-fits_From s = ap spelling.element_fits (view_From s)
+fits_From s = ap spelling.element_fits (view_Letters s)
 
 pub fits_Inner : (s : Set) → element_fits (element.Inner s) ≡ set_fits s
 unfolding element_fits set_fits spelling.element_fits

@@ -57,6 +57,13 @@ meet_view = fold-Meet plain.Element plain.Set plain.Meet plain.Part element_step
 unfoldable pub part_view : Part → plain.Part
 part_view = fold-Part plain.Element plain.Set plain.Meet plain.Part element_step set_step meet_step part_step
 
+-- what stands behind its mark, a word or a sign
+abbrev pub seen_meet : Bool × Meet → Bool × plain.Meet
+seen_meet p = (p.0, meet_view p.1)
+
+abbrev pub seen_part : Bool × Part → Bool × plain.Part
+seen_part p = (p.0, part_view p.1)
+
 -- ---- types
 
 abbrev pub components_of : List plain.Component → plain.Components

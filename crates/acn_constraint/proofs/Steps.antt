@@ -3,11 +3,10 @@ use Rattle.std.proofs.Common.{◌≡◌, ℕ, ◌+◌, ◌<◌, Bool, true, fals
 use Rattle.std.specs.Prelude.{ℤ, map, is_some}
 use Rattle.std.specs.Option.{option_or}
 use Rattle.std.proofs.lemmas.List.{drop_more}
-use Rattle.acn_asn_syntax.specs.View.{meet_view, part_view, meets_of, parts_of}
+use Rattle.acn_asn_syntax.specs.View.{seen_meet, seen_part, meet_view, part_view, meets_of, parts_of}
 use Rattle.acn_asn_syntax.specs.declared.sets.Meet.{Meet}
 use Rattle.acn_asn_syntax.specs.declared.sets.Part.{Part}
 use Rattle.acn_asn_syntax.specs.declared.types.Named.{Named}
-use Rattle.acn_mentions.specs.Mentioned.{seen_meet, seen_part}
 use Rattle.acn_world.specs.World.{World}
 use Rattle.acn_constraint.specs.Constraints.{low_among, meet_values, meets_values, part_values, parts_values}
 use Rattle.acn_constraint.proofs.Firsts.{low_append, option_or_some, option_or_none}

@@ -3,8 +3,7 @@
 //! Sets nest as deep as parentheses do, which is 64 levels at most.
 
 ghost use Rattle.std.specs.Prelude.{◌≡◌, IfOk, map};
-ghost use Rattle.acn_asn_syntax.specs.View.{element_view, set_view, meet_view, part_view, meets_of, parts_of};
-ghost use Rattle.acn_mentions.specs.Mentioned.{seen_meet, seen_part};
+ghost use Rattle.acn_asn_syntax.specs.View.{seen_meet, seen_part, element_view, set_view, meet_view, part_view, meets_of, parts_of};
 ghost use Rattle.acn_world.specs.Viewed.{world_view};
 ghost use Rattle.acn_constraint.specs.Readings.{reading_of};
 ghost use Rattle.acn_constraint.specs.Sets as sets;
@@ -105,7 +104,7 @@ fn is_aside(reading: Reading<'_>, element: &Element) -> bool
 
 /// What a set leaves of what stood before it.
 #[cycle(evaluate)]
-#[tactic(auto, unfolding(crate::specs::Sets::set_in, crate::specs::Sets::meets_in, crate::specs::Sets::meet_in, crate::specs::Sets::parts_in, crate::specs::Sets::part_in, crate::specs::Sets::element_in), using(acn_mentions::proofs::SetViews::set_views, crate::proofs::Unions::joined))]
+#[tactic(auto, unfolding(crate::specs::Sets::set_in, crate::specs::Sets::meets_in, crate::specs::Sets::meet_in, crate::specs::Sets::parts_in, crate::specs::Sets::part_in, crate::specs::Sets::element_in), using(acn_asn_syntax::proofs::Views::set_views, crate::proofs::Unions::joined))]
 pub fn set_in(
     alloc: Global,
     set: &Set,
@@ -128,7 +127,7 @@ pub fn set_in(
 }
 
 #[cycle(evaluate)]
-#[tactic(auto, unfolding(crate::specs::Sets::set_in, crate::specs::Sets::meets_in, crate::specs::Sets::meet_in, crate::specs::Sets::parts_in, crate::specs::Sets::part_in, crate::specs::Sets::element_in), using(acn_mentions::proofs::SetViews::set_views))]
+#[tactic(auto, unfolding(crate::specs::Sets::set_in, crate::specs::Sets::meets_in, crate::specs::Sets::meet_in, crate::specs::Sets::parts_in, crate::specs::Sets::part_in, crate::specs::Sets::element_in), using(acn_asn_syntax::proofs::Views::set_views))]
 fn meets_in(
     alloc: Global,
     more: &[(bool, Meet)],
@@ -146,7 +145,7 @@ fn meets_in(
 }
 
 #[cycle(evaluate)]
-#[tactic(auto, unfolding(crate::specs::Sets::set_in, crate::specs::Sets::meets_in, crate::specs::Sets::meet_in, crate::specs::Sets::parts_in, crate::specs::Sets::part_in, crate::specs::Sets::element_in), using(acn_mentions::proofs::SetViews::set_views))]
+#[tactic(auto, unfolding(crate::specs::Sets::set_in, crate::specs::Sets::meets_in, crate::specs::Sets::meet_in, crate::specs::Sets::parts_in, crate::specs::Sets::part_in, crate::specs::Sets::element_in), using(acn_asn_syntax::proofs::Views::set_views))]
 fn meet_in(
     alloc: Global,
     meet: &Meet,
@@ -160,7 +159,7 @@ fn meet_in(
 }
 
 #[cycle(evaluate)]
-#[tactic(auto, unfolding(crate::specs::Sets::set_in, crate::specs::Sets::meets_in, crate::specs::Sets::meet_in, crate::specs::Sets::parts_in, crate::specs::Sets::part_in, crate::specs::Sets::element_in), using(acn_mentions::proofs::SetViews::set_views))]
+#[tactic(auto, unfolding(crate::specs::Sets::set_in, crate::specs::Sets::meets_in, crate::specs::Sets::meet_in, crate::specs::Sets::parts_in, crate::specs::Sets::part_in, crate::specs::Sets::element_in), using(acn_asn_syntax::proofs::Views::set_views))]
 fn parts_in(
     alloc: Global,
     more: &[(bool, Part)],
@@ -179,7 +178,7 @@ fn parts_in(
 }
 
 #[cycle(evaluate)]
-#[tactic(auto, unfolding(crate::specs::Sets::set_in, crate::specs::Sets::meets_in, crate::specs::Sets::meet_in, crate::specs::Sets::parts_in, crate::specs::Sets::part_in, crate::specs::Sets::element_in), using(acn_mentions::proofs::SetViews::set_views))]
+#[tactic(auto, unfolding(crate::specs::Sets::set_in, crate::specs::Sets::meets_in, crate::specs::Sets::meet_in, crate::specs::Sets::parts_in, crate::specs::Sets::part_in, crate::specs::Sets::element_in), using(acn_asn_syntax::proofs::Views::set_views))]
 fn part_in(
     alloc: Global,
     part: &Part,
@@ -202,7 +201,7 @@ fn part_in(
 }
 
 #[cycle(evaluate)]
-#[tactic(auto, unfolding(crate::specs::Sets::set_in, crate::specs::Sets::meets_in, crate::specs::Sets::meet_in, crate::specs::Sets::parts_in, crate::specs::Sets::part_in, crate::specs::Sets::element_in), using(acn_mentions::proofs::SetViews::set_views))]
+#[tactic(auto, unfolding(crate::specs::Sets::set_in, crate::specs::Sets::meets_in, crate::specs::Sets::meet_in, crate::specs::Sets::parts_in, crate::specs::Sets::part_in, crate::specs::Sets::element_in), using(acn_asn_syntax::proofs::Views::set_views))]
 fn element_in(
     alloc: Global,
     element: &Element,

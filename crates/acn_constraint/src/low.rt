@@ -1,8 +1,7 @@
 //! The first written number below the least one that can be kept.
 
 ghost use Rattle.std.specs.Prelude.{◌≡◌, map, negsuc, int_lt};
-ghost use Rattle.acn_asn_syntax.specs.View.{constraint_view, element_view, set_view, meet_view, part_view, meets_of, parts_of};
-ghost use Rattle.acn_mentions.specs.Mentioned.{seen_meet, seen_part};
+ghost use Rattle.acn_asn_syntax.specs.View.{seen_meet, seen_part, constraint_view, element_view, set_view, meet_view, part_view, meets_of, parts_of};
 ghost use Rattle.acn_world.specs.Viewed.{world_view};
 ghost use Rattle.acn_constraint.specs.Constraints as spec;
 
@@ -47,7 +46,7 @@ fn end_low(at: Names<'_>, end: &Option<AsnValue>) -> Option<i128>
 
 /// The first number of a set that is too low.
 #[cycle(low)]
-#[tactic(auto, unfolding(crate::specs::Constraints::set_values, crate::specs::Constraints::meets_values, crate::specs::Constraints::meet_values, crate::specs::Constraints::parts_values, crate::specs::Constraints::part_values, crate::specs::Constraints::element_values), using(acn_mentions::proofs::SetViews::set_views, crate::proofs::Firsts::low_append))]
+#[tactic(auto, unfolding(crate::specs::Constraints::set_values, crate::specs::Constraints::meets_values, crate::specs::Constraints::meet_values, crate::specs::Constraints::parts_values, crate::specs::Constraints::part_values, crate::specs::Constraints::element_values), using(acn_asn_syntax::proofs::Views::set_views, crate::proofs::Firsts::low_append))]
 pub fn set_low(set: &Set, at: Names<'_>) -> Option<i128>
     ensures { result ≡ spec.low_among (world_view at.entry.world.now) at.entry.names.now at.entry.owner (spec.set_values (set_view set.now)) }
 {
@@ -58,7 +57,7 @@ pub fn set_low(set: &Set, at: Names<'_>) -> Option<i128>
 }
 
 #[cycle(low)]
-#[tactic(auto, unfolding(crate::specs::Constraints::set_values, crate::specs::Constraints::meets_values, crate::specs::Constraints::meet_values, crate::specs::Constraints::parts_values, crate::specs::Constraints::part_values, crate::specs::Constraints::element_values), using(acn_mentions::proofs::SetViews::set_views, crate::proofs::Firsts::low_append))]
+#[tactic(auto, unfolding(crate::specs::Constraints::set_values, crate::specs::Constraints::meets_values, crate::specs::Constraints::meet_values, crate::specs::Constraints::parts_values, crate::specs::Constraints::part_values, crate::specs::Constraints::element_values), using(acn_asn_syntax::proofs::Views::set_views, crate::proofs::Firsts::low_append))]
 fn meets_low(more: &[(bool, Meet)], at: Names<'_>) -> Option<i128>
     ensures { result ≡ spec.low_among (world_view at.entry.world.now) at.entry.names.now at.entry.owner (spec.meets_values (meets_of (map seen_meet more.now))) }
 {
@@ -72,7 +71,7 @@ fn meets_low(more: &[(bool, Meet)], at: Names<'_>) -> Option<i128>
 }
 
 #[cycle(low)]
-#[tactic(auto, unfolding(crate::specs::Constraints::set_values, crate::specs::Constraints::meets_values, crate::specs::Constraints::meet_values, crate::specs::Constraints::parts_values, crate::specs::Constraints::part_values, crate::specs::Constraints::element_values), using(acn_mentions::proofs::SetViews::set_views, crate::proofs::Firsts::low_append))]
+#[tactic(auto, unfolding(crate::specs::Constraints::set_values, crate::specs::Constraints::meets_values, crate::specs::Constraints::meet_values, crate::specs::Constraints::parts_values, crate::specs::Constraints::part_values, crate::specs::Constraints::element_values), using(acn_asn_syntax::proofs::Views::set_views, crate::proofs::Firsts::low_append))]
 fn meet_low(meet: &Meet, at: Names<'_>) -> Option<i128>
     ensures { result ≡ spec.low_among (world_view at.entry.world.now) at.entry.names.now at.entry.owner (spec.meet_values (meet_view meet.now)) }
 {
@@ -80,7 +79,7 @@ fn meet_low(meet: &Meet, at: Names<'_>) -> Option<i128>
 }
 
 #[cycle(low)]
-#[tactic(auto, unfolding(crate::specs::Constraints::set_values, crate::specs::Constraints::meets_values, crate::specs::Constraints::meet_values, crate::specs::Constraints::parts_values, crate::specs::Constraints::part_values, crate::specs::Constraints::element_values), using(acn_mentions::proofs::SetViews::set_views, crate::proofs::Firsts::low_append))]
+#[tactic(auto, unfolding(crate::specs::Constraints::set_values, crate::specs::Constraints::meets_values, crate::specs::Constraints::meet_values, crate::specs::Constraints::parts_values, crate::specs::Constraints::part_values, crate::specs::Constraints::element_values), using(acn_asn_syntax::proofs::Views::set_views, crate::proofs::Firsts::low_append))]
 fn parts_low(more: &[(bool, Part)], at: Names<'_>) -> Option<i128>
     ensures { result ≡ spec.low_among (world_view at.entry.world.now) at.entry.names.now at.entry.owner (spec.parts_values (parts_of (map seen_part more.now))) }
 {
@@ -94,7 +93,7 @@ fn parts_low(more: &[(bool, Part)], at: Names<'_>) -> Option<i128>
 }
 
 #[cycle(low)]
-#[tactic(auto, unfolding(crate::specs::Constraints::set_values, crate::specs::Constraints::meets_values, crate::specs::Constraints::meet_values, crate::specs::Constraints::parts_values, crate::specs::Constraints::part_values, crate::specs::Constraints::element_values), using(acn_mentions::proofs::SetViews::set_views, crate::proofs::Firsts::low_append))]
+#[tactic(auto, unfolding(crate::specs::Constraints::set_values, crate::specs::Constraints::meets_values, crate::specs::Constraints::meet_values, crate::specs::Constraints::parts_values, crate::specs::Constraints::part_values, crate::specs::Constraints::element_values), using(acn_asn_syntax::proofs::Views::set_views, crate::proofs::Firsts::low_append))]
 fn part_low(part: &Part, at: Names<'_>) -> Option<i128>
     ensures { result ≡ spec.low_among (world_view at.entry.world.now) at.entry.names.now at.entry.owner (spec.part_values (part_view part.now)) }
 {
@@ -105,7 +104,7 @@ fn part_low(part: &Part, at: Names<'_>) -> Option<i128>
 }
 
 #[cycle(low)]
-#[tactic(auto, unfolding(crate::specs::Constraints::set_values, crate::specs::Constraints::meets_values, crate::specs::Constraints::meet_values, crate::specs::Constraints::parts_values, crate::specs::Constraints::part_values, crate::specs::Constraints::element_values), using(acn_mentions::proofs::SetViews::set_views, crate::proofs::Firsts::low_append))]
+#[tactic(auto, unfolding(crate::specs::Constraints::set_values, crate::specs::Constraints::meets_values, crate::specs::Constraints::meet_values, crate::specs::Constraints::parts_values, crate::specs::Constraints::part_values, crate::specs::Constraints::element_values), using(acn_asn_syntax::proofs::Views::set_views, crate::proofs::Firsts::low_append))]
 fn element_low(element: &Element, at: Names<'_>) -> Option<i128>
     ensures { result ≡ spec.low_among (world_view at.entry.world.now) at.entry.names.now at.entry.owner (spec.element_values (element_view element.now)) }
 {

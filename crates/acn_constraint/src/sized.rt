@@ -1,15 +1,14 @@
 //! Whether a constraint says SIZE.
 
 ghost use Rattle.std.specs.Prelude.{◌≡◌, map};
-ghost use Rattle.acn_asn_syntax.specs.View.{element_view, set_view, meet_view, part_view, meets_of, parts_of};
-ghost use Rattle.acn_mentions.specs.Mentioned.{seen_meet, seen_part};
+ghost use Rattle.acn_asn_syntax.specs.View.{seen_meet, seen_part, element_view, set_view, meet_view, part_view, meets_of, parts_of};
 ghost use Rattle.acn_constraint.specs.Sized as spec;
 
 use acn_asn_syntax::{Element, Meet, Part, Set};
 
 /// Whether a set says SIZE.
 #[cycle(sized)]
-#[tactic(auto, unfolding(crate::specs::Sized::sizes_set, crate::specs::Sized::sizes_meets, crate::specs::Sized::sizes_meet, crate::specs::Sized::sizes_parts, crate::specs::Sized::sizes_part, crate::specs::Sized::sizes_element), using(acn_mentions::proofs::SetViews::set_views))]
+#[tactic(auto, unfolding(crate::specs::Sized::sizes_set, crate::specs::Sized::sizes_meets, crate::specs::Sized::sizes_meet, crate::specs::Sized::sizes_parts, crate::specs::Sized::sizes_part, crate::specs::Sized::sizes_element), using(acn_asn_syntax::proofs::Views::set_views))]
 pub fn says_size(set: &Set) -> bool
     ensures { result ≡ spec.sizes_set (set_view set.now) }
 {
@@ -20,7 +19,7 @@ pub fn says_size(set: &Set) -> bool
 }
 
 #[cycle(sized)]
-#[tactic(auto, unfolding(crate::specs::Sized::sizes_set, crate::specs::Sized::sizes_meets, crate::specs::Sized::sizes_meet, crate::specs::Sized::sizes_parts, crate::specs::Sized::sizes_part, crate::specs::Sized::sizes_element), using(acn_mentions::proofs::SetViews::set_views))]
+#[tactic(auto, unfolding(crate::specs::Sized::sizes_set, crate::specs::Sized::sizes_meets, crate::specs::Sized::sizes_meet, crate::specs::Sized::sizes_parts, crate::specs::Sized::sizes_part, crate::specs::Sized::sizes_element), using(acn_asn_syntax::proofs::Views::set_views))]
 fn meets_say_size(more: &[(bool, Meet)]) -> bool
     ensures { result ≡ spec.sizes_meets (meets_of (map seen_meet more.now)) }
 {
@@ -33,7 +32,7 @@ fn meets_say_size(more: &[(bool, Meet)]) -> bool
 }
 
 #[cycle(sized)]
-#[tactic(auto, unfolding(crate::specs::Sized::sizes_set, crate::specs::Sized::sizes_meets, crate::specs::Sized::sizes_meet, crate::specs::Sized::sizes_parts, crate::specs::Sized::sizes_part, crate::specs::Sized::sizes_element), using(acn_mentions::proofs::SetViews::set_views))]
+#[tactic(auto, unfolding(crate::specs::Sized::sizes_set, crate::specs::Sized::sizes_meets, crate::specs::Sized::sizes_meet, crate::specs::Sized::sizes_parts, crate::specs::Sized::sizes_part, crate::specs::Sized::sizes_element), using(acn_asn_syntax::proofs::Views::set_views))]
 fn meet_says_size(meet: &Meet) -> bool
     ensures { result ≡ spec.sizes_meet (meet_view meet.now) }
 {
@@ -41,7 +40,7 @@ fn meet_says_size(meet: &Meet) -> bool
 }
 
 #[cycle(sized)]
-#[tactic(auto, unfolding(crate::specs::Sized::sizes_set, crate::specs::Sized::sizes_meets, crate::specs::Sized::sizes_meet, crate::specs::Sized::sizes_parts, crate::specs::Sized::sizes_part, crate::specs::Sized::sizes_element), using(acn_mentions::proofs::SetViews::set_views))]
+#[tactic(auto, unfolding(crate::specs::Sized::sizes_set, crate::specs::Sized::sizes_meets, crate::specs::Sized::sizes_meet, crate::specs::Sized::sizes_parts, crate::specs::Sized::sizes_part, crate::specs::Sized::sizes_element), using(acn_asn_syntax::proofs::Views::set_views))]
 fn parts_say_size(more: &[(bool, Part)]) -> bool
     ensures { result ≡ spec.sizes_parts (parts_of (map seen_part more.now)) }
 {
@@ -54,7 +53,7 @@ fn parts_say_size(more: &[(bool, Part)]) -> bool
 }
 
 #[cycle(sized)]
-#[tactic(auto, unfolding(crate::specs::Sized::sizes_set, crate::specs::Sized::sizes_meets, crate::specs::Sized::sizes_meet, crate::specs::Sized::sizes_parts, crate::specs::Sized::sizes_part, crate::specs::Sized::sizes_element), using(acn_mentions::proofs::SetViews::set_views))]
+#[tactic(auto, unfolding(crate::specs::Sized::sizes_set, crate::specs::Sized::sizes_meets, crate::specs::Sized::sizes_meet, crate::specs::Sized::sizes_parts, crate::specs::Sized::sizes_part, crate::specs::Sized::sizes_element), using(acn_asn_syntax::proofs::Views::set_views))]
 fn part_says_size(part: &Part) -> bool
     ensures { result ≡ spec.sizes_part (part_view part.now) }
 {
@@ -66,7 +65,7 @@ fn part_says_size(part: &Part) -> bool
 
 /// Whether an element says SIZE.
 #[cycle(sized)]
-#[tactic(auto, unfolding(crate::specs::Sized::sizes_set, crate::specs::Sized::sizes_meets, crate::specs::Sized::sizes_meet, crate::specs::Sized::sizes_parts, crate::specs::Sized::sizes_part, crate::specs::Sized::sizes_element), using(acn_mentions::proofs::SetViews::set_views))]
+#[tactic(auto, unfolding(crate::specs::Sized::sizes_set, crate::specs::Sized::sizes_meets, crate::specs::Sized::sizes_meet, crate::specs::Sized::sizes_parts, crate::specs::Sized::sizes_part, crate::specs::Sized::sizes_element), using(acn_asn_syntax::proofs::Views::set_views))]
 pub fn element_says_size(element: &Element) -> bool
     ensures { result ≡ spec.sizes_element (element_view element.now) }
 {

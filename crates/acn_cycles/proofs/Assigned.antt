@@ -4,7 +4,8 @@ use Rattle.std.specs.Prelude.{Option, Some, None, slice_get, option_map, option_
 use Rattle.std.specs.Option.{option_or}
 use Rattle.std.specs.List.{position_from}
 use Rattle.acn_asn_syntax.specs.Mirror.{AsnModule, Assign, TypeIs, ValueIs}
-use Rattle.acn_world.specs.World.{World, Name, place, assignment}
+use Rattle.acn_num.specs.Names.{Name}
+use Rattle.acn_world.specs.World.{World, place, assignment}
 use Rattle.acn_world.specs.Lookup.{own, imported_from, found_within, found, type_named, value_named, is_type, is_value, module_named}
 use Rattle.acn_mentions.specs.Mentions.{Mention, to_type, in_constraint, in_default, in_assignment, mentions, value_mentions}
 use Rattle.acn_world.specs.Cycles.{Within, type_target, value_target, targets_of, targets_at, targets}

@@ -15,7 +15,7 @@ use acn_world::roots::places;
 use std::alloc::Global;
 
 /// A type or a value that reaches itself, and a way: the assignments that are passed, itself first.
-#[derive(Debug, Drop)]
+#[derive(Drop)]
 pub struct Round {
     /// The type or the value.
     pub first: TypeId,

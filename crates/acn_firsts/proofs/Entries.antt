@@ -3,7 +3,8 @@ use Rattle.std.proofs.Common.{◌≡◌, ℕ, true, false, cond, List, [], ◌�
 use Rattle.std.specs.Prelude.{map}
 use Rattle.std.specs.Str.{bytes_eq}
 use Rattle.std.specs.Map.{lookup}
-use Rattle.acn_firsts.specs.Placed.{Name, place_of, noted}
+use Rattle.acn_num.specs.Names.{Name}
+use Rattle.acn_firsts.specs.Placed.{place_of, noted}
 
 module _ {K : Type 0} (text : K → Name) where
   abbrev pub placed : List (K × ℕ) → List (Name × ℕ)

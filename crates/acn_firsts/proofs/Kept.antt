@@ -2,7 +2,8 @@
 use Rattle.std.proofs.Common.{◌≡◌, ℕ, Bool, true, false, cond, List, [], ◌∷◌, ◌++◌, Option, Some, None, is_some, refl, sym, ap, subst, ◌∙◌, true≢false}
 use Rattle.std.specs.Str.{bytes_eq}
 use Rattle.std.specs.Cmp.Lexicographic.{bytes_decides}
-use Rattle.acn_firsts.specs.Placed.{Name, place_of, noted, noted_all}
+use Rattle.acn_num.specs.Names.{Name}
+use Rattle.acn_firsts.specs.Placed.{place_of, noted, noted_all}
 
 abbrev or_else : Option ℕ → Option ℕ → Option ℕ
 or_else None b = b

@@ -1,9 +1,7 @@
 -- Names with places, and what is noted of them: each name once, at its first place.
 use Rattle.std.specs.Prelude.{ℕ, List, [], ◌∷◌, ◌++◌, map, cond, Option, Some, None, is_some}
 use Rattle.std.specs.Str.{bytes_eq}
-
-abbrev pub Name : Type 0
-Name = List ℕ
+use Rattle.acn_num.specs.Names.{Name}
 
 -- the first place of a name
 unfoldable pub place_of : Name → List (Name × ℕ) → Option ℕ

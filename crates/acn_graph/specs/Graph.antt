@@ -27,13 +27,13 @@ pub record IsFirstRing (g : Graph) (n : ℕ) (way : List ℕ) : Type 0 where
 pub record HasNoRing (g : Graph) : Type 0 where
   pub none : (n : ℕ) (way : List ℕ) → Leads g n n way → ⊥
 
--- ---- ranks
+-- ---- numbers of parts
 
--- whether each of the nodes has a rank below this one
+-- whether each of the nodes has a number below this one
 abbrev pub are_below : List ℕ → ℕ → List ℕ → Bool
-are_below ranks rank nodes = list_all (λ t. nat_lt (get_or ranks t 0) rank) nodes
+are_below numbers number nodes = list_all (λ t. nat_lt (get_or numbers t 0) number) nodes
 
--- whether each node from a number on has a rank above those of the nodes to which it leads
-abbrev pub ranks_fall : List ℕ → ℕ → Graph → Bool
-ranks_fall ranks n [] = true
-ranks_fall ranks n (nodes ∷ g) = are_below ranks (get_or ranks n 0) nodes && ranks_fall ranks (n + 1) g
+-- whether no node from a number on leads to one with a greater number
+abbrev pub never_rise : List ℕ → ℕ → Graph → Bool
+never_rise numbers n [] = true
+never_rise numbers n (nodes ∷ g) = are_below numbers (get_or numbers n 0 + 1) nodes && never_rise numbers (n + 1) g

@@ -1,7 +1,7 @@
 //! Finds the first node of a graph that leads to itself.
 #![tactic(auto)]
 
-mod ranks;
+mod parts;
 mod ring;
 mod rows;
 mod search;

@@ -8,7 +8,7 @@ use std::alloc::Global;
 
 // The nodes that are reached from a start, in order; for each the place of the one from which it was reached; and
 // for each node of the graph whether it was reached.
-#[derive(Debug, Drop)]
+#[derive(Drop)]
 struct Search {
     order: Vec<usize>,
     parents: Vec<usize>,

@@ -1,5 +1,3 @@
-pub mod TypeViews
-pub mod SetViews
-pub mod FieldViews
+-- for the crates above that write lists part by part
 pub mod Joined
-pub mod TypeMentions
+mod TypeMentions

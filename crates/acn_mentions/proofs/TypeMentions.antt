@@ -10,7 +10,7 @@ use Rattle.acn_asn_syntax.specs.declared.types.AsnBase.TheViews.{out-AsnType, ou
 use Rattle.acn_asn_syntax.specs.Mirror as plain
 use Rattle.acn_asn_syntax.specs.View.{type_view, base_view, constraint_view, component_view, constraints_of}
 use Rattle.acn_mentions.specs.Mentions.{Mention, mentions, base_mentions, all_constraint_mentions, default_mentions, between_mentions}
-use Rattle.acn_mentions.proofs.TypeViews.{open_type, open_component, view_Of, view_SizeOf}
+use Rattle.acn_asn_syntax.proofs.Views.{open_type, open_component, view_Of, view_SizeOf}
 
 -- of a type whose data is known
 of_data : (v : plain.AsnType) (tag : Option Tag) (b : plain.AsnBase) (cs : plain.Constraints) → v ≡ plain.type_of tag b cs → mentions v ≡ base_mentions b ++ all_constraint_mentions (Some v) cs

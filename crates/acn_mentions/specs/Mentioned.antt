@@ -21,9 +21,3 @@ mention_view (mention.Assignment name) = spec.in_assignment name.now
 
 abbrev pub mentions_view : List Mention → List spec.Mention
 mentions_view ms = map mention_view ms
-
-abbrev pub seen_meet : Bool × Meet → Bool × plain.Meet
-seen_meet p = (p.0, meet_view p.1)
-
-abbrev pub seen_part : Bool × Part → Bool × plain.Part
-seen_part p = (p.0, part_view p.1)

@@ -1,5 +1,6 @@
 -- Where the text of a type, an assignment or an ACN entry refers to something by name, in the order of the text.
 use Rattle.std.specs.Prelude.{ℕ, List, [], ◌∷◌, ◌++◌, Option, Some, None, flat_map}
+use Rattle.acn_num.specs.Names.{Name}
 use Rattle.acn_asn_syntax.specs.declared.values.AsnValue.{AsnValue}
 use Rattle.acn_asn_syntax.specs.declared.values.AsnValue.TheVariants as value
 use Rattle.acn_asn_syntax.specs.declared.types.Rest.{Rest}
@@ -15,9 +16,6 @@ use Rattle.acn_acn_syntax.specs.declared.modules.ParamKind.TheVariants as param_
 use Rattle.acn_acn_syntax.specs.declared.modules.Param.{Param}
 use Rattle.acn_mentions.specs.declared.mention.Role.{Role}
 use Rattle.acn_mentions.specs.declared.mention.Role.TheVariants as role
-
-abbrev Name : Type 0
-Name = List ℕ
 
 -- Where something is mentioned. A value in a constraint speaks of the type that the constraint is of, which is none
 -- between SEQUENCE and OF; it stands for one of the type's values, a size, or characters. The others stand behind

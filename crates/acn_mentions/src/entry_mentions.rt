@@ -7,7 +7,7 @@ use acn_acn_syntax::{AcnEntry, AcnField, Attr, FieldKind, Param, ParamKind};
 use acn_num::{Name, NoMemory, Row};
 
 /// Where an ACN entry refers to something by name.
-#[derive(Clone, Copy, Debug)]
+#[derive(Clone, Copy)]
 pub enum AcnMention<'t> {
     /// The type of a parameter.
     Parameter { name: &'t Name },
@@ -97,7 +97,7 @@ fn push_attributes<'t>(
 
 // Adds what is mentioned in a field.
 #[cycle(fields)]
-#[tactic(auto, unfolding(crate::specs::Mentions::field_mentions, crate::specs::Mentions::braces_mentions, crate::specs::Mentions::fields_mentions), using(crate::proofs::FieldViews::field_views))]
+#[tactic(auto, unfolding(crate::specs::Mentions::field_mentions, crate::specs::Mentions::braces_mentions, crate::specs::Mentions::fields_mentions), using(acn_acn_syntax::proofs::Views::field_views))]
 fn push_field<'t>(field: &'t AcnField, all: &mut Vec<AcnMention<'t>>) -> Result<(), NoMemory>
     ensures { OnOk result (acn_mentions_view all.new.items ≡ acn_mentions_view all.old.items ++ spec.field_mentions (field_of field.now)) }
 {
@@ -131,7 +131,7 @@ fn push_field<'t>(field: &'t AcnField, all: &mut Vec<AcnMention<'t>>) -> Result<
 
 // Adds what is mentioned in fields.
 #[cycle(fields)]
-#[tactic(auto, unfolding(crate::specs::Mentions::field_mentions, crate::specs::Mentions::braces_mentions, crate::specs::Mentions::fields_mentions), using(crate::proofs::FieldViews::field_views))]
+#[tactic(auto, unfolding(crate::specs::Mentions::field_mentions, crate::specs::Mentions::braces_mentions, crate::specs::Mentions::fields_mentions), using(acn_acn_syntax::proofs::Views::field_views))]
 fn push_fields<'t>(fields: &'t [AcnField], all: &mut Vec<AcnMention<'t>>) -> Result<(), NoMemory>
     ensures { OnOk result (acn_mentions_view all.new.items ≡ acn_mentions_view all.old.items ++ spec.fields_mentions (fields_view fields.now)) }
 {

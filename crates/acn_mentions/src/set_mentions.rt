@@ -1,6 +1,6 @@
 ghost use Rattle.std.specs.Prelude.{◌≡◌, ◌++◌, map, OnOk, Option};
-ghost use Rattle.acn_asn_syntax.specs.View.{element_view, set_view, meet_view, part_view, meets_of, parts_of};
-ghost use Rattle.acn_mentions.specs.Mentioned.{governor_view, mentions_view, seen_meet, seen_part};
+ghost use Rattle.acn_asn_syntax.specs.View.{seen_meet, seen_part, element_view, set_view, meet_view, part_view, meets_of, parts_of};
+ghost use Rattle.acn_mentions.specs.Mentioned.{governor_view, mentions_view};
 ghost use Rattle.acn_mentions.specs.Mentions as spec;
 ghost use Rattle.acn_mentions.specs.declared.mention.Role.TheVariants as role;
 
@@ -92,7 +92,7 @@ fn lettered(place: Place<'_>) -> Place<'_>
 
 /// Adds the identifiers in a set.
 #[cycle(set)]
-#[tactic(auto, unfolding(crate::specs::Mentions::in_set, crate::specs::Mentions::in_meets, crate::specs::Mentions::in_meet, crate::specs::Mentions::in_parts, crate::specs::Mentions::in_part, crate::specs::Mentions::in_element), using(crate::proofs::SetViews::set_views))]
+#[tactic(auto, unfolding(crate::specs::Mentions::in_set, crate::specs::Mentions::in_meets, crate::specs::Mentions::in_meet, crate::specs::Mentions::in_parts, crate::specs::Mentions::in_part, crate::specs::Mentions::in_element), using(acn_asn_syntax::proofs::Views::set_views))]
 pub fn push_set<'t>(
     set: &'t Set,
     place: Place<'t>,
@@ -112,7 +112,7 @@ pub fn push_set<'t>(
 
 // Adds those in meets, in order.
 #[cycle(set)]
-#[tactic(auto, unfolding(crate::specs::Mentions::in_set, crate::specs::Mentions::in_meets, crate::specs::Mentions::in_meet, crate::specs::Mentions::in_parts, crate::specs::Mentions::in_part, crate::specs::Mentions::in_element), using(crate::proofs::SetViews::set_views))]
+#[tactic(auto, unfolding(crate::specs::Mentions::in_set, crate::specs::Mentions::in_meets, crate::specs::Mentions::in_meet, crate::specs::Mentions::in_parts, crate::specs::Mentions::in_part, crate::specs::Mentions::in_element), using(acn_asn_syntax::proofs::Views::set_views))]
 fn push_meets<'t>(
     meets: &'t [(bool, Meet)],
     place: Place<'t>,
@@ -128,7 +128,7 @@ fn push_meets<'t>(
 
 // Adds those in a meet.
 #[cycle(set)]
-#[tactic(auto, unfolding(crate::specs::Mentions::in_set, crate::specs::Mentions::in_meets, crate::specs::Mentions::in_meet, crate::specs::Mentions::in_parts, crate::specs::Mentions::in_part, crate::specs::Mentions::in_element), using(crate::proofs::SetViews::set_views))]
+#[tactic(auto, unfolding(crate::specs::Mentions::in_set, crate::specs::Mentions::in_meets, crate::specs::Mentions::in_meet, crate::specs::Mentions::in_parts, crate::specs::Mentions::in_part, crate::specs::Mentions::in_element), using(acn_asn_syntax::proofs::Views::set_views))]
 fn push_meet<'t>(
     meet: &'t Meet,
     place: Place<'t>,
@@ -143,7 +143,7 @@ fn push_meet<'t>(
 
 // Adds those in parts, in order.
 #[cycle(set)]
-#[tactic(auto, unfolding(crate::specs::Mentions::in_set, crate::specs::Mentions::in_meets, crate::specs::Mentions::in_meet, crate::specs::Mentions::in_parts, crate::specs::Mentions::in_part, crate::specs::Mentions::in_element), using(crate::proofs::SetViews::set_views))]
+#[tactic(auto, unfolding(crate::specs::Mentions::in_set, crate::specs::Mentions::in_meets, crate::specs::Mentions::in_meet, crate::specs::Mentions::in_parts, crate::specs::Mentions::in_part, crate::specs::Mentions::in_element), using(acn_asn_syntax::proofs::Views::set_views))]
 fn push_parts<'t>(
     parts: &'t [(bool, Part)],
     place: Place<'t>,
@@ -159,7 +159,7 @@ fn push_parts<'t>(
 
 // Adds those in a part.
 #[cycle(set)]
-#[tactic(auto, unfolding(crate::specs::Mentions::in_set, crate::specs::Mentions::in_meets, crate::specs::Mentions::in_meet, crate::specs::Mentions::in_parts, crate::specs::Mentions::in_part, crate::specs::Mentions::in_element), using(crate::proofs::SetViews::set_views))]
+#[tactic(auto, unfolding(crate::specs::Mentions::in_set, crate::specs::Mentions::in_meets, crate::specs::Mentions::in_meet, crate::specs::Mentions::in_parts, crate::specs::Mentions::in_part, crate::specs::Mentions::in_element), using(acn_asn_syntax::proofs::Views::set_views))]
 fn push_part<'t>(
     part: &'t Part,
     place: Place<'t>,
@@ -179,7 +179,7 @@ fn push_part<'t>(
 
 // Adds those in an element.
 #[cycle(set)]
-#[tactic(auto, unfolding(crate::specs::Mentions::in_set, crate::specs::Mentions::in_meets, crate::specs::Mentions::in_meet, crate::specs::Mentions::in_parts, crate::specs::Mentions::in_part, crate::specs::Mentions::in_element), using(crate::proofs::SetViews::set_views))]
+#[tactic(auto, unfolding(crate::specs::Mentions::in_set, crate::specs::Mentions::in_meets, crate::specs::Mentions::in_meet, crate::specs::Mentions::in_parts, crate::specs::Mentions::in_part, crate::specs::Mentions::in_element), using(acn_asn_syntax::proofs::Views::set_views))]
 fn push_element<'t>(
     element: &'t Element,
     place: Place<'t>,

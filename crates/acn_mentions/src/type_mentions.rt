@@ -49,7 +49,7 @@ fn push_constraint_set<'t>(
 
 /// Adds what is mentioned in a type, in the order of the text.
 #[cycle(types)]
-#[tactic(auto, unfolding(crate::specs::Mentions::mentions, crate::specs::Mentions::base_mentions, crate::specs::Mentions::component_mentions, crate::specs::Mentions::alternative_mentions, crate::specs::Mentions::all_constraint_mentions, crate::specs::Mentions::constraint_mentions), using(crate::proofs::TypeViews::type_views, crate::proofs::TypeViews::part_views))]
+#[tactic(auto, unfolding(crate::specs::Mentions::mentions, crate::specs::Mentions::base_mentions, crate::specs::Mentions::component_mentions, crate::specs::Mentions::alternative_mentions, crate::specs::Mentions::all_constraint_mentions, crate::specs::Mentions::constraint_mentions), using(acn_asn_syntax::proofs::Views::type_views, acn_asn_syntax::proofs::Views::part_views))]
 pub fn push_type<'t>(of: &'t AsnType, all: &mut Vec<Mention<'t>>) -> Result<(), NoMemory>
     ensures { OnOk result (mentions_view all.new.items ≡ mentions_view all.old.items ++ spec.mentions (type_view of.now)) }
 {
@@ -60,7 +60,7 @@ pub fn push_type<'t>(of: &'t AsnType, all: &mut Vec<Mention<'t>>) -> Result<(), 
 
 // Adds what is mentioned in a type without its constraints.
 #[cycle(types)]
-#[tactic(auto, unfolding(crate::specs::Mentions::mentions, crate::specs::Mentions::base_mentions, crate::specs::Mentions::component_mentions, crate::specs::Mentions::alternative_mentions, crate::specs::Mentions::all_constraint_mentions, crate::specs::Mentions::constraint_mentions), using(crate::proofs::TypeViews::type_views, crate::proofs::TypeViews::part_views))]
+#[tactic(auto, unfolding(crate::specs::Mentions::mentions, crate::specs::Mentions::base_mentions, crate::specs::Mentions::component_mentions, crate::specs::Mentions::alternative_mentions, crate::specs::Mentions::all_constraint_mentions, crate::specs::Mentions::constraint_mentions), using(acn_asn_syntax::proofs::Views::type_views, acn_asn_syntax::proofs::Views::part_views))]
 fn push_base<'t>(base: &'t AsnBase, all: &mut Vec<Mention<'t>>) -> Result<(), NoMemory>
     ensures { OnOk result (mentions_view all.new.items ≡ mentions_view all.old.items ++ spec.base_mentions (base_view base.now)) }
 {
@@ -88,7 +88,7 @@ fn push_base<'t>(base: &'t AsnBase, all: &mut Vec<Mention<'t>>) -> Result<(), No
 
 // Adds what is mentioned in components.
 #[cycle(types)]
-#[tactic(auto, unfolding(crate::specs::Mentions::mentions, crate::specs::Mentions::base_mentions, crate::specs::Mentions::component_mentions, crate::specs::Mentions::alternative_mentions, crate::specs::Mentions::all_constraint_mentions, crate::specs::Mentions::constraint_mentions), using(crate::proofs::TypeViews::type_views, crate::proofs::TypeViews::part_views))]
+#[tactic(auto, unfolding(crate::specs::Mentions::mentions, crate::specs::Mentions::base_mentions, crate::specs::Mentions::component_mentions, crate::specs::Mentions::alternative_mentions, crate::specs::Mentions::all_constraint_mentions, crate::specs::Mentions::constraint_mentions), using(acn_asn_syntax::proofs::Views::type_views, acn_asn_syntax::proofs::Views::part_views))]
 fn push_components<'t>(
     components: &'t [Component],
     all: &mut Vec<Mention<'t>>,
@@ -103,7 +103,7 @@ fn push_components<'t>(
 
 // Adds what is mentioned in a component.
 #[cycle(types)]
-#[tactic(auto, unfolding(crate::specs::Mentions::mentions, crate::specs::Mentions::base_mentions, crate::specs::Mentions::component_mentions, crate::specs::Mentions::alternative_mentions, crate::specs::Mentions::all_constraint_mentions, crate::specs::Mentions::constraint_mentions), using(crate::proofs::TypeViews::type_views, crate::proofs::TypeViews::part_views))]
+#[tactic(auto, unfolding(crate::specs::Mentions::mentions, crate::specs::Mentions::base_mentions, crate::specs::Mentions::component_mentions, crate::specs::Mentions::alternative_mentions, crate::specs::Mentions::all_constraint_mentions, crate::specs::Mentions::constraint_mentions), using(acn_asn_syntax::proofs::Views::type_views, acn_asn_syntax::proofs::Views::part_views))]
 fn push_component<'t>(component: &'t Component, all: &mut Vec<Mention<'t>>) -> Result<(), NoMemory>
     ensures { OnOk result (mentions_view all.new.items ≡ mentions_view all.old.items ++ (spec.mentions (component_view component.now).of ++ spec.default_mentions (component_view component.now).of (component_view component.now).rest)) }
 {
@@ -114,7 +114,7 @@ fn push_component<'t>(component: &'t Component, all: &mut Vec<Mention<'t>>) -> R
 
 // Adds what is mentioned in alternatives.
 #[cycle(types)]
-#[tactic(auto, unfolding(crate::specs::Mentions::mentions, crate::specs::Mentions::base_mentions, crate::specs::Mentions::component_mentions, crate::specs::Mentions::alternative_mentions, crate::specs::Mentions::all_constraint_mentions, crate::specs::Mentions::constraint_mentions), using(crate::proofs::TypeViews::type_views, crate::proofs::TypeViews::part_views))]
+#[tactic(auto, unfolding(crate::specs::Mentions::mentions, crate::specs::Mentions::base_mentions, crate::specs::Mentions::component_mentions, crate::specs::Mentions::alternative_mentions, crate::specs::Mentions::all_constraint_mentions, crate::specs::Mentions::constraint_mentions), using(acn_asn_syntax::proofs::Views::type_views, acn_asn_syntax::proofs::Views::part_views))]
 fn push_alternatives<'t>(
     alternatives: &'t [Alternative],
     all: &mut Vec<Mention<'t>>,
@@ -129,7 +129,7 @@ fn push_alternatives<'t>(
 
 // Adds what is mentioned in an alternative.
 #[cycle(types)]
-#[tactic(auto, unfolding(crate::specs::Mentions::mentions, crate::specs::Mentions::base_mentions, crate::specs::Mentions::component_mentions, crate::specs::Mentions::alternative_mentions, crate::specs::Mentions::all_constraint_mentions, crate::specs::Mentions::constraint_mentions), using(crate::proofs::TypeViews::type_views, crate::proofs::TypeViews::part_views))]
+#[tactic(auto, unfolding(crate::specs::Mentions::mentions, crate::specs::Mentions::base_mentions, crate::specs::Mentions::component_mentions, crate::specs::Mentions::alternative_mentions, crate::specs::Mentions::all_constraint_mentions, crate::specs::Mentions::constraint_mentions), using(acn_asn_syntax::proofs::Views::type_views, acn_asn_syntax::proofs::Views::part_views))]
 fn push_alternative<'t>(
     alternative: &'t Alternative,
     all: &mut Vec<Mention<'t>>,
@@ -141,7 +141,7 @@ fn push_alternative<'t>(
 
 // Adds what is mentioned in constraints of a type.
 #[cycle(types)]
-#[tactic(auto, unfolding(crate::specs::Mentions::mentions, crate::specs::Mentions::base_mentions, crate::specs::Mentions::component_mentions, crate::specs::Mentions::alternative_mentions, crate::specs::Mentions::all_constraint_mentions, crate::specs::Mentions::constraint_mentions), using(crate::proofs::TypeViews::type_views, crate::proofs::TypeViews::part_views))]
+#[tactic(auto, unfolding(crate::specs::Mentions::mentions, crate::specs::Mentions::base_mentions, crate::specs::Mentions::component_mentions, crate::specs::Mentions::alternative_mentions, crate::specs::Mentions::all_constraint_mentions, crate::specs::Mentions::constraint_mentions), using(acn_asn_syntax::proofs::Views::type_views, acn_asn_syntax::proofs::Views::part_views))]
 fn push_constraints<'t>(
     constraints: &'t [Constraint],
     governor: Option<&'t AsnType>,
@@ -157,7 +157,7 @@ fn push_constraints<'t>(
 
 // Adds what is mentioned in a constraint of a type.
 #[cycle(types)]
-#[tactic(auto, unfolding(crate::specs::Mentions::mentions, crate::specs::Mentions::base_mentions, crate::specs::Mentions::component_mentions, crate::specs::Mentions::alternative_mentions, crate::specs::Mentions::all_constraint_mentions, crate::specs::Mentions::constraint_mentions), using(crate::proofs::TypeViews::type_views, crate::proofs::TypeViews::part_views))]
+#[tactic(auto, unfolding(crate::specs::Mentions::mentions, crate::specs::Mentions::base_mentions, crate::specs::Mentions::component_mentions, crate::specs::Mentions::alternative_mentions, crate::specs::Mentions::all_constraint_mentions, crate::specs::Mentions::constraint_mentions), using(acn_asn_syntax::proofs::Views::type_views, acn_asn_syntax::proofs::Views::part_views))]
 fn push_constraint<'t>(
     constraint: &'t Constraint,
     governor: Option<&'t AsnType>,
@@ -174,7 +174,7 @@ fn push_constraint<'t>(
 
 // Adds what is mentioned between SEQUENCE and OF.
 #[cycle(types)]
-#[tactic(auto, unfolding(crate::specs::Mentions::mentions, crate::specs::Mentions::base_mentions, crate::specs::Mentions::component_mentions, crate::specs::Mentions::alternative_mentions, crate::specs::Mentions::all_constraint_mentions, crate::specs::Mentions::constraint_mentions), using(crate::proofs::TypeViews::type_views, crate::proofs::TypeViews::part_views))]
+#[tactic(auto, unfolding(crate::specs::Mentions::mentions, crate::specs::Mentions::base_mentions, crate::specs::Mentions::component_mentions, crate::specs::Mentions::alternative_mentions, crate::specs::Mentions::all_constraint_mentions, crate::specs::Mentions::constraint_mentions), using(acn_asn_syntax::proofs::Views::type_views, acn_asn_syntax::proofs::Views::part_views))]
 fn push_between<'t>(
     between: &'t Option<Constraint>,
     all: &mut Vec<Mention<'t>>,

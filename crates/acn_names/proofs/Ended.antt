@@ -5,7 +5,8 @@ use Rattle.std.specs.List.{enumerate_from}
 use Rattle.acn_asn_syntax.specs.Mirror.{AsnModule, AsnType, Assign, ValueIs}
 use Rattle.acn_asn_syntax.specs.declared.values.AsnValue.{AsnValue}
 use Rattle.acn_asn_syntax.specs.declared.values.AsnValue.TheVariants as value
-use Rattle.acn_world.specs.World.{World, Name, place, assignment, module_places, places, count}
+use Rattle.acn_num.specs.Names.{Name}
+use Rattle.acn_world.specs.World.{World, place, assignment, module_places, places, count}
 use Rattle.acn_world.specs.Lookup.{value_named}
 use Rattle.acn_world.specs.Values.{Worth, refers, first_worth, value_within, value_of}
 use Rattle.acn_world.specs.Cycles.{Within, here, there, targets, targets_of, Reaches, once, more}

@@ -4,7 +4,8 @@ use Rattle.std.specs.Prelude.{Result, Ok, Err, IfOk, IsSome, MatchOption, option
 use Rattle.std.specs.Borrow.{Bor}
 use Rattle.acn_num.specs.declared.memory.NoMemory.{NoMemory}
 use Rattle.acn_num.specs.declared.name.Name as num
-use Rattle.acn_world.specs.World.{World, Name}
+use Rattle.acn_num.specs.Names.{Name}
+use Rattle.acn_world.specs.World.{World}
 use Rattle.acn_world.specs.Cycles.{HasNoCycle, IsFirstCycle, wrong_kinds}
 use Rattle.acn_world.specs.Faults.{first, early_fault, module_name_at, name_at, names_at, IsFault, early, cyclic, late, IsSound}
 use Rattle.acn_world.specs.declared.sources.TypeId.{TypeId}

@@ -5,7 +5,8 @@ use Rattle.std.specs.List.{enumerate_from}
 use Rattle.std.proofs.lemmas.Grind.{flat_map-append}
 use Rattle.acn_asn_syntax.specs.Mirror.{AsnModule, AsnType, Assign, ValueIs}
 use Rattle.acn_asn_syntax.specs.declared.values.AsnValue.TheVariants as value
-use Rattle.acn_world.specs.World.{World, Name, assignment}
+use Rattle.acn_num.specs.Names.{Name}
+use Rattle.acn_world.specs.World.{World, assignment}
 use Rattle.acn_world.specs.Lookup.{value_named, imports_of}
 use Rattle.acn_mentions.specs.Mentions.{Mention, in_assignment, mentions, assign_mentions}
 use Rattle.acn_world.specs.Repeated.{repeats, when}

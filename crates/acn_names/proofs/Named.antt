@@ -3,7 +3,8 @@ use Rattle.std.proofs.Common.{◌≡◌, Option, Some, None, refl, sym, ap, ◌�
 use Rattle.std.specs.Prelude.{option_map, option_copied, option_and_then, slice_get, IsSome}
 use Rattle.std.specs.Borrow.{Bor}
 use Rattle.acn_asn_syntax.specs.Mirror.{AsnModule, Assign}
-use Rattle.acn_world.specs.World.{World, Name, name_of, assignment}
+use Rattle.acn_num.specs.Names.{Name}
+use Rattle.acn_world.specs.World.{World, name_of, assignment}
 use Rattle.acn_world.specs.Faults.{module_name_at, name_at}
 use Rattle.acn_world.specs.declared.sources.TypeId.{TypeId}
 

@@ -5,7 +5,8 @@ use Rattle.std.specs.Option.{option_or}
 use Rattle.std.specs.List.{position_from}
 use Rattle.acn_asn_syntax.specs.Mirror.{AsnModule, AsnType, Assign, TypeIs, ValueIs}
 use Rattle.acn_asn_syntax.specs.declared.values.AsnValue.{AsnValue}
-use Rattle.acn_world.specs.World.{World, Name, place, assignment}
+use Rattle.acn_num.specs.Names.{Name}
+use Rattle.acn_world.specs.World.{World, place, assignment}
 use Rattle.acn_world.specs.Lookup.{own, imported_from, found_within, found, value_named, is_value}
 use Rattle.acn_world.specs.declared.sources.TypeId.{TypeId}
 

@@ -1,6 +1,7 @@
 -- Laws about the values of a sound world.
 use Rattle.std.specs.Prelude.{◌≡◌, ℕ, is_some}
-use Rattle.acn_world.specs.World.{Name, World}
+use Rattle.acn_num.specs.Names.{Name}
+use Rattle.acn_world.specs.World.{World}
 use Rattle.acn_world.specs.Lookup.{value_named}
 use Rattle.acn_world.specs.Values.{value_of}
 use Rattle.acn_world.specs.Faults.{IsSound}

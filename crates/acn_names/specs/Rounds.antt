@@ -1,6 +1,7 @@
 -- The fault of what reaches itself.
 use Rattle.std.specs.Prelude.{◌≡◌, List, Some}
-use Rattle.acn_world.specs.World.{Name, World}
+use Rattle.acn_num.specs.Names.{Name}
+use Rattle.acn_world.specs.World.{World}
 use Rattle.acn_world.specs.Faults.{module_name_at, name_at, names_at}
 use Rattle.acn_world.specs.declared.sources.TypeId.{TypeId}
 use Rattle.acn_world.specs.declared.fault.NameFault.{NameFault}

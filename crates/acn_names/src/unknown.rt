@@ -54,7 +54,7 @@ fn is_item(name: &[u8], items: &[Item]) -> bool
 }
 
 // Whether a type gives this name to a number or an item.
-#[tactic(auto, using(acn_mentions::proofs::TypeViews::type_views))]
+#[tactic(auto, using(acn_asn_syntax::proofs::Views::type_views))]
 fn is_base_name(name: &[u8], base: &AsnBase) -> bool
     ensures { result ≡ repeated.is_among name.now (spec.base_names (base_view base.now)) }
 {

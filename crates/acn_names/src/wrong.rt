@@ -27,7 +27,7 @@ use acn_world::values::leads_to_number;
 use std::alloc::Global;
 
 // Whether the type is INTEGER.
-#[tactic(auto, using(acn_mentions::proofs::TypeViews::type_views))]
+#[tactic(auto, using(acn_asn_syntax::proofs::Views::type_views))]
 fn is_integer(base: &AsnBase) -> bool
     ensures { result ≡ spec.is_integer (base_view base.now) }
 {
@@ -47,7 +47,7 @@ fn is_integer(base: &AsnBase) -> bool
 }
 
 // Whether the type may be that of a parameter.
-#[tactic(auto, using(acn_mentions::proofs::TypeViews::type_views))]
+#[tactic(auto, using(acn_asn_syntax::proofs::Views::type_views))]
 fn fits_parameter(base: &AsnBase) -> bool
     ensures { result ≡ spec.fits_parameter (base_view base.now) }
 {
@@ -67,7 +67,7 @@ fn fits_parameter(base: &AsnBase) -> bool
 }
 
 // Whether the type may be that of an inserted field.
-#[tactic(auto, using(acn_mentions::proofs::TypeViews::type_views))]
+#[tactic(auto, using(acn_asn_syntax::proofs::Views::type_views))]
 fn fits_field(base: &AsnBase) -> bool
     ensures { result ≡ spec.fits_field (base_view base.now) }
 {

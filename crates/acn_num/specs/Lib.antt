@@ -1,4 +1,5 @@
 pub mod formers
+pub mod Names
 pub mod Bits
 pub mod Ranges
 pub mod Widths

@@ -3,7 +3,7 @@ use Rattle.std.proofs.Common.{◌≡◌, ℕ, List, [], ◌∷◌, ◌++◌, is_
 use Rattle.std.specs.Prelude.{map, ◌||◌}
 use Rattle.std.specs.Str.{bytes_eq}
 use Rattle.acn_firsts.specs.Placed.{place_of, noted, noted_all, noted_at}
-use Rattle.acn_world.specs.World.{Name}
+use Rattle.acn_num.specs.Names.{Name}
 use Rattle.acn_world.specs.Repeated.{is_among}
 
 -- one name more

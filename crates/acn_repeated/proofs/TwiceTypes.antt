@@ -9,9 +9,9 @@ use Rattle.acn_asn_syntax.specs.declared.types.AsnBase.TheVariants as base
 use Rattle.acn_asn_syntax.specs.declared.types.AsnBase.TheViews.{out-AsnType, out-Component, out-Alternative}
 use Rattle.acn_asn_syntax.specs.Mirror as plain
 use Rattle.acn_asn_syntax.specs.View.{type_view, base_view, constraint_view, component_view, alternative_view, constraints_of}
-use Rattle.acn_world.specs.World.{Name}
+use Rattle.acn_num.specs.Names.{Name}
 use Rattle.acn_world.specs.Repeated.{again, twice, twice_base, twice_constraints, twice_between}
-use Rattle.acn_mentions.proofs.TypeViews.{open_type, open_component, open_alternative, view_Of, view_SizeOf}
+use Rattle.acn_asn_syntax.proofs.Views.{open_type, open_component, open_alternative, view_Of, view_SizeOf}
 
 pub opened_type : (t : AsnType) → twice (type_view t) ≡ twice_base (base_view (out-AsnType t).base) ++ twice_constraints (constraints_of (map constraint_view (out-AsnType t).constraints))
 unfolding twice

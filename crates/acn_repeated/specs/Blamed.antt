@@ -1,6 +1,6 @@
 -- Faults in the program as plain data.
 use Rattle.std.specs.Prelude.{List, map}
-use Rattle.acn_world.specs.World.{Name}
+use Rattle.acn_num.specs.Names.{Name}
 use Rattle.acn_world.specs.declared.fault.NameFault.{NameFault}
 use Rattle.acn_world.specs.declared.fault.NameFault.TheVariants as fault
 use Rattle.acn_repeated.specs.declared.blame.Blame.{Blame}

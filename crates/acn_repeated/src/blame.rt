@@ -18,7 +18,7 @@ pub enum Kind {
 }
 
 /// A fault, with the module in whose text the name stands.
-#[derive(Clone, Copy, Debug)]
+#[derive(Clone, Copy)]
 pub struct Blame<'w> {
     pub kind: Kind,
     pub owner: &'w Name,

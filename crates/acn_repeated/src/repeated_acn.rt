@@ -13,7 +13,7 @@ use std::alloc::Global;
 
 // Adds what a field gives twice, and sees its name.
 #[cycle(fields)]
-#[tactic(auto, unfolding(acn_world::specs::Repeated::twice_field, acn_world::specs::Repeated::twice_braces, acn_world::specs::Repeated::twice_fields), using(acn_mentions::proofs::FieldViews::field_views))]
+#[tactic(auto, unfolding(acn_world::specs::Repeated::twice_field, acn_world::specs::Repeated::twice_braces, acn_world::specs::Repeated::twice_fields), using(acn_acn_syntax::proofs::Views::field_views))]
 fn push_twice_field<'t>(
     alloc: Global,
     field: &'t AcnField,
@@ -51,7 +51,7 @@ fn push_twice_field<'t>(
 
 // Adds what fields give twice, behind the names that were seen.
 #[cycle(fields)]
-#[tactic(auto, unfolding(acn_world::specs::Repeated::twice_field, acn_world::specs::Repeated::twice_braces, acn_world::specs::Repeated::twice_fields), using(acn_mentions::proofs::FieldViews::field_views))]
+#[tactic(auto, unfolding(acn_world::specs::Repeated::twice_field, acn_world::specs::Repeated::twice_braces, acn_world::specs::Repeated::twice_fields), using(acn_acn_syntax::proofs::Views::field_views))]
 fn push_twice_fields<'t>(
     alloc: Global,
     fields: &'t [AcnField],

@@ -11,7 +11,7 @@ use std::alloc::Global;
 
 /// Adds the names that are given twice in a type, in the order of the text.
 #[cycle(types)]
-#[tactic(auto, unfolding(acn_world::specs::Repeated::twice, acn_world::specs::Repeated::twice_base, acn_world::specs::Repeated::twice_components, acn_world::specs::Repeated::twice_alternatives, acn_world::specs::Repeated::twice_constraints, acn_world::specs::Repeated::twice_constraint), using(acn_mentions::proofs::TypeViews::type_views, acn_mentions::proofs::TypeViews::part_views))]
+#[tactic(auto, unfolding(acn_world::specs::Repeated::twice, acn_world::specs::Repeated::twice_base, acn_world::specs::Repeated::twice_components, acn_world::specs::Repeated::twice_alternatives, acn_world::specs::Repeated::twice_constraints, acn_world::specs::Repeated::twice_constraint), using(acn_asn_syntax::proofs::Views::type_views, acn_asn_syntax::proofs::Views::part_views))]
 pub fn push_twice<'t>(
     alloc: Global,
     of: &'t AsnType,
@@ -26,7 +26,7 @@ pub fn push_twice<'t>(
 
 // Adds those in a type without its constraints.
 #[cycle(types)]
-#[tactic(auto, unfolding(acn_world::specs::Repeated::twice, acn_world::specs::Repeated::twice_base, acn_world::specs::Repeated::twice_components, acn_world::specs::Repeated::twice_alternatives, acn_world::specs::Repeated::twice_constraints, acn_world::specs::Repeated::twice_constraint), using(acn_mentions::proofs::TypeViews::type_views, acn_mentions::proofs::TypeViews::part_views))]
+#[tactic(auto, unfolding(acn_world::specs::Repeated::twice, acn_world::specs::Repeated::twice_base, acn_world::specs::Repeated::twice_components, acn_world::specs::Repeated::twice_alternatives, acn_world::specs::Repeated::twice_constraints, acn_world::specs::Repeated::twice_constraint), using(acn_asn_syntax::proofs::Views::type_views, acn_asn_syntax::proofs::Views::part_views))]
 fn push_twice_base<'t>(
     alloc: Global,
     base: &'t AsnBase,
@@ -61,7 +61,7 @@ fn push_twice_base<'t>(
 
 // Adds those in components, behind the names that were seen.
 #[cycle(types)]
-#[tactic(auto, unfolding(acn_world::specs::Repeated::twice, acn_world::specs::Repeated::twice_base, acn_world::specs::Repeated::twice_components, acn_world::specs::Repeated::twice_alternatives, acn_world::specs::Repeated::twice_constraints, acn_world::specs::Repeated::twice_constraint), using(acn_mentions::proofs::TypeViews::type_views, acn_mentions::proofs::TypeViews::part_views))]
+#[tactic(auto, unfolding(acn_world::specs::Repeated::twice, acn_world::specs::Repeated::twice_base, acn_world::specs::Repeated::twice_components, acn_world::specs::Repeated::twice_alternatives, acn_world::specs::Repeated::twice_constraints, acn_world::specs::Repeated::twice_constraint), using(acn_asn_syntax::proofs::Views::type_views, acn_asn_syntax::proofs::Views::part_views))]
 fn push_twice_components<'t>(
     alloc: Global,
     components: &'t [Component],
@@ -78,7 +78,7 @@ fn push_twice_components<'t>(
 
 // Adds those of a component, and sees its name.
 #[cycle(types)]
-#[tactic(auto, unfolding(acn_world::specs::Repeated::twice, acn_world::specs::Repeated::twice_base, acn_world::specs::Repeated::twice_components, acn_world::specs::Repeated::twice_alternatives, acn_world::specs::Repeated::twice_constraints, acn_world::specs::Repeated::twice_constraint), using(acn_mentions::proofs::TypeViews::type_views, acn_mentions::proofs::TypeViews::part_views))]
+#[tactic(auto, unfolding(acn_world::specs::Repeated::twice, acn_world::specs::Repeated::twice_base, acn_world::specs::Repeated::twice_components, acn_world::specs::Repeated::twice_alternatives, acn_world::specs::Repeated::twice_constraints, acn_world::specs::Repeated::twice_constraint), using(acn_asn_syntax::proofs::Views::type_views, acn_asn_syntax::proofs::Views::part_views))]
 fn push_twice_component<'t>(
     alloc: Global,
     component: &'t Component,
@@ -96,7 +96,7 @@ fn push_twice_component<'t>(
 
 // Adds those in alternatives, behind the names that were seen.
 #[cycle(types)]
-#[tactic(auto, unfolding(acn_world::specs::Repeated::twice, acn_world::specs::Repeated::twice_base, acn_world::specs::Repeated::twice_components, acn_world::specs::Repeated::twice_alternatives, acn_world::specs::Repeated::twice_constraints, acn_world::specs::Repeated::twice_constraint), using(acn_mentions::proofs::TypeViews::type_views, acn_mentions::proofs::TypeViews::part_views))]
+#[tactic(auto, unfolding(acn_world::specs::Repeated::twice, acn_world::specs::Repeated::twice_base, acn_world::specs::Repeated::twice_components, acn_world::specs::Repeated::twice_alternatives, acn_world::specs::Repeated::twice_constraints, acn_world::specs::Repeated::twice_constraint), using(acn_asn_syntax::proofs::Views::type_views, acn_asn_syntax::proofs::Views::part_views))]
 fn push_twice_alternatives<'t>(
     alloc: Global,
     alternatives: &'t [Alternative],
@@ -113,7 +113,7 @@ fn push_twice_alternatives<'t>(
 
 // Adds those of an alternative, and sees its name.
 #[cycle(types)]
-#[tactic(auto, unfolding(acn_world::specs::Repeated::twice, acn_world::specs::Repeated::twice_base, acn_world::specs::Repeated::twice_components, acn_world::specs::Repeated::twice_alternatives, acn_world::specs::Repeated::twice_constraints, acn_world::specs::Repeated::twice_constraint), using(acn_mentions::proofs::TypeViews::type_views, acn_mentions::proofs::TypeViews::part_views))]
+#[tactic(auto, unfolding(acn_world::specs::Repeated::twice, acn_world::specs::Repeated::twice_base, acn_world::specs::Repeated::twice_components, acn_world::specs::Repeated::twice_alternatives, acn_world::specs::Repeated::twice_constraints, acn_world::specs::Repeated::twice_constraint), using(acn_asn_syntax::proofs::Views::type_views, acn_asn_syntax::proofs::Views::part_views))]
 fn push_twice_alternative<'t>(
     alloc: Global,
     alternative: &'t Alternative,
@@ -131,7 +131,7 @@ fn push_twice_alternative<'t>(
 
 // Adds those in constraints.
 #[cycle(types)]
-#[tactic(auto, unfolding(acn_world::specs::Repeated::twice, acn_world::specs::Repeated::twice_base, acn_world::specs::Repeated::twice_components, acn_world::specs::Repeated::twice_alternatives, acn_world::specs::Repeated::twice_constraints, acn_world::specs::Repeated::twice_constraint), using(acn_mentions::proofs::TypeViews::type_views, acn_mentions::proofs::TypeViews::part_views))]
+#[tactic(auto, unfolding(acn_world::specs::Repeated::twice, acn_world::specs::Repeated::twice_base, acn_world::specs::Repeated::twice_components, acn_world::specs::Repeated::twice_alternatives, acn_world::specs::Repeated::twice_constraints, acn_world::specs::Repeated::twice_constraint), using(acn_asn_syntax::proofs::Views::type_views, acn_asn_syntax::proofs::Views::part_views))]
 fn push_twice_constraints<'t>(
     alloc: Global,
     constraints: &'t [Constraint],
@@ -147,7 +147,7 @@ fn push_twice_constraints<'t>(
 
 // Adds those in a constraint.
 #[cycle(types)]
-#[tactic(auto, unfolding(acn_world::specs::Repeated::twice, acn_world::specs::Repeated::twice_base, acn_world::specs::Repeated::twice_components, acn_world::specs::Repeated::twice_alternatives, acn_world::specs::Repeated::twice_constraints, acn_world::specs::Repeated::twice_constraint), using(acn_mentions::proofs::TypeViews::type_views, acn_mentions::proofs::TypeViews::part_views))]
+#[tactic(auto, unfolding(acn_world::specs::Repeated::twice, acn_world::specs::Repeated::twice_base, acn_world::specs::Repeated::twice_components, acn_world::specs::Repeated::twice_alternatives, acn_world::specs::Repeated::twice_constraints, acn_world::specs::Repeated::twice_constraint), using(acn_asn_syntax::proofs::Views::type_views, acn_asn_syntax::proofs::Views::part_views))]
 fn push_twice_constraint<'t>(
     alloc: Global,
     constraint: &'t Constraint,
@@ -164,7 +164,7 @@ fn push_twice_constraint<'t>(
 
 // Adds those between SEQUENCE and OF.
 #[cycle(types)]
-#[tactic(auto, unfolding(acn_world::specs::Repeated::twice, acn_world::specs::Repeated::twice_base, acn_world::specs::Repeated::twice_components, acn_world::specs::Repeated::twice_alternatives, acn_world::specs::Repeated::twice_constraints, acn_world::specs::Repeated::twice_constraint), using(acn_mentions::proofs::TypeViews::type_views, acn_mentions::proofs::TypeViews::part_views))]
+#[tactic(auto, unfolding(acn_world::specs::Repeated::twice, acn_world::specs::Repeated::twice_base, acn_world::specs::Repeated::twice_components, acn_world::specs::Repeated::twice_alternatives, acn_world::specs::Repeated::twice_constraints, acn_world::specs::Repeated::twice_constraint), using(acn_asn_syntax::proofs::Views::type_views, acn_asn_syntax::proofs::Views::part_views))]
 fn push_twice_between<'t>(
     alloc: Global,
     between: &'t Option<Constraint>,

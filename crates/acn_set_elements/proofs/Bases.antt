@@ -6,7 +6,7 @@ use Rattle.acn_asn_syntax.specs.declared.types.AsnType.{AsnType}
 use Rattle.acn_asn_syntax.specs.declared.types.AsnBase.{AsnBase}
 use Rattle.acn_asn_syntax.specs.declared.types.AsnBase.TheVariants as base
 use Rattle.acn_asn_syntax.specs.declared.types.Constraint.{Constraint}
-use Rattle.acn_mentions.proofs.TypeViews.{view_Of, view_SizeOf}
+use Rattle.acn_asn_syntax.proofs.Views.{view_Of, view_SizeOf}
 
 pub at_base : {A : Type 0} (f : plain.AsnBase → A) {b c : AsnBase} {d : plain.AsnBase} → b ≡ c → base_view c ≡ d → f (base_view b) ≡ f d
 at_base f e v = ap f (ap base_view e ∙ v)

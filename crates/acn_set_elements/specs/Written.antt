@@ -7,7 +7,8 @@ use Rattle.acn_asn_syntax.specs.Mirror.{AsnBase, integer}
 use Rattle.acn_asn_syntax.specs.declared.types.Named.{Named}
 use Rattle.acn_asn_syntax.specs.declared.values.AsnValue.{AsnValue}
 use Rattle.acn_asn_syntax.specs.declared.values.AsnValue.TheVariants as value
-use Rattle.acn_world.specs.World.{Name, World}
+use Rattle.acn_num.specs.Names.{Name}
+use Rattle.acn_world.specs.World.{World}
 use Rattle.acn_world.specs.Values.{value_of}
 
 -- ---- numbers (X.680 clause 19)

@@ -2,10 +2,9 @@
 
 ghost use Rattle.std.specs.Prelude.{◌≡◌, [], ◌&&◌, map, filter};
 ghost use Rattle.std.specs.List.{list_all};
-ghost use Rattle.acn_asn_syntax.specs.View.{base_view, constraint_view, element_view, set_view, meet_view, part_view, meets_of, parts_of};
+ghost use Rattle.acn_asn_syntax.specs.View.{seen_meet, seen_part, base_view, constraint_view, element_view, set_view, meet_view, part_view, meets_of, parts_of};
 ghost use Rattle.acn_asn_syntax.specs.Mirror.{part_of, union_of};
 ghost use Rattle.acn_world.specs.Chained.{constraints_view};
-ghost use Rattle.acn_mentions.specs.Mentioned.{seen_meet, seen_part};
 ghost use Rattle.acn_world.specs.Viewed.{world_view};
 ghost use Rattle.acn_set_elements.specs.Material.{built_of};
 ghost use Rattle.acn_set_elements.specs.Stands as spec;
@@ -68,7 +67,7 @@ fn range_fits(site: Site<'_>, range: &AsnRange) -> bool
 
 /// Whether a set is built of what it is to be built of.
 #[cycle(built)]
-#[tactic(auto, unfolding(crate::specs::Stands::built, crate::specs::Stands::meets_built, crate::specs::Stands::meet_built, crate::specs::Stands::parts_built, crate::specs::Stands::part_built, crate::specs::Stands::element_built), using(acn_mentions::proofs::SetViews::set_views))]
+#[tactic(auto, unfolding(crate::specs::Stands::built, crate::specs::Stands::meets_built, crate::specs::Stands::meet_built, crate::specs::Stands::parts_built, crate::specs::Stands::part_built, crate::specs::Stands::element_built), using(acn_asn_syntax::proofs::Views::set_views))]
 pub fn built(set: &Set, site: Site<'_>) -> bool
     ensures { result ≡ spec.built (world_view site.entry.world.now) site.entry.owner (built_of site.entry.of) (set_view set.now) }
 {
@@ -83,7 +82,7 @@ pub fn built(set: &Set, site: Site<'_>) -> bool
 }
 
 #[cycle(built)]
-#[tactic(auto, unfolding(crate::specs::Stands::built, crate::specs::Stands::meets_built, crate::specs::Stands::meet_built, crate::specs::Stands::parts_built, crate::specs::Stands::part_built, crate::specs::Stands::element_built), using(acn_mentions::proofs::SetViews::set_views))]
+#[tactic(auto, unfolding(crate::specs::Stands::built, crate::specs::Stands::meets_built, crate::specs::Stands::meet_built, crate::specs::Stands::parts_built, crate::specs::Stands::part_built, crate::specs::Stands::element_built), using(acn_asn_syntax::proofs::Views::set_views))]
 fn meets_built(more: &[(bool, Meet)], site: Site<'_>) -> bool
     ensures { result ≡ spec.meets_built (world_view site.entry.world.now) site.entry.owner (built_of site.entry.of) (meets_of (map seen_meet more.now)) }
 {
@@ -96,7 +95,7 @@ fn meets_built(more: &[(bool, Meet)], site: Site<'_>) -> bool
 }
 
 #[cycle(built)]
-#[tactic(auto, unfolding(crate::specs::Stands::built, crate::specs::Stands::meets_built, crate::specs::Stands::meet_built, crate::specs::Stands::parts_built, crate::specs::Stands::part_built, crate::specs::Stands::element_built), using(acn_mentions::proofs::SetViews::set_views))]
+#[tactic(auto, unfolding(crate::specs::Stands::built, crate::specs::Stands::meets_built, crate::specs::Stands::meet_built, crate::specs::Stands::parts_built, crate::specs::Stands::part_built, crate::specs::Stands::element_built), using(acn_asn_syntax::proofs::Views::set_views))]
 fn meet_built(meet: &Meet, site: Site<'_>) -> bool
     ensures { result ≡ spec.meet_built (world_view site.entry.world.now) site.entry.owner (built_of site.entry.of) (meet_view meet.now) }
 {
@@ -104,7 +103,7 @@ fn meet_built(meet: &Meet, site: Site<'_>) -> bool
 }
 
 #[cycle(built)]
-#[tactic(auto, unfolding(crate::specs::Stands::built, crate::specs::Stands::meets_built, crate::specs::Stands::meet_built, crate::specs::Stands::parts_built, crate::specs::Stands::part_built, crate::specs::Stands::element_built), using(acn_mentions::proofs::SetViews::set_views))]
+#[tactic(auto, unfolding(crate::specs::Stands::built, crate::specs::Stands::meets_built, crate::specs::Stands::meet_built, crate::specs::Stands::parts_built, crate::specs::Stands::part_built, crate::specs::Stands::element_built), using(acn_asn_syntax::proofs::Views::set_views))]
 fn parts_built(more: &[(bool, Part)], site: Site<'_>) -> bool
     ensures { result ≡ spec.parts_built (world_view site.entry.world.now) site.entry.owner (built_of site.entry.of) (parts_of (map seen_part more.now)) }
 {
@@ -117,7 +116,7 @@ fn parts_built(more: &[(bool, Part)], site: Site<'_>) -> bool
 }
 
 #[cycle(built)]
-#[tactic(auto, unfolding(crate::specs::Stands::built, crate::specs::Stands::meets_built, crate::specs::Stands::meet_built, crate::specs::Stands::parts_built, crate::specs::Stands::part_built, crate::specs::Stands::element_built), using(acn_mentions::proofs::SetViews::set_views))]
+#[tactic(auto, unfolding(crate::specs::Stands::built, crate::specs::Stands::meets_built, crate::specs::Stands::meet_built, crate::specs::Stands::parts_built, crate::specs::Stands::part_built, crate::specs::Stands::element_built), using(acn_asn_syntax::proofs::Views::set_views))]
 fn part_built(part: &Part, site: Site<'_>) -> bool
     ensures { result ≡ spec.part_built (world_view site.entry.world.now) site.entry.owner (built_of site.entry.of) (part_view part.now) }
 {
@@ -128,7 +127,7 @@ fn part_built(part: &Part, site: Site<'_>) -> bool
 }
 
 #[cycle(built)]
-#[tactic(auto, unfolding(crate::specs::Stands::built, crate::specs::Stands::meets_built, crate::specs::Stands::meet_built, crate::specs::Stands::parts_built, crate::specs::Stands::part_built, crate::specs::Stands::element_built), using(acn_mentions::proofs::SetViews::set_views))]
+#[tactic(auto, unfolding(crate::specs::Stands::built, crate::specs::Stands::meets_built, crate::specs::Stands::meet_built, crate::specs::Stands::parts_built, crate::specs::Stands::part_built, crate::specs::Stands::element_built), using(acn_asn_syntax::proofs::Views::set_views))]
 fn element_built(element: &Element, site: Site<'_>) -> bool
     ensures { result ≡ spec.element_built (world_view site.entry.world.now) site.entry.owner (built_of site.entry.of) (element_view element.now) }
 {
@@ -157,7 +156,7 @@ fn texts_stand(set: &Set, world: &World, owner: u32) -> bool
 }
 
 // Whether an element is one FROM of texts.
-#[tactic(auto, using(acn_mentions::proofs::SetViews::set_views))]
+#[tactic(auto, using(acn_asn_syntax::proofs::Views::set_views))]
 fn from_stands(element: &Element, world: &World, owner: u32) -> bool
     ensures { result ≡ spec.is_from (world_view world.now) owner (part_of (element_view element.now)) }
 {
@@ -171,7 +170,7 @@ fn from_stands(element: &Element, world: &World, owner: u32) -> bool
 }
 
 // Whether a part is one FROM of texts.
-#[tactic(auto, using(acn_mentions::proofs::SetViews::set_views))]
+#[tactic(auto, using(acn_asn_syntax::proofs::Views::set_views))]
 fn is_from(part: &Part, world: &World, owner: u32) -> bool
     ensures { result ≡ spec.is_from (world_view world.now) owner (part_view part.now) }
 {
@@ -207,7 +206,7 @@ fn text_parts(more: &[(bool, Part)], world: &World, owner: u32) -> bool
     true
 }
 
-#[tactic(auto, using(acn_mentions::proofs::SetViews::set_views))]
+#[tactic(auto, using(acn_asn_syntax::proofs::Views::set_views))]
 fn text_meet(meet: &Meet, world: &World, owner: u32) -> bool
     ensures { result ≡ spec.text_meet (world_view world.now) owner (meet_view meet.now) }
 {
@@ -235,7 +234,7 @@ fn text_union(first: &Meet, more: &[(bool, Meet)], world: &World, owner: u32) ->
 }
 
 // Whether a set may stand on a string of characters.
-#[tactic(auto, using(acn_mentions::proofs::SetViews::set_views))]
+#[tactic(auto, using(acn_asn_syntax::proofs::Views::set_views))]
 fn text_set(set: &Set, world: &World, owner: u32) -> bool
     ensures { result ≡ spec.text_set (world_view world.now) owner (set_view set.now) }
 {

@@ -1,7 +1,8 @@
 -- The steps of a look-up from module to module.
 use Rattle.std.proofs.Common.{◌≡◌, ℕ, zero, suc, ◌<◌, ◌≤◌, Bool, Some, None, refl, arith}
 use Rattle.acn_asn_syntax.specs.Mirror.{Assign}
-use Rattle.acn_world.specs.World.{World, Name}
+use Rattle.acn_num.specs.Names.{Name}
+use Rattle.acn_world.specs.World.{World}
 use Rattle.acn_world.specs.Lookup.{own, imported_from, found_within}
 use Rattle.acn_world.specs.declared.sources.TypeId.{TypeId}
 

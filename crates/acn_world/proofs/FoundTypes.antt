@@ -1,11 +1,13 @@
 -- What is found by the name of a type, and each root, is the place of a type.
 use Rattle.std.proofs.Common.{◌≡◌, ℕ, zero, suc, ◌+◌, Bool, true, false, not, ◌&&◌, List, [], ◌∷◌, length, Option, Some, None, refl, sym, arith}
 use Rattle.std.specs.Prelude.{option_and_then, option_map, slice_get, IsSome, IfSome, IfOk, Result, Ok, Err, cond, filter}
+use Rattle.std.specs.Global.{Vec}
 use Rattle.std.specs.Option.{option_or}
 use Rattle.std.specs.List.{position_from, list_any, All, AllByRecursion}
 use Rattle.std.proofs.lemmas.List.Elements.{All-from_recursion}
 use Rattle.acn_asn_syntax.specs.Mirror.{AsnModule, AsnType, Assign, TypeIs, ValueIs}
-use Rattle.acn_world.specs.World.{World, Name, IsType, place, places, is_same, type_part, assignment, type_at}
+use Rattle.acn_num.specs.Names.{Name}
+use Rattle.acn_world.specs.World.{World, IsType, place, places, is_same, type_part, assignment, type_at}
 use Rattle.acn_world.specs.Lookup.{is_type, own, found, found_within, imported_from, module_named, type_in, type_named}
 use Rattle.acn_world.specs.Faults.{is_root, is_without_parameters, referred, roots}
 use Rattle.acn_world.specs.declared.sources.TypeId.{TypeId}
@@ -92,6 +94,6 @@ each_root : (w : World) → All (IsType w) (roots w)
 unfolding roots
 each_root w = All-from_recursion (IsType w) (roots w) (each_kept (IsType w) (is_root w) (root_is_type w) (places w))
 
-pub roots_are_types : {E : Type 0} (w : World) (r : Result (List TypeId) E) → IfOk r (λ all. all ≡ roots w) → IfOk r (λ all. All (IsType w) all)
+pub roots_are_types : {E : Type 0} (w : World) (r : Result (Vec TypeId) E) → IfOk r (λ all. all.items ≡ roots w) → IfOk r (λ all. All (IsType w) all.items)
 roots_are_types w (Ok all) e = rw e (each_root w)
 roots_are_types w (Err x) e = tt

@@ -5,7 +5,7 @@ use Rattle.std.specs.List.{list_any, position_from}
 use Rattle.std.specs.Str.{bytes_eq}
 use Rattle.std.specs.Cmp.Lexicographic.{nat_list_eq_equiv}
 use Rattle.acn_firsts.specs.Placed.{place_of, noted, noted_all, noted_at}
-use Rattle.acn_world.specs.World.{Name}
+use Rattle.acn_num.specs.Names.{Name}
 use Rattle.acn_world.specs.Keyed.{keyed}
 
 either : (a b : Bool) (x y : Option ℕ) → cond a x (cond b x y) ≡ cond (a || b) x y

@@ -11,3 +11,5 @@ pub mod Marks
 pub mod KeyedLaws
 pub mod Mapped
 pub mod FoundTypes
+mod EntryPlaces
+mod AssignedChains

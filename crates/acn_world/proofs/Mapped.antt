@@ -1,7 +1,7 @@
 -- What the maps of an index say of its modules and tables.
 use Rattle.std.proofs.Common.{◌≡◌, ℕ, ◌<◌, List, [], Option, Some, None, refl, sym, ap, ◌∙◌, arith}
 use Rattle.std.proofs.lemmas.Option.{slice_get-map}
-use Rattle.std.specs.Prelude.{map, option_map, option_and_then, slice_get}
+use Rattle.std.specs.Prelude.{option_map, option_and_then, slice_get}
 use Rattle.std.specs.List.{list_any, position_from}
 use Rattle.std.specs.Str.{bytes_eq}
 use Rattle.acn_asn_syntax.specs.Mirror.{AsnModule, Assign, TypeIs, ValueIs}
@@ -9,8 +9,9 @@ use Rattle.acn_asn_syntax.specs.declared.modules.Import.{Import}
 use Rattle.acn_acn_syntax.specs.Mirror.{Module, Entry}
 use Rattle.acn_acn_syntax.specs.declared.maps.MapTable.{MapTable}
 use Rattle.acn_firsts.specs.Placed.{place_of, noted_all}
-use Rattle.acn_world.specs.World.{Name, World, name_of, IsSmall}
-use Rattle.acn_world.specs.Lookup.{module_named, imports_of, imports_name, import_of, entry_named, acn_named, table_named, own}
+use Rattle.acn_num.specs.Names.{Name}
+use Rattle.acn_world.specs.World.{World, name_of, IsSmall}
+use Rattle.acn_world.specs.Lookup.{module_named, imports_of, imports_name, import_of, entry_number, table_named}
 use Rattle.acn_world.specs.Keyed.{keyed, firsts, module_name, own_name, type_name, value_name, import_names, acn_name, entry_name, table_name, own_names, entry_places, maps_of}
 use Rattle.acn_world.specs.Sorts.{meant, sorted}
 use Rattle.acn_world.specs.declared.lookup.Sort.{Sort}
@@ -126,34 +127,18 @@ module _ (w : World) (maps : Maps) (mapped : maps ≡ maps_of w) where
   pub import_first : (q : Name) (k : ℕ) (o : OwnNames) (m : AsnModule) → Some m ≡ slice_get w.modules k → Some o ≡ slice_get maps.own k → (r : Option ℕ) → IsFirst o.imports q r → option_and_then (slice_get (imports_of m)) r ≡ import_at k q
   import_first q k o m f e r first = import_first_at q o m (slice_get w.modules k) f (e ∙ own_is k) r first
 
-  -- the first entry with a name in an ACN module
-  abbrev pub entry_in : ℕ → Name → Option Entry
-  entry_in k q = option_and_then (λ (m : Module). entry_named m q) (slice_get w.acn k)
+  entry_first_at : (q : Name) (o : List (Name × ℕ)) (m : Option Module) → Some o ≡ option_map entry_places m → (r : Option ℕ) → IsFirst o q r → r ≡ option_and_then (λ (m : Module). position_from (λ (e : Entry). bytes_eq e.name q) 0 m.entries) m
+  entry_first_at q o None e r first = absurd (cc e)
+  entry_first_at q o (Some m) e r first =
+      let same : o ≡ entry_places m = cc e in
+      first (keyed entry_name 0 m.entries) same ∙ first_from entry_name (λ (e : Entry). bytes_eq e.name q) q (λ (e : Entry). alone e.name q) 0 m.entries
 
-  entry_first_at : (q : Name) (o : List (Name × ℕ)) (m : Module) (n : Option Module) → Some m ≡ n → Some o ≡ option_map entry_places n → (r : Option ℕ) → IsFirst o q r → option_and_then (slice_get m.entries) r ≡ option_and_then (λ (m : Module). entry_named m q) n
-  entry_first_at q o m None f e r first = absurd (cc f)
-  entry_first_at q o m (Some n) f e r first =
-      let module_is : m ≡ n = cc f in
-      let same : o ≡ entry_places n = cc e in
-      ap (λ (z : Module). option_and_then (slice_get z.entries) r) module_is
-      ∙ (ap (option_and_then (slice_get n.entries)) (first (keyed entry_name 0 n.entries) same ∙ first_from entry_name (λ (e : Entry). bytes_eq e.name q) q (λ (e : Entry). alone e.name q) 0 n.entries)
-      ∙ found_at (λ (e : Entry). bytes_eq e.name q) n.entries)
+  pub entry_first : (q : Name) (k : ℕ) (o : List (Name × ℕ)) → Some o ≡ slice_get maps.entries k → (r : Option ℕ) → IsFirst o q r → r ≡ entry_number w k q
+  entry_first q k o e r first = entry_first_at q o (slice_get w.acn k) (e ∙ entries_are k) r first
 
-  pub entry_first : (q : Name) (k : ℕ) (o : List (Name × ℕ)) (m : Module) → Some m ≡ slice_get w.acn k → Some o ≡ slice_get maps.entries k → (r : Option ℕ) → IsFirst o q r → option_and_then (slice_get m.entries) r ≡ entry_in k q
-  entry_first q k o m f e r first = entry_first_at q o m (slice_get w.acn k) f (e ∙ entries_are k) r first
-
-  no_entry_at : (q : Name) (m : Option Module) → None ≡ m → None ≡ option_and_then (λ (m : Module). entry_named m q) m
-  no_entry_at q None e = refl
-  no_entry_at q (Some m) e = absurd (cc e)
-
-  no_entries_at : (q : Name) (m : Option Module) → None ≡ option_map entry_places m → None ≡ option_and_then (λ (m : Module). entry_named m q) m
+  no_entries_at : (q : Name) (m : Option Module) → None ≡ option_map entry_places m → None ≡ option_and_then (λ (m : Module). position_from (λ (e : Entry). bytes_eq e.name q) 0 m.entries) m
   no_entries_at q None e = refl
   no_entries_at q (Some m) e = absurd (cc e)
 
-  pub no_entries : (q : Name) (k : ℕ) → None ≡ slice_get maps.entries k → None ≡ entry_in k q
+  pub no_entries : (q : Name) (k : ℕ) → None ≡ slice_get maps.entries k → None ≡ entry_number w k q
   no_entries q k e = no_entries_at q (slice_get w.acn k) (e ∙ entries_are k)
-
-  pub entry_by : (owner name : Name) → option_and_then (λ (k : ℕ). entry_in k name) (position_from (λ (m : Module). bytes_eq m.name owner) 0 w.acn) ≡ option_and_then (λ (m : Module). entry_named m name) (acn_named w owner)
-  entry_by owner name =
-      sym (option_regrouped (slice_get w.acn) (λ (m : Module). entry_named m name) (position_from (λ (m : Module). bytes_eq m.name owner) 0 w.acn))
-      ∙ ap (option_and_then (λ (m : Module). entry_named m name)) (found_at (λ (m : Module). bytes_eq m.name owner) w.acn)

@@ -2,7 +2,7 @@
 use Rattle.std.proofs.Common.{◌≡◌, ℕ, zero, suc, ◌<◌, ◌≤◌, Bool, true, false, ◌||◌, List, [], ◌∷◌, Option, Some, None, refl, ap, ◌∙◌, arith}
 use Rattle.std.specs.Prelude.{filter_map, option_to_list}
 use Rattle.std.specs.List.{list_any, cons_option}
-use Rattle.acn_acn_syntax.specs.Mirror.{Entry}
+use Rattle.acn_world.specs.Lookup.{EntryAt}
 use Rattle.acn_world.specs.World.{World}
 use Rattle.acn_world.specs.Chains.{Link, next_link, more_links, links_within, link_entry, gives_parameters}
 
@@ -17,7 +17,7 @@ module _ (w : World) where
   abbrev pub any_gives : List Link → Bool
   any_gives ls = list_any gives_parameters (filter_map (link_entry w) ls)
 
-  first_or_more : (e : Option (ℕ × Entry)) (es : List (ℕ × Entry)) → list_any gives_parameters (cons_option e es) ≡ (list_any gives_parameters (option_to_list e) || list_any gives_parameters es)
+  first_or_more : (e : Option EntryAt) (es : List EntryAt) → list_any gives_parameters (cons_option e es) ≡ (list_any gives_parameters (option_to_list e) || list_any gives_parameters es)
   first_or_more None es = refl
   first_or_more (Some e) es = either (gives_parameters e) (list_any gives_parameters es)
 

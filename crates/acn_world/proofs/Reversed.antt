@@ -3,7 +3,7 @@ use Rattle.std.proofs.Common.{◌≡◌, ℕ, List, [], ◌∷◌, refl, ◌∙�
 use Rattle.std.specs.Prelude.{map, reverse, flat_map, filter_map}
 use mathlib.Core.List.{reverse_aux}
 use Rattle.acn_asn_syntax.specs.Mirror.{Constraint}
-use Rattle.acn_acn_syntax.specs.Mirror.{Entry}
+use Rattle.acn_world.specs.Lookup.{EntryAt}
 use Rattle.acn_world.specs.World.{World}
 use Rattle.acn_world.specs.Chains.{Link, ChainOf, links, last_link, link_constraints, link_entry, chain_of}
 
@@ -14,10 +14,10 @@ map_onto f (x ∷ xs) done = map_onto f xs (x ∷ done)
 pub map_reverse : {A B : Type 0} (f : A → B) (xs : List A) → map f (reverse xs) ≡ reverse (map f xs)
 map_reverse f xs = map_onto f xs []
 
-made : Link → List (ℕ × Constraint) → List (ℕ × Entry) → ChainOf
+made : Link → List (ℕ × Constraint) → List EntryAt → ChainOf
 made l cs es = record { base = l.of; owner = l.owner; constraints = cs; entries = es }
 
-pub gathered : (w : World) (first base : Link) (along back : List Link) (cs : List (ℕ × Constraint)) (es : List (ℕ × Entry)) → along ≡ links w first → back ≡ reverse along → base ≡ last_link first along
+pub gathered : (w : World) (first base : Link) (along back : List Link) (cs : List (ℕ × Constraint)) (es : List EntryAt) → along ≡ links w first → back ≡ reverse along → base ≡ last_link first along
     → cs ≡ flat_map link_constraints back → es ≡ filter_map (link_entry w) back → record { base = base.of; owner = base.owner; constraints = cs; entries = es } ≡ chain_of w first
 unfolding made chain_of
 gathered w first base along back cs es a b l c e =

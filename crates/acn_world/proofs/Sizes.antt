@@ -15,6 +15,10 @@ items_fit [] k m e = absurd (cc e)
 items_fit (x ∷ ms) zero m e = let same : m ≡ x = cc e in rw same (omega (arith, length-append x.items (flat_map (λ (m : AsnModule). m.items) ms)))
 items_fit (x ∷ ms) (suc k) m e = let h = items_fit ms k m e in omega (arith, length-append x.items (flat_map (λ (m : AsnModule). m.items) ms))
 
+pub few_items : (w : World) → IsSmall w → length (flat_map (λ (m : AsnModule). m.items) w.modules) < 4294967296
+unfolding count
+few_items w small = omega arith
+
 -- the assignments of one module can be numbered by 32 bits
 pub items_small : (w : World) (k : ℕ) (m : AsnModule) → Some m ≡ slice_get w.modules k → IsSmall w → length m.items < 4294967296
 unfolding count

@@ -1,6 +1,7 @@
 -- The steps along references of values.
 use Rattle.std.proofs.Common.{◌≡◌, ℕ, zero, suc, ◌<◌, ◌≤◌, Option, Some, None, refl, sym, subst, arith}
-use Rattle.acn_world.specs.World.{World, Name}
+use Rattle.acn_num.specs.Names.{Name}
+use Rattle.acn_world.specs.World.{World}
 use Rattle.acn_world.specs.Values.{Worth, refers, first_worth, referring, value_within}
 
 module _ (w : World) where

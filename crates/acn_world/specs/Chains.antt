@@ -2,9 +2,9 @@
 use Rattle.std.specs.Prelude.{ℕ, zero, suc, Bool, true, false, List, [], ◌∷◌, map, reverse, Option, Some, None, option_and_then, option_map, flat_map, filter_map}
 use Rattle.std.specs.List.{list_any}
 use Rattle.acn_asn_syntax.specs.Mirror.{AsnBase, AsnType, Constraint, type_of, constraint_list, reference}
-use Rattle.acn_acn_syntax.specs.Mirror.{Entry}
-use Rattle.acn_world.specs.World.{Name, World, type_at, count}
-use Rattle.acn_world.specs.Lookup.{type_named, entry_at}
+use Rattle.acn_num.specs.Names.{Name}
+use Rattle.acn_world.specs.World.{World, type_at, count}
+use Rattle.acn_world.specs.Lookup.{type_named, EntryAt, placed_entry}
 use Rattle.acn_world.specs.declared.sources.TypeId.{TypeId}
 
 abbrev pub base_part : AsnType → AsnBase
@@ -67,16 +67,16 @@ base_of w l = base_part (base_link w l).of
 abbrev pub link_constraints : Link → List (ℕ × Constraint)
 link_constraints l = map (λ c. (l.owner, c)) (constraints_part l.of)
 
-abbrev pub link_entry : World → Link → Option (ℕ × Entry)
-link_entry w l = option_and_then (λ (p : TypeId). option_map (λ (e : Entry). (p.module, e)) (entry_at w p)) l.assigned
+abbrev pub link_entry : World → Link → Option EntryAt
+link_entry w l = option_and_then (placed_entry w) l.assigned
 
--- Both lists from the base outward, each item with the number of its module. The entry of a type is the one of the
+-- Both lists from the base outward, each constraint with the number of its module. The entry of a type is the one of the
 -- assignment that it is the type of; a type that only stands in a text has none of its own.
 pub record ChainOf : Type 0 where
   pub base : AsnType
   pub owner : ℕ
   pub constraints : List (ℕ × Constraint)
-  pub entries : List (ℕ × Entry)
+  pub entries : List EntryAt
 
 abbrev pub chain_of_links : World → Link → List Link → ChainOf
 chain_of_links w l ls = record { base = (last_link l ls).of; owner = (last_link l ls).owner; constraints = flat_map link_constraints (reverse ls); entries = filter_map (link_entry w) (reverse ls) }
@@ -90,8 +90,8 @@ abbrev pub has_items : {A : Type 0} → List A → Bool
 has_items [] = false
 has_items (x ∷ xs) = true
 
-abbrev pub gives_parameters : ℕ × Entry → Bool
-gives_parameters e = has_items e.1.parameters
+abbrev pub gives_parameters : EntryAt → Bool
+gives_parameters e = has_items e.is.parameters
 
 -- a type has parameters where an entry along its chain has them
 unfoldable pub has_parameters : World → Link → Bool

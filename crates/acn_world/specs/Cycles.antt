@@ -3,7 +3,8 @@ use Rattle.std.specs.Prelude.{◌≡◌, ℕ, Bool, true, false, not, ◌&&◌, 
 use Rattle.std.specs.List.{enumerate_from}
 use Rattle.acn_asn_syntax.specs.Mirror.{AsnModule, AsnType, AsnBase, boolean, null, integer, enumerated, Assign, TypeIs, ValueIs}
 use Rattle.acn_acn_syntax.specs.Mirror.{Entry, Module}
-use Rattle.acn_world.specs.World.{Name, World, assignment, places}
+use Rattle.acn_num.specs.Names.{Name}
+use Rattle.acn_world.specs.World.{World, assignment, places}
 use Rattle.acn_world.specs.Lookup.{type_named, value_named}
 use Rattle.acn_world.specs.Values.{leads_to_number}
 use Rattle.acn_world.specs.Chains.{Link, written, assigned_link, base_of}

@@ -3,7 +3,8 @@ use Rattle.std.specs.Prelude.{◌≡◌, ℕ, Bool, false, not, ◌&&◌, List, 
 use Rattle.std.specs.List.{list_any}
 use Rattle.acn_asn_syntax.specs.Mirror.{AsnModule, AsnType}
 use Rattle.acn_acn_syntax.specs.Mirror.{Entry}
-use Rattle.acn_world.specs.World.{Name, World, name_of, assignment, places, is_same, type_at}
+use Rattle.acn_num.specs.Names.{Name}
+use Rattle.acn_world.specs.World.{World, name_of, assignment, places, is_same, type_at}
 use Rattle.acn_world.specs.Lookup.{type_named, entry_at}
 use Rattle.acn_world.specs.Chains.{Link, assigned_link, has_parameters}
 use Rattle.acn_mentions.specs.Mentions.{AcnMention, of_parameter, of_field, to_table, entry_mentions, mentions}

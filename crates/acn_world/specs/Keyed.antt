@@ -5,7 +5,8 @@ use Rattle.acn_asn_syntax.specs.declared.modules.Import.{Import}
 use Rattle.acn_acn_syntax.specs.Mirror.{Entry, Module}
 use Rattle.acn_acn_syntax.specs.declared.maps.MapTable.{MapTable}
 use Rattle.acn_firsts.specs.Placed.{noted_all}
-use Rattle.acn_world.specs.World.{Name, World, name_of}
+use Rattle.acn_num.specs.Names.{Name}
+use Rattle.acn_world.specs.World.{World, name_of}
 use Rattle.acn_world.specs.Lookup.{imports_of}
 use Rattle.acn_world.specs.declared.maps.OwnNames.{OwnNames}
 use Rattle.acn_world.specs.declared.maps.Maps.{Maps}

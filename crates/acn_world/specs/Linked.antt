@@ -1,7 +1,7 @@
 -- The parts of a chain as plain data.
 use Rattle.std.specs.Prelude.{Option}
 use Rattle.acn_asn_syntax.specs.View.{type_view}
-use Rattle.acn_world.specs.World.{Name}
+use Rattle.acn_num.specs.Names.{Name}
 use Rattle.acn_world.specs.Chains as spec
 use Rattle.acn_world.specs.declared.chain.Reference.{Reference}
 use Rattle.acn_world.specs.declared.chain.Link.{Link}

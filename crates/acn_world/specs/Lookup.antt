@@ -7,8 +7,10 @@ use Rattle.acn_asn_syntax.specs.Mirror.{AsnModule, Assign, TypeIs, ValueIs}
 use Rattle.acn_asn_syntax.specs.declared.modules.Import.{Import}
 use Rattle.acn_acn_syntax.specs.Mirror.{Module, Entry}
 use Rattle.acn_acn_syntax.specs.declared.maps.MapTable.{MapTable}
-use Rattle.acn_world.specs.World.{Name, World, name_of, place, assignment}
+use Rattle.acn_num.specs.Names.{Name}
+use Rattle.acn_world.specs.World.{World, name_of, place}
 use Rattle.acn_world.specs.declared.sources.TypeId.{TypeId}
+use Rattle.acn_world.specs.declared.entries.EntryPlace.{EntryPlace}
 
 -- ---- which assignments are meant
 
@@ -88,6 +90,42 @@ entry_of_assign w owner a = option_and_then (λ m. entry_named m (name_of a)) (a
 -- what the ACN module of an assignment's module says of it
 unfoldable pub entry_at : World → TypeId → Option Entry
 entry_at w p = option_and_then (λ m. option_and_then (entry_of_assign w m.name) (slice_get m.items p.item)) (slice_get w.modules p.module)
+
+-- the number of the first entry with a name in the ACN module with a number
+abbrev pub entry_number : World → ℕ → Name → Option ℕ
+entry_number w k name = option_and_then (λ (m : Module). position_from (λ e. bytes_eq e.name name) 0 m.entries) (slice_get w.acn k)
+
+abbrev pub placed : ℕ → ℕ → EntryPlace
+placed k i = record { acn = k; entry = i }
+
+abbrev pub place_in : World → Name → ℕ → Option EntryPlace
+place_in w name k = option_map (placed k) (entry_number w k name)
+
+abbrev pub place_of_assign : World → Name → Assign → Option EntryPlace
+place_of_assign w owner a = option_and_then (place_in w (name_of a)) (position_from (λ (m : Module). bytes_eq m.name owner) 0 w.acn)
+
+-- where that entry stands in the text
+unfoldable pub entry_place : World → TypeId → Option EntryPlace
+entry_place w p = option_and_then (λ m. option_and_then (place_of_assign w m.name) (slice_get m.items p.item)) (slice_get w.modules p.module)
+
+-- the entry that stands at a place
+abbrev pub entry_in_place : World → EntryPlace → Option Entry
+entry_in_place w q = option_and_then (λ (m : Module). slice_get m.entries q.entry) (slice_get w.acn q.acn)
+
+-- An entry with the number of the ASN.1 module in which its references are read, that of the ACN module in which it stands, and
+-- its own number there. What stands earlier in the text has the lower numbers.
+pub record EntryAt : Type 0 where
+  pub owner : ℕ
+  pub acn : ℕ
+  pub entry : ℕ
+  pub is : Entry
+
+abbrev pub entry_with : World → TypeId → EntryPlace → Option EntryAt
+entry_with w p q = option_map (λ (e : Entry). record { owner = p.module; acn = q.acn; entry = q.entry; is = e }) (entry_in_place w q)
+
+-- what the ACN module of an assignment's module says of it, with its place
+unfoldable pub placed_entry : World → TypeId → Option EntryAt
+placed_entry w p = option_and_then (entry_with w p) (entry_place w p)
 
 unfoldable pub table_named : World → Name → Option MapTable
 table_named w name = find (λ t. bytes_eq t.name name) w.tables

@@ -1,7 +1,7 @@
 -- Which assignments a look-up means.
 use Rattle.std.specs.Prelude.{ℕ, Bool, List}
 use Rattle.acn_asn_syntax.specs.Mirror.{Assign}
-use Rattle.acn_world.specs.World.{Name}
+use Rattle.acn_num.specs.Names.{Name}
 use Rattle.acn_world.specs.Lookup.{is_type, is_value, is_named}
 use Rattle.acn_world.specs.declared.lookup.Sort.{Sort}
 use Rattle.acn_world.specs.declared.lookup.Sort.TheVariants.{Types, Values, Any}

@@ -3,7 +3,8 @@ use Rattle.std.specs.Prelude.{ℕ, zero, suc, Bool, true, false, Option, Some, N
 use Rattle.acn_asn_syntax.specs.Mirror.{AsnType, Assign, TypeIs, ValueIs}
 use Rattle.acn_asn_syntax.specs.declared.values.AsnValue.{AsnValue}
 use Rattle.acn_asn_syntax.specs.declared.values.AsnValue.TheVariants as value
-use Rattle.acn_world.specs.World.{Name, World, assignment, count}
+use Rattle.acn_num.specs.Names.{Name}
+use Rattle.acn_world.specs.World.{World, assignment, count}
 use Rattle.acn_world.specs.Lookup.{value_named}
 use Rattle.acn_world.specs.declared.sources.TypeId.{TypeId}
 

@@ -1,6 +1,7 @@
 -- The modules and tables of all files, as plain data, and the places of assignments.
 use Rattle.std.specs.Prelude.{ℕ, Bool, ◌&&◌, nat_eq, ◌+◌, ◌<◌, List, length, map, Option, Some, None, option_and_then, slice_get, flat_map, IsSome}
 use Rattle.std.specs.List.{enumerate_from}
+use Rattle.acn_num.specs.Names.{Name}
 use Rattle.acn_asn_syntax.specs.Mirror.{AsnModule, AsnType, Assign, TypeIs, ValueIs}
 use Rattle.acn_asn_syntax.specs.View.{module_view}
 use Rattle.acn_asn_syntax.specs.declared.modules.AsnModule as tree
@@ -13,9 +14,6 @@ use Rattle.acn_acn_syntax.specs.declared.maps.MapTable.{MapTable}
 use Rattle.acn_acn_syntax.specs.declared.maps.MapTables.{MapTables}
 use Rattle.acn_world.specs.declared.sources.Sources.{Sources}
 use Rattle.acn_world.specs.declared.sources.TypeId.{TypeId}
-
-abbrev pub Name : Type 0
-Name = List ℕ
 
 -- the ASN.1 modules, the ACN modules and the tables, each in the order of the files
 pub record World : Type 0 where

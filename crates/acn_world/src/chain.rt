@@ -28,7 +28,7 @@ pub struct Link<'w> {
 }
 
 // The reference that a type is, where it is one.
-#[tactic(auto, using(acn_mentions::proofs::TypeViews::type_views))]
+#[tactic(auto, using(acn_asn_syntax::proofs::Views::type_views))]
 fn base_reference(base: &AsnBase) -> Option<Reference<'_>>
     ensures { option_map written_view result ≡ spec.base_reference (base_view base.now) }
 {
@@ -49,11 +49,22 @@ fn base_reference(base: &AsnBase) -> Option<Reference<'_>>
 }
 
 // The reference that a type is, where it is one.
-#[tactic(auto, using(acn_mentions::proofs::TypeViews::open_type))]
+#[tactic(auto, using(acn_asn_syntax::proofs::Views::open_type))]
 fn reference_of(of: &AsnType) -> Option<Reference<'_>>
     ensures { option_map written_view result ≡ spec.reference_of (type_view of.now) }
 {
     base_reference(&of.base)
+}
+
+/// The link of a type that stands in the text of the module with this number.
+pub fn written(owner: u32, of: &AsnType) -> Link<'_>
+    ensures { link_view result ≡ spec.written owner (type_view of.now) }
+{
+    Link {
+        owner,
+        of,
+        assigned: None,
+    }
 }
 
 /// The link of an assigned type.
@@ -138,7 +149,7 @@ pub fn base_link<'w>(index: &'w Index, first: Link<'w>) -> Link<'w>
 }
 
 /// The type behind all references of a type.
-#[tactic(auto, unfolding(crate::specs::Chains::base_of), using(acn_mentions::proofs::TypeViews::open_type))]
+#[tactic(auto, unfolding(crate::specs::Chains::base_of), using(acn_asn_syntax::proofs::Views::open_type))]
 pub fn base_of<'w>(index: &'w Index, first: Link<'w>) -> &'w AsnBase
     ensures { base_view result.now ≡ spec.base_of (index_view index.now) (link_view first.entry) }
 {

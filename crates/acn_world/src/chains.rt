@@ -1,31 +1,28 @@
 ghost use Rattle.std.specs.Prelude.{◌≡◌, ◌++◌, map, flat_map, filter_map, reverse, option_map, option_to_list, OnOk, IfOk};
-ghost use Rattle.acn_asn_syntax.specs.View.{constraint_view, type_view};
-ghost use Rattle.acn_acn_syntax.specs.View.{entry_of};
+ghost use Rattle.acn_asn_syntax.specs.View.{constraint_view};
 ghost use Rattle.acn_world.specs.Views.{index_view};
 ghost use Rattle.acn_world.specs.Linked.{link_view};
 ghost use Rattle.acn_world.specs.Chained.{chain_view, constraints_view, entries_view, entry_view};
 ghost use Rattle.acn_world.specs.Chains as spec;
 
 use crate::chain::{Link, last_link, links};
+use crate::entries::{EntryAt, placed_entry};
 use crate::index::Index;
-use crate::references::entry_at;
-use acn_acn_syntax::AcnEntry;
 use acn_asn_syntax::{AsnType, Constraint};
 use acn_num::{NoMemory, Row};
 use std::alloc::Global;
 
-/// What stands along the chain of a type. Both rows go from the base outward, each item with the number of
-/// its module.
+/// What stands along the chain of a type. Both rows go from the base outward.
 #[derive(Drop)]
 pub struct Chain<'w> {
     /// The type behind all references.
     pub base: &'w AsnType,
     /// The module in which it stands.
     pub module: u32,
-    /// The constraints.
+    /// The constraints, each with the number of the ASN.1 module in which it stands.
     pub constraints: Row<(u32, &'w Constraint)>,
-    /// The ACN entries of the types that the chain names.
-    pub entries: Row<(u32, &'w AcnEntry)>,
+    /// The ACN entries of the types that the chain names, each with its place in the text.
+    pub entries: Row<EntryAt<'w>>,
 }
 
 // Adds the constraints of a type.
@@ -43,7 +40,7 @@ fn push_constraints<'w>(
 }
 
 // Adds the constraints of a link.
-#[tactic(auto, using(acn_mentions::proofs::TypeViews::open_type, acn_mentions::proofs::TypeViews::constraints_back))]
+#[tactic(auto, using(acn_asn_syntax::proofs::Views::open_type, acn_asn_syntax::proofs::Views::constraints_back))]
 fn push_link<'w>(link: Link<'w>, all: &mut Row<(u32, &'w Constraint)>) -> Result<(), NoMemory>
     ensures { OnOk result (constraints_view all.new ≡ constraints_view all.old ++ spec.link_constraints (link_view link.entry)) }
 {
@@ -64,20 +61,19 @@ fn constraints_along<'w>(
     Ok(all)
 }
 
-/// The entry of a link's assignment, with the number of its module.
-pub fn link_entry<'w>(index: &'w Index, link: Link<'w>) -> Option<(u32, &'w AcnEntry)>
+/// The entry of a link's assignment.
+pub fn link_entry<'w>(index: &'w Index, link: Link<'w>) -> Option<EntryAt<'w>>
     ensures { option_map entry_view result ≡ spec.link_entry (index_view index.now) (link_view link.entry) }
 {
     let place = link.assigned?;
-    let entry = entry_at(index, place)?;
-    Some((place.module, entry))
+    placed_entry(index, place)
 }
 
 // Adds the entry of a link, where there is one.
 fn push_entry<'w>(
     index: &'w Index,
     link: Link<'w>,
-    all: &mut Row<(u32, &'w AcnEntry)>,
+    all: &mut Row<EntryAt<'w>>,
 ) -> Result<(), NoMemory>
     ensures { OnOk result (entries_view all.new ≡ entries_view all.old ++ option_to_list (spec.link_entry (index_view index.now) (link_view link.entry))) }
 {
@@ -92,7 +88,7 @@ fn entries_along<'w>(
     alloc: Global,
     index: &'w Index,
     along: &[Link<'w>],
-) -> Result<Row<(u32, &'w AcnEntry)>, NoMemory>
+) -> Result<Row<EntryAt<'w>>, NoMemory>
     ensures { IfOk result (λ all. entries_view all ≡ filter_map (spec.link_entry (index_view index.now)) (map link_view along.now)) }
 {
     let mut all = Row::new(alloc);
@@ -102,21 +98,11 @@ fn entries_along<'w>(
     Ok(all)
 }
 
-/// What stands along the chain of a type in a module's text.
+/// What stands along the chain that begins with a link.
 #[tactic(auto, unfolding(crate::specs::Chains::chain_of))]
-pub fn chain_of<'w>(
-    alloc: Global,
-    index: &'w Index,
-    owner: u32,
-    of: &'w AsnType,
-) -> Result<Chain<'w>, NoMemory>
-    ensures { IfOk result (λ chain. chain_view chain ≡ spec.chain_of (index_view index.now) (spec.written owner (type_view of.now))) }
+pub fn chain_of<'w>(alloc: Global, index: &'w Index, first: Link<'w>) -> Result<Chain<'w>, NoMemory>
+    ensures { IfOk result (λ chain. chain_view chain ≡ spec.chain_of (index_view index.now) (link_view first.entry)) }
 {
-    let first = Link {
-        owner,
-        of,
-        assigned: None,
-    };
     let mut along = links(alloc, index, first)?;
     let base = last_link(first, along.as_slice());
     along.reverse();

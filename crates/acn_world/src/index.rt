@@ -1,5 +1,7 @@
-ghost use Rattle.std.specs.Prelude.{◌≡◌};
-ghost use Rattle.acn_world.specs.World.{IsSmall, world_from};
+ghost use Rattle.std.specs.Prelude.{◌≡◌, ◌<◌, length, map, flat_map};
+ghost use Rattle.acn_asn_syntax.specs.Mirror as plain;
+ghost use Rattle.acn_asn_syntax.specs.View.{module_view};
+ghost use Rattle.acn_world.specs.World.{IsSmall, count as count_of, world_from};
 ghost use Rattle.acn_world.specs.Keyed as keyed;
 
 use crate::maps::{Maps, maps_of};
@@ -15,8 +17,23 @@ pub struct Index {
     pub acn: Row<AcnModule>,
     pub tables: Row<MapTable>,
     pub maps: Maps,
+    /// How many assignments there are.
+    pub count: usize,
     ghost small: { IsSmall (world_from modules acn tables) },
     ghost mapped: { maps ≡ keyed.maps_of (world_from modules acn tables) },
+    ghost counted: { count ≡ count_of (world_from modules acn tables) },
+}
+
+// How many assignments the modules have.
+fn items_of(modules: &[AsnModule]) -> usize
+    requires { length (flat_map (λ (m : plain.AsnModule). m.items) (map module_view modules.now)) < 4294967296 }
+    ensures { result ≡ length (flat_map (λ (m : plain.AsnModule). m.items) (map module_view modules.now)) }
+{
+    let mut all: usize = 0;
+    for owner in modules {
+        all += owner.items.items().len();
+    }
+    all
 }
 
 impl Index {
@@ -34,11 +51,13 @@ impl Index {
         ensures { IfOk result (λ index. index_view index ≡ world_from modules acn tables) }
     {
         let maps = maps_of(alloc, modules.items(), acn.items(), tables.items())?;
+        let count = items_of(modules.items());
         Ok(Index {
             modules,
             acn,
             tables,
             maps,
+            count,
         })
     }
 }

@@ -3,6 +3,7 @@
 
 pub mod chain;
 mod chains;
+pub mod entries;
 mod fault;
 pub mod index;
 mod laws;
@@ -16,7 +17,11 @@ pub mod values;
 mod world;
 
 pub use chains::Chain;
+pub use entries::{EntryAt, EntryPlace};
 pub use fault::NameFault;
-pub use laws::{no_cycle_among_ranks, no_fault_in_a_sound_world};
+pub use laws::{
+    assigned_chains_have_their_own_entry, entries_stand_at_their_places, no_cycle_among_ranks,
+    no_fault_in_a_sound_world,
+};
 pub use sources::{Sources, TypeId};
 pub use world::World;

@@ -65,62 +65,6 @@ pub fn name_of(item: &Assign) -> &Name
     }
 }
 
-// The number of the first ACN module with this name.
-fn acn_place(index: &Index, name: &[u8]) -> Option<usize>
-    ensures { result ≡ position_from (λ m. bytes_eq m.name name.now) 0 (index_view index.now).acn }
-{
-    index.maps.acn.get(name)
-}
-
-// The ACN module with this number.
-fn acn_at(index: &Index, k: usize) -> Option<&AcnModule>
-    ensures { option_map (λ m. module_of m.now) result ≡ slice_get (index_view index.now).acn k }
-{
-    index.acn.items().get(k)
-}
-
-// The first places of the entries in the ACN module with this number.
-fn entry_names_at(index: &Index, k: usize) -> Option<&Firsts>
-    ensures { option_map (λ f. f.now) result ≡ slice_get index.now.maps.entries k }
-{
-    index.maps.entries.items().get(k)
-}
-
-// The entry with this number.
-fn entry_numbered(owner: &AcnModule, i: usize) -> Option<&AcnEntry>
-    ensures { option_map (λ e. entry_of e.now) result ≡ slice_get (module_of owner.now).entries i }
-{
-    owner.entries.items().get(i)
-}
-
-// The first entry with this name in the ACN module with this number.
-fn entry_in<'w>(index: &'w Index, k: usize, name: &[u8]) -> Option<&'w AcnEntry>
-    ensures { option_map (λ e. entry_of e.now) result ≡ option_and_then (λ m. spec.entry_named m name.now) (slice_get (index_view index.now).acn k) }
-{
-    let owner = acn_at(index, k)?;
-    let names = entry_names_at(index, k)?;
-    let place = names.get(name)?;
-    entry_numbered(owner, place)
-}
-
-// What the ACN module with a name says of an assignment.
-fn entry_of_assign<'w>(index: &'w Index, owner: &[u8], item: &Assign) -> Option<&'w AcnEntry>
-    ensures { option_map (λ e. entry_of e.now) result ≡ spec.entry_of_assign (index_view index.now) owner.now (assign_view item.now) }
-{
-    let k = acn_place(index, owner)?;
-    entry_in(index, k, name_of(item).bytes())
-}
-
-/// What the ACN module of an assignment's module says of it.
-#[tactic(auto, unfolding(crate::specs::Lookup::entry_at))]
-pub fn entry_at(index: &Index, place: TypeId) -> Option<&AcnEntry>
-    ensures { option_map (λ e. entry_of e.now) result ≡ spec.entry_at (index_view index.now) place }
-{
-    let owner = module_at(index, place.module)?;
-    let item = item_at(owner, place.item)?;
-    entry_of_assign(index, owner.name.bytes(), item)
-}
-
 // The table with this number.
 fn table_at(index: &Index, i: usize) -> Option<&MapTable>
     ensures { option_copied result ≡ slice_get (index_view index.now).tables i }

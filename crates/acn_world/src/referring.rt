@@ -11,8 +11,9 @@ ghost use Rattle.acn_world.specs.Cycles as cycles;
 ghost use Rattle.acn_world.specs.Faults as faults;
 
 use crate::TypeId;
+use crate::entries::entry_at;
 use crate::index::Index;
-use crate::references::{entry_at, type_at, type_named};
+use crate::references::{type_at, type_named};
 use acn_mentions::{AcnMention, Mention, push_entry, push_type};
 use acn_num::NoMemory;
 use std::alloc::Global;

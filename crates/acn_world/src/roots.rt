@@ -16,7 +16,7 @@ use crate::index::Index;
 use crate::referring::push_referred;
 use crate::values::count;
 use acn_asn_syntax::{AsnModule, Assign};
-use acn_num::{NoMemory, Row};
+use acn_num::NoMemory;
 use std::alloc::Global;
 use std::collections::HashSet;
 
@@ -73,7 +73,7 @@ fn gives_parameters(index: &Index, link: Link<'_>) -> bool
 {
     match link_entry(index, link) {
         None => false,
-        Some(entry) => !entry.1.parameters.items().is_empty(),
+        Some(entry) => !entry.is.parameters.items().is_empty(),
     }
 }
 
@@ -120,11 +120,11 @@ fn roots_among(
     index: &Index,
     referred: &HashSet<TypeId>,
     places: &[TypeId],
-) -> Result<Row<TypeId>, NoMemory>
+) -> Result<Vec<TypeId>, NoMemory>
     requires { (q : TypeId) → contains world.is_same referred.now q ≡ list_any (world.is_same q) (spec.referred (index_view index.now)) }
-    ensures { IfOk result (λ all. all ≡ filter (spec.is_root (index_view index.now)) places.now) }
+    ensures { IfOk result (λ all. all.items ≡ filter (spec.is_root (index_view index.now)) places.now) }
 {
-    let mut all = Row::new(alloc);
+    let mut all = Vec::new(alloc);
     for place in places {
         if is_root(index, referred, *place) {
             all.push(*place)?;
@@ -135,8 +135,8 @@ fn roots_among(
 
 /// The types without parameters to which no other type refers, in the order of the text.
 #[tactic(auto, unfolding(crate::specs::Faults::roots, crate::specs::Faults::referred))]
-pub fn roots_of(alloc: Global, index: &Index) -> Result<Row<TypeId>, NoMemory>
-    ensures { IfOk result (λ all. all ≡ spec.roots (index_view index.now)) }
+pub fn roots_of(alloc: Global, index: &Index) -> Result<Vec<TypeId>, NoMemory>
+    ensures { IfOk result (λ all. all.items ≡ spec.roots (index_view index.now)) }
 {
     let places = places(alloc, index)?;
     let mut references = Vec::new(alloc);

@@ -1,4 +1,4 @@
-ghost use Rattle.std.specs.Prelude.{◌≡◌, ◌<◌, length, map, option_map, option_copied, Option, Some, None};
+ghost use Rattle.std.specs.Prelude.{◌≡◌, option_map, option_copied, Option, Some, None};
 ghost use Rattle.acn_asn_syntax.specs.View.{assign_view};
 ghost use Rattle.acn_world.specs.Views.{index_view};
 ghost use Rattle.acn_world.specs.Found.{found_view};
@@ -8,7 +8,7 @@ ghost use Rattle.acn_world.specs.Values as spec;
 use crate::TypeId;
 use crate::index::Index;
 use crate::references::{assignment, value_named};
-use acn_asn_syntax::{AsnModule, AsnType, AsnValue, Assign};
+use acn_asn_syntax::{AsnType, AsnValue, Assign};
 
 /// The type and the value of a value's assignment, with the number of its module.
 #[derive(Clone, Copy)]
@@ -65,11 +65,7 @@ fn refers(value: &AsnValue) -> Option<&[u8]>
 pub fn count(index: &Index) -> usize
     ensures { result ≡ world.count (index_view index.now) }
 {
-    let mut all: usize = 0;
-    for owner in index.modules.items() {
-        all += owner.items.items().len();
-    }
-    all
+    index.count
 }
 
 // Follows the references of values from an identifier, over at most so many assignments.

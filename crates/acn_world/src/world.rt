@@ -1,16 +1,18 @@
 ghost use Rattle.acn_world.specs.World.{world_from};
 ghost use Rattle.acn_world.specs.Faults.{IsSound};
 
+use crate::chain::{assigned_link, written};
 use crate::chains::{Chain, chain_of};
+use crate::entries::{EntryAt, placed_entry};
 use crate::index::Index;
 use crate::lookup::{item_at, module_at};
-use crate::references::{entry_at, name_of, table_named, type_at, type_in, type_named};
+use crate::references::{name_of, table_named, type_at, type_in, type_named};
 use crate::roots::roots_of;
 use crate::sources::TypeId;
 use crate::values::value_of;
-use acn_acn_syntax::{AcnEntry, MapTable};
+use acn_acn_syntax::MapTable;
 use acn_asn_syntax::{AsnType, AsnValue};
-use acn_num::{Name, NoMemory, Row};
+use acn_num::{Name, NoMemory};
 use std::alloc::Global;
 
 /// The modules and tables of all files, in which each name leads somewhere, none to itself, and each to what
@@ -28,7 +30,7 @@ impl World {
     ghost use Rattle.acn_acn_syntax.specs.View.{entry_of};
     ghost use Rattle.acn_world.specs.Viewed.{world_view, valued_view};
     ghost use Rattle.acn_world.specs.Views.{index_view};
-    ghost use Rattle.acn_world.specs.Chained.{chain_view};
+    ghost use Rattle.acn_world.specs.Chained.{chain_view, entry_view};
     ghost use Rattle.acn_world.specs.World as world;
     ghost use Rattle.acn_world.specs.Lookup as lookup;
     ghost use Rattle.acn_world.specs.Values as values;
@@ -44,9 +46,9 @@ impl World {
     }
 
     /// The types without parameters to which no other type refers, in the order of the text.
-    pub fn roots(&self, alloc: Global) -> Result<Row<TypeId>, NoMemory>
-        ensures roots { IfOk result (λ all. all ≡ faults.roots (world_view self.now)) }
-        ensures of_types { IfOk result (λ all. All (world.IsType (world_view self.now)) all) }
+    pub fn roots(&self, alloc: Global) -> Result<Vec<TypeId>, NoMemory>
+        ensures roots { IfOk result (λ all. all.items ≡ faults.roots (world_view self.now)) }
+        ensures of_types { IfOk result (λ all. All (world.IsType (world_view self.now)) all.items) }
     {
         roots_of(alloc, &self.index)
     }
@@ -70,7 +72,16 @@ impl World {
     ) -> Result<Chain<'w>, NoMemory>
         ensures { IfOk result (λ chain. chain_view chain ≡ chains.chain_of (world_view self.now) (chains.written «module» (type_view of.now))) }
     {
-        chain_of(alloc, &self.index, module, of)
+        chain_of(alloc, &self.index, written(module, of))
+    }
+
+    /// What stands along the chain of an assigned type, the entry of the assignment itself included.
+    pub fn chain_at<'w>(&'w self, alloc: Global, of: TypeId) -> Result<Chain<'w>, NoMemory>
+        requires { world.IsType (world_view self.now) of }
+        ensures { IfOk result (λ chain. Some (chain_view chain) ≡ option_map (chains.chain_of (world_view self.now)) (chains.assigned_link (world_view self.now) of)) }
+    {
+        let first = assigned_link(&self.index, of).unwrap();
+        chain_of(alloc, &self.index, first)
     }
 
     /// The mapping table with this name. None comes exactly where there is none. It takes no memory.
@@ -99,12 +110,14 @@ impl World {
         (&owner.name, name_of(item))
     }
 
-    /// What the ACN module of an assignment's module says of it. None comes exactly where no ACN module has an
-    /// entry for it. It takes no memory.
-    pub fn entry_at(&self, of: TypeId) -> Option<&AcnEntry>
-        ensures { option_map (λ e. entry_of e.now) result ≡ lookup.entry_at (world_view self.now) of }
+    /// What the ACN module of an assignment's module says of it, with its place in the text. None comes exactly
+    /// where no ACN module has an entry for it. It takes no memory.
+    #[tactic(auto, using(crate::proofs::EntryPlaces::entry_placed))]
+    pub fn entry_at(&self, of: TypeId) -> Option<EntryAt<'_>>
+        ensures placed { option_map entry_view result ≡ lookup.placed_entry (world_view self.now) of }
+        ensures entry { option_map (λ e. entry_of e.is.now) result ≡ lookup.entry_at (world_view self.now) of }
     {
-        entry_at(&self.index, of)
+        placed_entry(&self.index, of)
     }
 
     /// The type to which a reference in the module with this number leads: its own assignment, else one that it

@@ -1,4 +1,4 @@
-use Rattle.acn_acn_syntax.proofs.FieldViews.{view_inserted}
+use Rattle.acn_acn_syntax.proofs.Views.{view_inserted}
 use Rattle.acn_acn_parse.proofs.fields.inserted_field.Goals as goal
 
 pub returns : goal.returns

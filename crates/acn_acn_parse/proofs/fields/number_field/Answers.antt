@@ -1,4 +1,4 @@
-use Rattle.acn_acn_syntax.proofs.FieldViews.{view_number}
+use Rattle.acn_acn_syntax.proofs.Views.{view_number}
 use Rattle.acn_acn_parse.proofs.fields.number_field.Goals as goal
 
 pub returns : goal.returns

@@ -1,4 +1,4 @@
-use Rattle.acn_acn_syntax.proofs.FieldViews.{view_plain}
+use Rattle.acn_acn_syntax.proofs.Views.{view_plain}
 use Rattle.acn_acn_parse.proofs.fields.plain_field.Goals as goal
 
 pub returns : goal.returns

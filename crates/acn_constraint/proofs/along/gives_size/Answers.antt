@@ -1,5 +1,5 @@
 use Rattle.std.proofs.Common.{sym, ◌∙◌}
-use Rattle.acn_mentions.proofs.TypeViews.{view_Set, view_Size, view_Containing}
+use Rattle.acn_asn_syntax.proofs.Views.{view_Set, view_Size, view_Containing}
 use Rattle.acn_set_elements.proofs.Bases.{at_constraint}
 use Rattle.acn_constraint.specs.Constraints.{gives_size}
 use Rattle.acn_constraint.proofs.along.gives_size.Goals as goal

@@ -1,7 +1,7 @@
 use Rattle.std.proofs.Common.{ap, ◌∙◌}
 use Rattle.acn_asn_syntax.specs.View.{constraint_view}
 use Rattle.acn_world.specs.Viewed.{world_view}
-use Rattle.acn_mentions.proofs.TypeViews.{view_Set, view_Size, view_Containing}
+use Rattle.acn_asn_syntax.proofs.Views.{view_Set, view_Size, view_Containing}
 use Rattle.acn_constraint.specs.Constraints.{left_by}
 use Rattle.acn_constraint.specs.Readings.{reading_of}
 use Rattle.acn_constraint.proofs.Bases.{if_ok}

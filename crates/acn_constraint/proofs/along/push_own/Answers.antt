@@ -1,5 +1,5 @@
 use Rattle.acn_mentions.proofs.Joined.{nothing, the_same}
-use Rattle.acn_mentions.proofs.TypeViews.{view_Boolean, view_Null, view_Integer, view_Enumerated, view_OctetString, view_BitString, view_Ia5String, view_Sequence, view_Choice, view_Ref}
+use Rattle.acn_asn_syntax.proofs.Views.{view_Boolean, view_Null, view_Integer, view_Enumerated, view_OctetString, view_BitString, view_Ia5String, view_Sequence, view_Choice, view_Ref}
 use Rattle.acn_constraint.specs.Constraints.{own_constraint}
 use Rattle.acn_set_elements.proofs.Bases.{at_base}
 use Rattle.acn_constraint.proofs.Bases.{own_between}

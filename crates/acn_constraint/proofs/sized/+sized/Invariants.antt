@@ -1,7 +1,6 @@
 use Rattle.std.proofs.Common.{◌≡◌, drop}
 use Rattle.std.specs.Prelude.{map}
-use Rattle.acn_asn_syntax.specs.View.{meets_of, parts_of}
-use Rattle.acn_mentions.specs.Mentioned.{seen_meet, seen_part}
+use Rattle.acn_asn_syntax.specs.View.{seen_meet, seen_part, meets_of, parts_of}
 use Rattle.acn_constraint.specs.Sized.{sizes_meets, sizes_parts}
 use Rattle.acn_constraint.proofs.sized.+sized.Given as goal
 

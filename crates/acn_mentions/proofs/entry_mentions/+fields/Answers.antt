@@ -6,7 +6,7 @@ use Rattle.acn_acn_syntax.specs.Mirror as plain
 use Rattle.acn_mentions.specs.AcnMentioned.{acn_mentions_view}
 use Rattle.acn_mentions.specs.Mentions.{attribute_mentions, field_mentions, braces_mentions}
 use Rattle.acn_mentions.proofs.Joined.{joined, nothing}
-use Rattle.acn_mentions.proofs.FieldViews.{view_plain, view_inserted, view_number}
+use Rattle.acn_acn_syntax.proofs.Views.{view_plain, view_inserted, view_number}
 use Rattle.acn_mentions.proofs.entry_mentions.+fields.Goals as goal
 
 pub push_field-returns-in-Number : goal.push_field-returns-in-Number

@@ -1,11 +1,11 @@
 use Rattle.std.proofs.Common.{◌≡◌, ◌++◌, Some, ◌∙◌, ap}
 use Rattle.std.specs.Prelude.{map}
 use Rattle.acn_asn_syntax.specs.Mirror as plain
-use Rattle.acn_asn_syntax.specs.View.{element_view, set_view, meet_view, part_view, meets_of, parts_of}
-use Rattle.acn_mentions.specs.Mentioned.{governor_view, mentions_view, seen_meet, seen_part}
+use Rattle.acn_asn_syntax.specs.View.{seen_meet, seen_part, element_view, set_view, meet_view, part_view, meets_of, parts_of}
+use Rattle.acn_mentions.specs.Mentioned.{governor_view, mentions_view}
 use Rattle.acn_mentions.specs.Mentions.{in_set, in_meet, in_part}
 use Rattle.acn_mentions.proofs.Joined.{joined}
-use Rattle.acn_mentions.proofs.SetViews.{view_Union, open_meet, part_with}
+use Rattle.acn_asn_syntax.proofs.Views.{view_Union, open_meet, part_with}
 use Rattle.acn_mentions.proofs.set_mentions.+set.Goals as goal
 
 pub push_meet-returns : goal.push_meet-returns

@@ -1,7 +1,7 @@
 use Rattle.std.proofs.Common.{◌≡◌, drop, ◌++◌}
 use Rattle.std.specs.Prelude.{map}
-use Rattle.acn_asn_syntax.specs.View.{meets_of, parts_of}
-use Rattle.acn_mentions.specs.Mentioned.{governor_view, mentions_view, seen_meet, seen_part}
+use Rattle.acn_asn_syntax.specs.View.{seen_meet, seen_part, meets_of, parts_of}
+use Rattle.acn_mentions.specs.Mentioned.{governor_view, mentions_view}
 use Rattle.acn_mentions.specs.Mentions.{in_meets, in_parts}
 use Rattle.acn_mentions.proofs.set_mentions.+set.Given as goal
 

@@ -8,7 +8,7 @@ use Rattle.acn_asn_syntax.specs.View.{type_view, base_view, constraint_view, com
 use Rattle.acn_mentions.specs.Mentioned.{mention_view, mentions_view}
 use Rattle.acn_mentions.specs.Mentions.{mentions, base_mentions}
 use Rattle.acn_mentions.proofs.Joined.{joined, nothing, the_same, one_more}
-use Rattle.acn_mentions.proofs.TypeViews.{type_views, view_Boolean, view_Null, view_OctetString, view_BitString, view_Ia5String, view_Integer, view_Enumerated, view_Ref, view_Of, view_SizeOf, open_type, open_component}
+use Rattle.acn_asn_syntax.proofs.Views.{type_views, view_Boolean, view_Null, view_OctetString, view_BitString, view_Ia5String, view_Integer, view_Enumerated, view_Ref, view_Of, view_SizeOf, open_type, open_component}
 use Rattle.acn_mentions.proofs.TypeMentions.{opened_mentions, opened_component, opened_list}
 use Rattle.acn_mentions.proofs.type_mentions.+types.Goals as goal
 

@@ -3,7 +3,7 @@ use Rattle.acn_acn_syntax.specs.Mirror.{Field}
 use Rattle.acn_acn_syntax.specs.View.{field_of, braces_view}
 use Rattle.acn_world.specs.Repeated.{again, field_name, twice_field, twice_braces}
 use Rattle.acn_mentions.proofs.Joined.{joined}
-use Rattle.acn_mentions.proofs.FieldViews.{view_plain}
+use Rattle.acn_acn_syntax.proofs.Views.{view_plain}
 use Rattle.acn_repeated.proofs.repeated_acn.+fields.Goals as goal
 
 pub push_twice_field-returns-in_ok-push_twice_fields-in-Some-clause-all : goal.push_twice_field-returns-in_ok-push_twice_fields-in-Some-clause-all

@@ -1,6 +1,6 @@
 use Rattle.std.proofs.Common.{ℕ, is_some, ap, ◌∙◌}
 use Rattle.std.specs.Prelude.{map}
-use Rattle.acn_world.specs.World.{Name}
+use Rattle.acn_num.specs.Names.{Name}
 use Rattle.acn_world.specs.Repeated as spec
 use Rattle.acn_repeated.specs.Named.{names_view}
 use Rattle.acn_repeated.proofs.SeenNames.{found}

@@ -2,7 +2,7 @@ use Rattle.std.proofs.Common.{[], ◌∷◌, ℕ, List, ap, sym, ◌∙◌, Bor}
 use Rattle.std.proofs.lemmas.List.{map-append}
 use Rattle.acn_firsts.specs.Placed.{noted, noted_at}
 use Rattle.acn_num.specs.declared.name.Name as num
-use Rattle.acn_world.specs.World.{Name}
+use Rattle.acn_num.specs.Names.{Name}
 use Rattle.acn_repeated.specs.Named.{names_view}
 use Rattle.acn_repeated.proofs.SeenNames.{noted_more}
 use Rattle.acn_repeated.proofs.seen.see.Goals as goal

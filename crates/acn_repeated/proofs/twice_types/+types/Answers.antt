@@ -2,7 +2,7 @@ use Rattle.std.proofs.Common.{◌∙◌, ap}
 use Rattle.acn_asn_syntax.specs.View.{base_view, constraint_view}
 use Rattle.acn_world.specs.Repeated.{twice, twice_base, twice_constraint}
 use Rattle.acn_mentions.proofs.Joined.{joined, nothing}
-use Rattle.acn_mentions.proofs.TypeViews.{view_Boolean, view_Null, view_OctetString, view_BitString, view_Ia5String, view_Ref, view_Set, view_Size}
+use Rattle.acn_asn_syntax.proofs.Views.{view_Boolean, view_Null, view_OctetString, view_BitString, view_Ia5String, view_Ref, view_Set, view_Size}
 use Rattle.acn_repeated.proofs.TwiceTypes.{opened_type, opened_list, opened_component, opened_alternative}
 use Rattle.acn_repeated.proofs.twice_types.+types.Goals as goal
 

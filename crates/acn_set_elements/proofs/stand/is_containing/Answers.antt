@@ -1,5 +1,5 @@
 use Rattle.std.proofs.Common.{sym}
-use Rattle.acn_mentions.proofs.TypeViews.{view_Set, view_Size, view_Containing}
+use Rattle.acn_asn_syntax.proofs.Views.{view_Set, view_Size, view_Containing}
 use Rattle.acn_set_elements.proofs.Bases.{at_constraint}
 use Rattle.acn_set_elements.specs.Stands.{is_containing}
 use Rattle.acn_set_elements.proofs.stand.is_containing.Goals as goal

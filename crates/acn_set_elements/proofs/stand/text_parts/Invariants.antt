@@ -1,7 +1,6 @@
 use Rattle.std.proofs.Common.{◌≡◌, drop}
 use Rattle.std.specs.Prelude.{map}
-use Rattle.acn_asn_syntax.specs.View.{parts_of}
-use Rattle.acn_mentions.specs.Mentioned.{seen_part}
+use Rattle.acn_asn_syntax.specs.View.{seen_part, parts_of}
 use Rattle.acn_world.specs.Viewed.{world_view}
 use Rattle.acn_set_elements.specs.Stands.{text_parts}
 use Rattle.acn_set_elements.proofs.stand.text_parts.Given as goal

@@ -1,4 +1,4 @@
-use Rattle.std.proofs.Common.{◌≡◌, suc, ◌<◌, ◌-◌, ◌+◌, sym, ◌∙◌, ap, arith}
+use Rattle.std.proofs.Common.{◌≡◌, suc, ◌-◌, ◌+◌, sym, ◌∙◌, arith}
 use Rattle.acn_world.specs.Views.{index_view}
 use Rattle.acn_world.specs.Linked.{link_view}
 use Rattle.acn_world.specs.World.{count}

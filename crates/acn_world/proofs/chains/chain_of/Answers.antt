@@ -1,16 +1,14 @@
-use Rattle.std.proofs.Common.{◌≡◌, sym, ◌∙◌, ap}
+use Rattle.std.proofs.Common.{◌∙◌, ap}
 use Rattle.std.specs.Prelude.{map}
-use Rattle.acn_asn_syntax.specs.View.{type_view}
 use Rattle.acn_world.specs.Views.{index_view}
 use Rattle.acn_world.specs.Linked.{link_view}
 use Rattle.acn_world.specs.Chained.{constraints_view, entries_view}
-use Rattle.acn_world.specs.Chains.{written}
 use Rattle.acn_world.proofs.Reversed.{map_reverse, gathered}
 use Rattle.acn_world.proofs.chains.chain_of.Goals as goal
 
 pub returns : goal.returns
 returns c =
-    gathered (index_view c.args.index.now) (written c.args.owner (type_view c.args.of.now)) (link_view c.last_link-base.result) (map link_view c.in_ok-along.along.items) (map link_view c.reverse.new.self.items) (constraints_view c.in_ok-constraints.constraints) (entries_view c.in_ok-entries.entries)
+    gathered (index_view c.args.index.now) (link_view c.args.first) (link_view c.last_link-base.result) (map link_view c.in_ok-along.along.items) (map link_view c.reverse.new.self.items) (constraints_view c.in_ok-constraints.constraints) (entries_view c.in_ok-entries.entries)
     (c.in_ok-along.ensures {u = tt})
     (ap (map link_view) c.reverse.ensures.items ∙ map_reverse link_view c.in_ok-along.along.items)
     (rw c.as_slice.ensures.value at c.last_link-base.ensures)

@@ -1,4 +1,4 @@
-use Rattle.std.proofs.Common.{◌≡◌, suc, ◌<◌, ◌-◌, ◌+◌, length, refl, sym, ◌∙◌, ap, arith}
+use Rattle.std.proofs.Common.{◌≡◌, ◌-◌, length, sym, ◌∙◌, ap, arith}
 use Rattle.acn_asn_syntax.specs.View.{module_view}
 use Rattle.acn_world.specs.Views.{index_view}
 use Rattle.acn_world.specs.Sorts.{meant}

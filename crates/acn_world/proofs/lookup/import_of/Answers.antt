@@ -1,4 +1,4 @@
-use Rattle.std.proofs.Common.{◌≡◌, Some, None, ◌∙◌}
+use Rattle.std.proofs.Common.{Some, None, ◌∙◌}
 use Rattle.acn_asn_syntax.specs.View.{module_view}
 use Rattle.acn_world.specs.Views.{index_view}
 use Rattle.acn_world.proofs.Mapped.{import_first, no_import}

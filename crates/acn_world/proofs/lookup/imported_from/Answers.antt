@@ -1,4 +1,4 @@
-use Rattle.std.proofs.Common.{◌≡◌, ap, ◌∙◌}
+use Rattle.std.proofs.Common.{ap, ◌∙◌}
 use Rattle.std.specs.Prelude.{option_and_then, slice_get}
 use Rattle.acn_asn_syntax.specs.Mirror.{AsnModule}
 use Rattle.acn_asn_syntax.specs.declared.modules.Import.{Import}

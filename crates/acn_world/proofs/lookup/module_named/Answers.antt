@@ -1,4 +1,4 @@
-use Rattle.std.proofs.Common.{◌≡◌, sym, arith}
+use Rattle.std.proofs.Common.{sym, arith}
 use Rattle.std.specs.Str.{bytes_eq}
 use Rattle.acn_asn_syntax.specs.Mirror.{AsnModule}
 use Rattle.acn_world.specs.Views.{index_view}

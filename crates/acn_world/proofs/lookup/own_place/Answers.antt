@@ -1,4 +1,4 @@
-use Rattle.std.proofs.Common.{◌≡◌, ap, ◌∙◌}
+use Rattle.std.proofs.Common.{◌∙◌}
 use Rattle.acn_world.specs.Views.{index_view}
 use Rattle.acn_world.proofs.Mapped.{own_first, no_own}
 use Rattle.acn_world.proofs.lookup.own_place.Goals as goal

@@ -1,9 +1,8 @@
-use Rattle.std.proofs.Common.{◌≡◌, ℕ, ◌+◌, List, drop, get_or, ap, sym, ◌∙◌}
+use Rattle.std.proofs.Common.{ℕ, ◌+◌, List, drop, get_or, ap, sym, ◌∙◌}
 use Rattle.std.proofs.lemmas.List.{at_drop_more}
-use Rattle.std.specs.Prelude.{map}
 use Rattle.acn_asn_syntax.specs.declared.modules.Import.{Import}
 use Rattle.acn_firsts.specs.Placed.{noted_all, noted_at}
-use Rattle.acn_world.specs.World.{Name}
+use Rattle.acn_num.specs.Names.{Name}
 use Rattle.acn_world.specs.Keyed.{keyed, import_names}
 use Rattle.acn_world.proofs.KeyedLaws.{one_step}
 use Rattle.acn_world.proofs.maps.imported_of.Goals as goal

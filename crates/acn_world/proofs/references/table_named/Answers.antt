@@ -1,4 +1,4 @@
-use Rattle.std.proofs.Common.{◌≡◌, Some, None, ◌∙◌}
+use Rattle.std.proofs.Common.{Some, None, ◌∙◌}
 use Rattle.acn_world.specs.Views.{index_view}
 use Rattle.acn_world.proofs.Mapped.{table_first}
 use Rattle.acn_world.proofs.references.table_named.Goals as goal

@@ -4,4 +4,4 @@ use Rattle.acn_world.specs.Faults.{is_root}
 use Rattle.acn_world.proofs.roots.roots_among.Given as goal
 
 abbrev pub invariant-loop-place : goal.invariant-loop-place
-invariant-loop-place l = l.all ++ filter (is_root (index_view l.index)) (drop l.place-index l.places) ≡ filter (is_root (index_view l.index)) l.places
+invariant-loop-place l = l.all.items ++ filter (is_root (index_view l.index)) (drop l.place-index l.places) ≡ filter (is_root (index_view l.index)) l.places

@@ -1,6 +1,7 @@
 use Rattle.std.proofs.Common.{◌≡◌, ℕ, false, List, [], ◌∷◌, ◌++◌, is_some, ap, sym, ◌∙◌}
 use Rattle.indexmap.proofs.CallerLemmas.{insert_entry-new}
-use Rattle.acn_firsts.specs.Placed.{Name, place_of}
+use Rattle.acn_num.specs.Names.{Name}
+use Rattle.acn_firsts.specs.Placed.{place_of}
 use Rattle.acn_firsts.proofs.Entries.{placed, looked_up, one_more, there, absent, is_none}
 use Rattle.acn_firsts.proofs.firsts.Firsts.note.Goals as goal
 

@@ -1,7 +1,7 @@
--- One level of what a field stands for.
-use Rattle.std.proofs.Common.{◌≡◌, ℕ, List, Option, rules}
-use Rattle.acn_acn_syntax.specs.Mirror.{plain, inserted, number}
-use Rattle.acn_acn_syntax.specs.View.{field_of, braces_view}
+-- One level of what a field and braces stand for.
+use Rattle.std.proofs.Common.{◌≡◌, ℕ, List, [], ◌∷◌, Option, Some, None, refl, ap, rules}
+use Rattle.acn_acn_syntax.specs.Mirror.{Field, plain, inserted, number, field_list, braces_list}
+use Rattle.acn_acn_syntax.specs.View.{field_of, fields_of, braces_of, braces_view}
 use Rattle.acn_acn_syntax.specs.declared.maps.Signed.{Signed}
 use Rattle.acn_acn_syntax.specs.declared.modules.AcnField.{AcnField, Plain, Inserted, Number, the_lemmas}
 use Rattle.acn_acn_syntax.specs.declared.modules.AcnPath.{AcnPath}
@@ -21,3 +21,12 @@ unfolding field_of
 view_number name n = search (rules, the_lemmas)
 
 pub ruleset field_views = (view_plain, view_inserted, view_number)
+
+-- the list of some fields is those fields
+pub fields_back : (fs : List Field) → field_list (fields_of fs) ≡ fs
+fields_back [] = refl
+fields_back (f ∷ fs) = ap (λ xs. f ∷ xs) (fields_back fs)
+
+pub braces_back : (o : Option (List Field)) → braces_list (braces_of o) ≡ o
+braces_back None = refl
+braces_back (Some fs) = ap Some (fields_back fs)
