@@ -8,9 +8,9 @@ mod tests;
 use acn_outside::{StdError, StdFiles, StdInput, StdOutput};
 use acn_run::run;
 use questions::question_in;
-use std::process::ExitCode;
 use std::env;
 use std::io::ErrorKind;
+use std::process::ExitCode;
 
 /// Why the words behind the program's name can't be taken.
 enum WordsFault {

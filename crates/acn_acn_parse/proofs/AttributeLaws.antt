@@ -21,11 +21,9 @@ use Rattle.acn_acn_parse.specs.AttributeReading.{has_kind, has_stop, has_comma, 
 use Rattle.acn_acn_parse.specs.WordReading.{word_as, attribute_of, encoding_of, endianness_of, alignment_of}
 use Rattle.acn_acn_parse.specs.declared.words.Attribute.{Attribute}
 use Rattle.acn_acn_parse.specs.declared.words.Attribute.TheVariants as name
-use Rattle.acn_acn_parse.proofs.PathLaws.{EndsPath, EndsCondition, EndsConditions, path_found, path_again, conditions_found, conditions_again, is_below}
-use Rattle.acn_acn_parse.proofs.WordLaws.{word_as_found, word_as_again, name_word, attribute_named, attribute_again, encoding_named, encoding_again, order_named, order_again, align_named, align_again, both, pass_all, all_pass, not_terminated}
-
-below : (n m : ℕ) → n < m → nat_lt n m ≡ true
-below n m h = grind (arith, nat_tests)
+use Rattle.acn_acn_parse.proofs.PathLaws.{EndsPath, EndsCondition, EndsConditions, path_found, path_again, conditions_found, conditions_again}
+use Rattle.acn_acn_parse.proofs.WordLaws.{word_as_found, word_as_again, name_word, attribute_named, attribute_again, encoding_named, encoding_again, order_named, order_again, align_named, align_again, pass_all, all_pass, not_terminated}
+use Rattle.std.proofs.lemmas.Bool.{lt-ltb, ltb-true, and_parts}
 
 -- ---- sizes
 
@@ -45,7 +43,7 @@ unfolding size_tokens
 size_by_kind true ts s r e =
     then_found (number ts) _ _ e (λ n m e1 h.
     let a = number_found _ _ _ e1 in
-    done _ _ _ _ h a.0 (below _ _ a.1))
+    done _ _ _ _ h a.0 (lt-ltb _ _ a.1))
 size_by_kind false ts s r e = then_found (eat Word (codes "null-terminated") ts) _ _ e (λ found m e1 h. size_if_found found ts m s r (given_found _ _ _ _ _ e1) h)
 
 size_found : (ts : List Lexeme) (s : SizeAttr) (r : List Lexeme) → size_of ts ≡ Some (s, r) → Takes size_tokens IsSize ts s r
@@ -60,14 +58,14 @@ size_path_again : (ns : List (List ℕ)) (r : List Lexeme) → is_path (record {
 unfolding size_of path_tokens
 size_path_again [] r fits ends = absurd cc
 size_path_again (n ∷ ns) r fits ends =
-    let k = both (is_acn_identifier n) (list_all is_acn_identifier ns) fits in
+    let k = and_parts (is_acn_identifier n) (list_all is_acn_identifier ns) fits in
     rw (word_no_number n _)
     (then_again _ _ _ _ _ (eat_nothing _ _ _ (sees_text _ _ _ _ (not_terminated n k.0)))
     (then_again _ _ _ _ _ (path_again (record { names = n ∷ ns }) r fits ends) refl))
 
 size_again : (s : SizeAttr) (r : List Lexeme) → IsSize s → EndsPath r → size_of (size_tokens s ++ r) ≡ Some (s, r)
 unfolding size_of size_tokens
-size_again (size.Number n) r fits ends = rw (ap is_some (text_of_again Number (decimal n) r)) (then_again _ _ _ _ _ (number_again n r (is_below _ _ fits)) refl)
+size_again (size.Number n) r fits ends = rw (ap is_some (text_of_again Number (decimal n) r)) (then_again _ _ _ _ _ (number_again n r (ltb-true _ _ fits)) refl)
 size_again size.NullTerminated r fits ends = rw (word_no_number (codes "null-terminated") r) (then_again _ _ _ _ _ (eat_again _ _ _) refl)
 size_again (size.Path p) r fits ends = size_path_again p.names r fits ends
 
@@ -252,7 +250,7 @@ attributes_again : (xs : List Attr) (r : List Lexeme) → AreAttrs xs → attrib
 unfolding attributes
 attributes_again [] r fits = rw (sees_again Mark (codes "]") r) refl
 attributes_again (x ∷ xs) r fits =
-    let k = both (is_attr x) (list_all is_attr xs) fits in
+    let k = and_parts (is_attr x) (list_all is_attr xs) fits in
     rw (append_assoc (attr_tokens x) (flat_map next_tokens xs) (mark (codes "]") ∷ r), attr_no_mark x (codes "]") (flat_map next_tokens xs ++ mark (codes "]") ∷ r))
     (then_again _ _ _ _ _ (attr_again x _ k.0 (more_ends xs r))
     (then_again _ _ _ _ _ (more_again xs r (all_pass is_attr xs k.1)) refl))

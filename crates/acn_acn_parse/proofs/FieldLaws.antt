@@ -23,8 +23,9 @@ use Rattle.acn_acn_parse.specs.FieldReading.{next_path, arguments_if, arguments,
 use Rattle.acn_acn_parse.specs.MapReading.{signed}
 use Rattle.acn_acn_parse.proofs.AttributeLaws.{AreAttrs, bracket_found, bracket_again}
 use Rattle.acn_acn_parse.proofs.MapLaws.{signed_found, signed_again}
-use Rattle.acn_acn_parse.proofs.PathLaws.{IsPath, path_found, path_again, is_below, below}
-use Rattle.acn_acn_parse.proofs.WordLaws.{both, pass_all, all_pass}
+use Rattle.acn_acn_parse.proofs.PathLaws.{IsPath, path_found, path_again}
+use Rattle.acn_acn_parse.proofs.WordLaws.{pass_all, all_pass}
+use Rattle.std.proofs.lemmas.Bool.{not-true, ltb-true, lt-ltb, and_parts}
 
 -- ---- arguments
 
@@ -79,7 +80,7 @@ pub arguments_again : (ps : List AcnPath) (r : List Lexeme) → ArePaths ps → 
 unfolding arguments argument_tokens
 arguments_again [] r fits ends = then_again _ _ _ _ _ (eat_nothing _ _ _ ends) refl
 arguments_again (p ∷ ps) r fits ends =
-    let k = both (is_path p) (list_all is_path ps) fits in
+    let k = and_parts (is_path p) (list_all is_path ps) fits in
     simp append_assoc
     (then_again _ _ _ _ _ (eat_again _ _ _)
     (then_again _ _ _ _ _ (path_again p _ k.0 (more_paths_stop ps r))
@@ -139,14 +140,10 @@ apart (x ∷ xs) text w h k = go (apart xs text w others) (bytes_eq w x) refl k
     go more true p e = subst (λ z. bytes_eq text z ≡ false) (sym ((bytes_eq-Decides w x).0 p)) first
     go more false p e = more e
 
-not_true : (b : Bool) → not b ≡ true → b ≡ false
-not_true true e = absurd cc
-not_true false e = refl
-
 -- a reference is no reserved word
 pub no_word : (w text : List ℕ) → is_reserved w ≡ true → is_reference text ≡ true → bytes_eq text w ≡ false
 unfolding is_reference
-no_word w text k h = apart reserved text w (not_true _ (both (is_upper text) (not (is_reserved text)) h).1) k
+no_word w text k h = apart reserved text w (not-true _ (and_parts (is_upper text) (not (is_reserved text)) h).1) k
 
 pub integer_reserved : is_reserved (codes "INTEGER") ≡ true
 unfolding reserved
@@ -191,7 +188,7 @@ number_found name ts m f r fits p e =
     let b = signed_found _ _ _ e2 in
     let c = expect_found _ _ _ _ _ e3 in
     let parts : ts ≡ field_tokens (number name n) ++ m3 = simp append_assoc (cc (p, a, b.parts, c)) in
-    done _ _ _ _ h parts (rw (fits, below _ _ b.fits) refl))))
+    done _ _ _ _ h parts (rw (fits, lt-ltb _ _ b.fits) refl))))
 
 inserted_found : (name : List ℕ) (ts m : List Lexeme) (f : Field) (r : List Lexeme) → is_acn_identifier name ≡ true → ts ≡ token Word name ∷ m → inserted_rest name m ≡ Some (f, r) → Takes field_tokens IsField ts f r
 unfolding inserted_rest
@@ -353,7 +350,7 @@ number_again : (name : List ℕ) (n : Signed) (r : List Lexeme) → is_signed n 
 unfolding number_rest
 number_again name n r fits =
     then_again _ _ _ _ _ (expect_again _ _ _)
-    (then_again _ _ _ _ _ (signed_again n _ (is_below _ _ fits))
+    (then_again _ _ _ _ _ (signed_again n _ (ltb-true _ _ fits))
     (then_again _ _ _ _ _ (expect_again _ _ _) refl))
 
 inserted_again : (name : List ℕ) (k : FieldKind) (xs : List Attr) (r : List Lexeme) → IsKind k → AreAttrs xs → inserted_rest name (kind_token k ∷ (bracket_tokens xs ++ r)) ≡ Some (inserted name k xs, r)
@@ -380,7 +377,7 @@ module _ (inner : Parser Field) (limit : ℕ) (again : (f : Field) (r : List Lex
   unfolding fields
   fields_again [] r bound fits = then_again _ _ _ _ _ (eat_again _ _ _) refl
   fields_again (x ∷ xs) r bound fits =
-      let k = both (is_field x) (list_all is_field xs) fits in
+      let k = and_parts (is_field x) (list_all is_field xs) fits in
       let split = append_assoc (field_tokens x) (flat_map next_tokens xs) (mark (codes "}") ∷ r) in
       let whole : length (field_tokens x ++ (flat_map next_tokens xs ++ mark (codes "}") ∷ r)) ≤ limit = subst (λ z. length z ≤ limit) split bound in
       let rest : length (flat_map next_tokens xs ++ mark (codes "}") ∷ r) ≤ limit = omega (arith, length-append (field_tokens x) (flat_map next_tokens xs ++ mark (codes "}") ∷ r)) in
@@ -420,20 +417,20 @@ module _ (inner : Parser Field) (limit : ℕ) (again : (f : Field) (r : List Lex
   in_again : (f : Field) (r : List Lexeme) → length (field_tokens f ++ r) ≤ suc limit → IsField f → EndsField r → field_in inner (field_tokens f ++ r) ≡ Some (f, r)
   unfolding field_in field_rest
   in_again (number name n) r bound fits ends =
-      let k = both (is_acn_identifier name) (is_signed n) fits in
+      let k = and_parts (is_acn_identifier name) (is_signed n) fits in
       let split : (signed_tokens n ++ mark (codes ")") ∷ []) ++ r ≡ signed_tokens n ++ mark (codes ")") ∷ r = append_assoc (signed_tokens n) (mark (codes ")") ∷ []) r in
       then_again _ _ _ _ _ (word_again _ _ _ k.0)
       (rw (is_number n r) (ap (λ z. number_rest name (mark (codes "(") ∷ z)) split ∙ number_again name n r k.1))
   in_again (inserted name kind xs) r bound fits ends =
-      let k = both (is_acn_identifier name) (is_field_kind kind && list_all is_attr xs) fits in
-      let l = both (is_field_kind kind) (list_all is_attr xs) k.1 in
+      let k = and_parts (is_acn_identifier name) (is_field_kind kind && list_all is_attr xs) fits in
+      let l = and_parts (is_field_kind kind) (list_all is_attr xs) k.1 in
       let seen = is_inserted kind (bracket_tokens xs ++ r) in
       then_again _ _ _ _ _ (word_again _ _ _ k.0)
       (rw (seen.0, seen.1) (inserted_again name kind xs r l.0 l.1))
   in_again (plain name ps xs bs) r bound fits ends =
-      let k = both (is_acn_identifier name) (list_all is_path ps && (list_all is_attr xs && are_braces bs)) fits in
-      let l = both (list_all is_path ps) (list_all is_attr xs && are_braces bs) k.1 in
-      let m = both (list_all is_attr xs) (are_braces bs) l.1 in
+      let k = and_parts (is_acn_identifier name) (list_all is_path ps && (list_all is_attr xs && are_braces bs)) fits in
+      let l = and_parts (list_all is_path ps) (list_all is_attr xs && are_braces bs) k.1 in
+      let m = and_parts (list_all is_attr xs) (are_braces bs) l.1 in
       let split : (argument_tokens ps ++ (bracket_tokens xs ++ brace_tokens bs)) ++ r ≡ argument_tokens ps ++ (bracket_tokens xs ++ (brace_tokens bs ++ r)) = simp append_assoc refl in
       let seen = is_plain ps xs (brace_tokens bs ++ r) in
       let all : length ((argument_tokens ps ++ (bracket_tokens xs ++ brace_tokens bs)) ++ r) ≤ limit = omega arith in

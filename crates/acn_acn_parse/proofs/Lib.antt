@@ -1,7 +1,7 @@
-pub mod AttributeLaws
-pub mod FieldLaws
-pub mod MapLaws
-pub mod ModuleLaws
-pub mod PathLaws
-pub mod Whole
-pub mod WordLaws
+mod AttributeLaws
+mod FieldLaws
+mod MapLaws
+mod ModuleLaws
+mod PathLaws
+mod Whole
+mod WordLaws

@@ -18,7 +18,8 @@ use Rattle.acn_acn_parse.specs.AttributeReading.{bracket, has_comma}
 use Rattle.acn_acn_parse.specs.FieldReading.{braces_at, field_at, parameter_boolean_if, parameter_integer_if, parameter_kind, one_parameter, next_parameter, parameters_if, parameters, entry_at, has_entry, heading, module_at, has_more, modules_at}
 use Rattle.acn_acn_parse.proofs.AttributeLaws.{AreAttrs, bracket_found, bracket_again}
 use Rattle.acn_acn_parse.proofs.FieldLaws.{AreBraces, EndsField, braces_found, braces_again, field_found, field_again, no_word, integer_reserved, boolean_reserved}
-use Rattle.acn_acn_parse.proofs.WordLaws.{both, pass_all, all_pass}
+use Rattle.acn_acn_parse.proofs.WordLaws.{pass_all, all_pass}
+use Rattle.std.proofs.lemmas.Bool.{and_parts}
 
 -- ---- parameters
 
@@ -74,7 +75,7 @@ parameter_found ts p r e =
 parameter_again : (p : Param) (r : List Lexeme) → IsParameter p → one_parameter (parameter_tokens_of p ++ r) ≡ Some (p, r)
 unfolding one_parameter parameter_tokens_of
 parameter_again p r fits =
-    let k = both (is_parameter_kind p.kind) (is_acn_identifier p.name) fits in
+    let k = and_parts (is_parameter_kind p.kind) (is_acn_identifier p.name) fits in
     then_again _ _ _ _ _ (kind_again p.kind _ k.0)
     (then_again _ _ _ _ _ (expect_again _ _ _)
     (then_again _ _ _ _ _ (word_again _ _ _ k.1) refl))
@@ -122,7 +123,7 @@ parameters_again : (ps : List Param) (r : List Lexeme) → AreParameters ps → 
 unfolding parameters parameter_tokens
 parameters_again [] r fits ends = then_again _ _ _ _ _ (eat_nothing _ _ _ ends) refl
 parameters_again (p ∷ ps) r fits ends =
-    let k = both (is_parameter p) (list_all is_parameter ps) fits in
+    let k = and_parts (is_parameter p) (list_all is_parameter ps) fits in
     simp append_assoc
     (then_again _ _ _ _ _ (eat_again _ _ _)
     (then_again _ _ _ _ _ (parameter_again p _ k.0)
@@ -155,9 +156,9 @@ bracket_mark xs r = sees_text _ _ _ _ refl
 entry_again : (n : ℕ) (x : Entry) (r : List Lexeme) → length (entry_tokens x ++ r) ≤ n → IsEntry x → EndsField r → entry_at n (entry_tokens x ++ r) ≡ Some (x, r)
 unfolding entry_at entry_tokens
 entry_again n x r bound fits ends =
-    let k = both (is_reference x.name) (list_all is_parameter x.parameters && (list_all is_attr x.attributes && are_braces x.fields)) fits in
-    let l = both (list_all is_parameter x.parameters) (list_all is_attr x.attributes && are_braces x.fields) k.1 in
-    let m = both (list_all is_attr x.attributes) (are_braces x.fields) l.1 in
+    let k = and_parts (is_reference x.name) (list_all is_parameter x.parameters && (list_all is_attr x.attributes && are_braces x.fields)) fits in
+    let l = and_parts (list_all is_parameter x.parameters) (list_all is_attr x.attributes && are_braces x.fields) k.1 in
+    let m = and_parts (list_all is_attr x.attributes) (are_braces x.fields) l.1 in
     let split : (parameter_tokens x.parameters ++ (bracket_tokens x.attributes ++ brace_tokens x.fields)) ++ r ≡ parameter_tokens x.parameters ++ (bracket_tokens x.attributes ++ (brace_tokens x.fields ++ r)) = simp append_assoc refl in
     let all : length ((parameter_tokens x.parameters ++ (bracket_tokens x.attributes ++ brace_tokens x.fields)) ++ r) ≤ n = omega arith in
     let whole : length (parameter_tokens x.parameters ++ (bracket_tokens x.attributes ++ (brace_tokens x.fields ++ r))) ≤ n = subst (λ z. length z ≤ n) split all in
@@ -176,7 +177,7 @@ end_reserved = refl
 entry_starts : (x : Entry) (r : List Lexeme) → IsEntry x → has_entry (entry_tokens x ++ r) ≡ true
 unfolding entry_tokens
 entry_starts x r fits =
-    let k = both (is_reference x.name) (list_all is_parameter x.parameters && (list_all is_attr x.attributes && are_braces x.fields)) fits in
+    let k = and_parts (is_reference x.name) (list_all is_parameter x.parameters && (list_all is_attr x.attributes && are_braces x.fields)) fits in
     ap not (sees_text _ _ _ _ (no_word _ _ end_reserved k.0))
 
 entry_next : (x : Entry) (r : List Lexeme) → IsEntry x → EndsField (entry_tokens x ++ r)
@@ -237,7 +238,7 @@ entries_again n xs r bound fits = many_again has_entry (entry_at n) entry_tokens
 module_again : (n : ℕ) (x : Module) (r : List Lexeme) → length (module_tokens x ++ r) ≤ n → IsModule x → module_at n (module_tokens x ++ r) ≡ Some (x, r)
 unfolding module_at module_tokens
 module_again n x r bound fits =
-    let k = both (is_reference x.name) (list_all is_entry x.entries) fits in
+    let k = and_parts (is_reference x.name) (list_all is_entry x.entries) fits in
     let split : (flat_map entry_tokens x.entries ++ token Word (codes "END") ∷ []) ++ r ≡ flat_map entry_tokens x.entries ++ token Word (codes "END") ∷ r = append_assoc (flat_map entry_tokens x.entries) (token Word (codes "END") ∷ []) r in
     let all : length ((flat_map entry_tokens x.entries ++ token Word (codes "END") ∷ []) ++ r) ≤ n = omega arith in
     let less : length (flat_map entry_tokens x.entries ++ token Word (codes "END") ∷ r) ≤ n = subst (λ z. length z ≤ n) split all in
@@ -273,7 +274,7 @@ modules_from : (n : ℕ) (ms : List Module) → length (tokens_of ms) ≤ n → 
 unfolding modules_at
 modules_from n [] bound fits = absurd cc
 modules_from n (x ∷ xs) bound fits =
-    let k = both (is_module x) (list_all is_module xs) fits in
+    let k = and_parts (is_module x) (list_all is_module xs) fits in
     let whole = length-append (module_tokens x) (flat_map module_tokens xs) in
     let less : length (flat_map module_tokens xs ++ []) ≤ n = omega (arith, length-append (flat_map module_tokens xs) []) in
     let more : many has_more (module_at n) (flat_map module_tokens xs ++ []) ≡ Some (xs, []) =

@@ -16,7 +16,8 @@ use Rattle.acn_acn_syntax.specs.declared.modules.Condition.{Condition}
 use Rattle.acn_acn_parse.specs.AttributeReading.{has_kind, has_stop, next_name, path, equals_if, equals, condition, conditions}
 use Rattle.acn_acn_parse.specs.MapReading.{signed}
 use Rattle.acn_acn_parse.proofs.MapLaws.{signed_found, signed_again}
-use Rattle.acn_acn_parse.proofs.WordLaws.{both, pass_all, all_pass}
+use Rattle.acn_acn_parse.proofs.WordLaws.{pass_all, all_pass}
+use Rattle.std.proofs.lemmas.Bool.{lt-ltb, ltb-true, and_parts}
 
 -- ---- paths
 
@@ -64,7 +65,7 @@ path_from : (ns : List (List ℕ)) (r : List Lexeme) → is_path (record { names
 unfolding path path_tokens
 path_from [] r fits ends = absurd cc
 path_from (n ∷ ns) r fits ends =
-    let k = both (is_acn_identifier n) (list_all is_acn_identifier ns) fits in
+    let k = and_parts (is_acn_identifier n) (list_all is_acn_identifier ns) fits in
     then_again _ _ _ _ _ (word_again _ _ _ k.0)
     (then_again _ _ _ _ _ (names_again ns r (all_pass is_acn_identifier ns k.1) ends) refl)
 
@@ -80,18 +81,12 @@ abbrev IsEquals : Option Signed → Type 0
 IsEquals None = Unit {0}
 IsEquals (Some n) = is_signed n ≡ true
 
-pub below : (n m : ℕ) → n < m → nat_lt n m ≡ true
-below n m h = grind (arith, nat_tests)
-
-pub is_below : (n m : ℕ) → nat_lt n m ≡ true → n < m
-is_below n m h = grind (arith, nat_tests)
-
 equals_if_found : (b : Bool) (ts m : List Lexeme) (o : Option Signed) (r : List Lexeme) → ts ≡ given b (mark (codes "==")) ++ m → equals_if b m ≡ Some (o, r) → Takes equals_tokens IsEquals ts o r
 equals_if_found true ts m o r p e =
     then_found (signed m) _ _ e (λ n m' e1 h.
     let a = signed_found _ _ _ e1 in
     let parts : ts ≡ equals_tokens (Some n) ++ m' = cc (p, a.parts) in
-    done _ _ _ _ h parts (below _ _ a.fits))
+    done _ _ _ _ h parts (lt-ltb _ _ a.fits))
 equals_if_found false ts m o r p e = done _ _ _ _ e p tt
 
 equals_found : (ts : List Lexeme) (o : Option Signed) (r : List Lexeme) → equals ts ≡ Some (o, r) → Takes equals_tokens IsEquals ts o r
@@ -103,8 +98,8 @@ equals_fits p None h k = rw h refl
 equals_fits p (Some n) h k = rw (h, k) refl
 
 fits_parts : (p : AcnPath) (o : Option Signed) → IsCondition (record { path = p; equals = o }) → IsPath p × IsEquals o
-fits_parts p None h = (let k = both (is_path p) true h in (k.0, tt))
-fits_parts p (Some n) h = both (is_path p) (is_signed n) h
+fits_parts p None h = (let k = and_parts (is_path p) true h in (k.0, tt))
+fits_parts p (Some n) h = and_parts (is_path p) (is_signed n) h
 
 pub condition_found : (ts : List Lexeme) (c : Condition) (r : List Lexeme) → condition ts ≡ Some (c, r) → Takes condition_tokens IsCondition ts c r
 unfolding condition condition_tokens
@@ -131,7 +126,7 @@ unfolding equals
 equals_again None r fits ends = then_again _ _ _ _ _ (eat_nothing _ _ _ ends.equal) refl
 equals_again (Some n) r fits ends =
     then_again _ _ _ _ _ (eat_again _ _ _)
-    (then_again _ _ _ _ _ (signed_again n r (is_below _ _ fits)) refl)
+    (then_again _ _ _ _ _ (signed_again n r (ltb-true _ _ fits)) refl)
 
 pub condition_again : (c : Condition) (r : List Lexeme) → IsCondition c → EndsCondition r → condition (condition_tokens c ++ r) ≡ Some (c, r)
 unfolding condition condition_tokens
@@ -203,7 +198,7 @@ pub conditions_again : (cs : List Condition) (r : List Lexeme) → AreConditions
 unfolding conditions
 conditions_again [] r fits ends = absurd cc
 conditions_again (c ∷ cs) r fits ends =
-    let k = both (is_condition c) (list_all is_condition cs) fits in
+    let k = and_parts (is_condition c) (list_all is_condition cs) fits in
     let rest = all_pass is_condition cs k.1 in
     rw append_assoc
     (then_again _ _ _ _ _ (condition_again c _ k.0 (more_next cs r rest ends))

@@ -19,6 +19,7 @@ use Rattle.acn_acn_syntax.specs.declared.modules.Endianness.TheVariants as order
 use Rattle.acn_acn_parse.specs.WordReading.{word_as, attribute_of, width_attribute_of, pattern_attribute_of, path_attribute_of, or_else, encoding_of, endianness_of, alignment_of}
 use Rattle.acn_acn_parse.specs.declared.words.Attribute.{Attribute}
 use Rattle.acn_acn_parse.specs.declared.words.Attribute.TheVariants as name
+use Rattle.std.proofs.lemmas.Bool.{and_parts, not-true}
 
 pub word_as_found : {A : Type 0} (names : List ℕ → Option A) (print : A → List ℕ) → ((text : List ℕ) (a : A) → names text ≡ Some a → text ≡ print a)
     → (ts : List Lexeme) (a : A) (r : List Lexeme) → word_as names ts ≡ Some (a, r) → ts ≡ token Word (print a) ∷ r
@@ -139,17 +140,13 @@ align_again align.Dword = refl
 
 -- ---- tests of lists
 
-pub both : (a b : Bool) → a && b ≡ true → (a ≡ true) × (b ≡ true)
-both true b e = (refl, e)
-both false b e = absurd cc
-
 pub pass_all : {A : Type 0} (test : A → Bool) (xs : List A) → AllByRecursion (λ x. test x ≡ true) xs → list_all test xs ≡ true
 pass_all test [] h = refl
 pass_all test (x ∷ xs) h = rw (h.0, pass_all test xs h.1) refl
 
 pub all_pass : {A : Type 0} (test : A → Bool) (xs : List A) → list_all test xs ≡ true → AllByRecursion (λ x. test x ≡ true) xs
 all_pass test [] h = tt
-all_pass test (x ∷ xs) h = (let k = both (test x) (list_all test xs) h in (k.0, all_pass test xs k.1))
+all_pass test (x ∷ xs) h = (let k = and_parts (test x) (list_all test xs) h in (k.0, all_pass test xs k.1))
 
 -- ---- an identifier is no attribute word
 
@@ -165,17 +162,13 @@ none_passes p (y ∷ before) x after h = none_passes p before x after (go (p y) 
     go true e = absurd cc
     go false e = e
 
-not_true : (b : Bool) → not b ≡ true → b ≡ false
-not_true true e = absurd cc
-not_true false e = refl
-
 pub not_terminated : (text : List ℕ) → is_acn_identifier text ≡ true → bytes_eq text (codes "null-terminated") ≡ false
 unfolding is_acn_identifier attribute_words
 not_terminated text h =
-    let k = both (is_identifier text) (not (list_any (bytes_eq text) attribute_words)) h in
+    let k = and_parts (is_identifier text) (not (list_any (bytes_eq text) attribute_words)) h in
     none_passes (bytes_eq text)
     (codes "size" ∷ codes "encoding" ∷ codes "endianness" ∷ codes "align-to-next" ∷ codes "encode-values" ∷ codes "true-value"
     ∷ codes "false-value" ∷ codes "pattern" ∷ codes "termination-pattern" ∷ codes "present-when" ∷ codes "determinant" ∷ codes "mapping-function" ∷ [])
     (codes "null-terminated")
     (codes "pos-int" ∷ codes "twos-complement" ∷ codes "BCD" ∷ codes "ASCII" ∷ codes "big" ∷ codes "little" ∷ codes "byte" ∷ codes "word" ∷ codes "dword" ∷ [])
-    (not_true _ k.1)
+    (not-true _ k.1)

@@ -1,3 +1,4 @@
--- for the crates above that match on fields
+-- for acn_acn_parse, acn_mentions and acn_repeated
 pub mod Views
+-- for acn_acn_parse
 pub mod Back

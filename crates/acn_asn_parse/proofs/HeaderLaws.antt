@@ -5,7 +5,7 @@ use Rattle.std.specs.List.{flat_map, list_all}
 use Rattle.std.specs.Cmp.Derive.{both_true}
 use Rattle.std.specs.Fmt.{decimal}
 use Rattle.std.specs.Str.{bytes_eq}
-use Rattle.std.proofs.lemmas.Bool.{lt-ltb, ltb-true}
+use Rattle.std.proofs.lemmas.Bool.{lt-ltb, ltb-true, and_parts}
 use Rattle.std.proofs.lemmas.Slice.Eq.{bytes_eq-Decides}
 use Rattle.acn_lex.specs.declared.Kind.TheVariants.{Word, Number, Mark}
 use Rattle.acn_lex.specs.Lexeme.{Lexeme, same_kind}
@@ -29,7 +29,7 @@ use Rattle.acn_asn_types.specs.Values.{has, literal}
 use Rattle.acn_asn_types.specs.Lists.{has_comma, listed}
 use Rattle.acn_asn_parse.specs.Headers.{grouped_part, word_part, number_part, group_if, oid_part, has_part, oid_in, oid_if, oid_at, with_tags, automatic_if, implicit_if, explicit_if, tagging_at, head_at, is_end, names_at, all_exports, some_exports, all_if, exports_if, exports_at, import_at, has_import, imports_in, imports_if, imports_at}
 use Rattle.acn_asn_types.proofs.ValueLaws.{Passes, Found, literal_found, literal_again, not_same}
-use Rattle.acn_asn_types.proofs.ListLaws.{both, all_pass, pass_all, some_fit, listed_found, listed_again}
+use Rattle.acn_asn_types.proofs.ListLaws.{all_pass, pass_all, some_fit, listed_found, listed_again}
 use Rattle.acn_asn_types.proofs.SimpleLaws.{not_reserved}
 
 -- ---- object identifiers
@@ -185,7 +185,7 @@ head_found ts x r e =
 pub head_again : (x : ModuleHead) (r : List Lexeme) → opening_fits x ≡ true → head_at (opening_tokens x ++ mark (codes "::=") ∷ r) ≡ Some (x, mark (codes "::=") ∷ r)
 unfolding head_at same_kind
 head_again x r fits =
-    let f = both (is_reference x.name) (option_fits oid_fits x.oid) fits in
+    let f = and_parts (is_reference x.name) (option_fits oid_fits x.oid) fits in
     simp append_assoc
     (then_again _ _ _ _ _ (word_again is_reference x.name _ f.0)
     (then_again _ _ _ _ _ (oid_again x.oid _ f.1 (sees_kind _ _ _ _ _ refl))
@@ -221,7 +221,7 @@ names_found ts x r e = by_end (is_end ts) e
   where
     by_end : (b : Bool) → cond b (Some ([], ts)) (listed (steps.word is_name) ts) ≡ Some (x, r) → Takes names_tokens (Passes (list_all is_name)) ts x r
     by_end true e = done [] ts _ _ e refl refl
-    by_end false e = let a = listed_found (steps.word is_name) name_tokens is_name name_found ts x r e in record { parts = a.parts; fits = (both (is_some x) (list_all is_name x) a.fits).1 }
+    by_end false e = let a = listed_found (steps.word is_name) name_tokens is_name name_found ts x r e in record { parts = a.parts; fits = (and_parts (is_some x) (list_all is_name x) a.fits).1 }
 
 names_again : (names : List (List ℕ)) (r : List Lexeme) → list_all is_name names ≡ true → names_at (names_tokens names ++ semicolon r) ≡ Some (names, semicolon r)
 unfolding names_at names_tokens is_end has_comma same_kind
@@ -253,7 +253,7 @@ exports_found ts o r e = then_found (eat Word (codes "EXPORTS") ts) _ _ e (λ b 
 names_word : (names : List (List ℕ)) (text : List ℕ) (r : List Lexeme) → list_all is_name names ≡ true → is_reserved text ≡ true → is_identifier text ≡ false → sees Word text (names_tokens names ++ semicolon r) ≡ false
 unfolding names_tokens same_kind
 names_word [] text r f p q = sees_kind _ _ _ _ _ refl
-names_word (n ∷ ns) text r f p q = sees_text _ _ _ _ (name_is_not n text (both (is_name n) (list_all is_name ns) f).0 p q)
+names_word (n ∷ ns) text r f p q = sees_text _ _ _ _ (name_is_not n text (and_parts (is_name n) (list_all is_name ns) f).0 p q)
 
 pub exports_again : (o : Option Exports) (r : List Lexeme) → option_fits exports_fit o ≡ true → sees Word (codes "EXPORTS") r ≡ false → exports_at (option_tokens exports_tokens o ++ r) ≡ Some (o, r)
 unfolding exports_at all_exports some_exports exports_tokens reserved is_identifier
@@ -289,8 +289,8 @@ import_found ts x r e =
 import_again : (x : Import) (r : List Lexeme) → Passes import_fits x → sees Mark (codes "{") r ≡ false → import_at (import_tokens x ++ r) ≡ Some (x, r)
 unfolding import_at import_tokens names_tokens has_comma same_kind
 import_again x r fits ends =
-    let f = both ((is_some x.names && list_all is_name x.names) && is_reference x.module) (option_fits oid_fits x.oid) fits in
-    let g = both (is_some x.names && list_all is_name x.names) (is_reference x.module) f.0 in
+    let f = and_parts ((is_some x.names && list_all is_name x.names) && is_reference x.module) (option_fits oid_fits x.oid) fits in
+    let g = and_parts (is_some x.names && list_all is_name x.names) (is_reference x.module) f.0 in
     simp append_assoc
     (then_again _ _ _ _ _ (some_names_again x.names _ g.0 (sees_kind _ _ _ _ _ refl))
     (then_again _ _ _ _ _ (expect_again _ _ _)
@@ -305,9 +305,9 @@ import_first (n ∷ ns) text r f = sees_kind _ _ _ _ _ refl
 import_mark : (x : Import) (text : List ℕ) (r : List Lexeme) → Passes import_fits x → sees Mark text (import_tokens x ++ r) ≡ false
 unfolding import_tokens names_tokens
 import_mark x text r fits =
-    let f = both ((is_some x.names && list_all is_name x.names) && is_reference x.module) (option_fits oid_fits x.oid) fits in
-    let g = both (is_some x.names && list_all is_name x.names) (is_reference x.module) f.0 in
-    simp append_assoc (import_first x.names text _ (both (is_some x.names) (list_all is_name x.names) g.0).0)
+    let f = and_parts ((is_some x.names && list_all is_name x.names) && is_reference x.module) (option_fits oid_fits x.oid) fits in
+    let g = and_parts (is_some x.names && list_all is_name x.names) (is_reference x.module) f.0 in
+    simp append_assoc (import_first x.names text _ (and_parts (is_some x.names) (list_all is_name x.names) g.0).0)
 
 import_starts : (x : Import) (r : List Lexeme) → Passes import_fits x → has_import (import_tokens x ++ r) ≡ true
 unfolding has_import is_end

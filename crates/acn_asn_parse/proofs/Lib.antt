@@ -1,3 +1,3 @@
-pub mod HeaderLaws
-pub mod ModuleLaws
-pub mod Whole
+mod HeaderLaws
+mod ModuleLaws
+mod Whole

@@ -4,7 +4,7 @@ use Rattle.std.specs.Prelude.{codes, map, nat_le}
 use Rattle.std.specs.List.{flat_map, list_all, AllByRecursion}
 use Rattle.std.specs.Cmp.Derive.{both_true}
 use Rattle.std.specs.Str.{bytes_eq}
-use Rattle.std.proofs.lemmas.Bool.{leb-true}
+use Rattle.std.proofs.lemmas.Bool.{leb-true, and_parts}
 use Rattle.std.proofs.lemmas.List.{append-nil}
 use Rattle.acn_lex.specs.declared.Kind.TheVariants.{Word, Mark}
 use Rattle.acn_lex.specs.Lexeme.{Lexeme, same_kind}
@@ -30,7 +30,7 @@ use Rattle.acn_asn_parse.specs.Headers.{head_at, exports_at, imports_at}
 use Rattle.acn_asn_types.specs.Types.{type_at}
 use Rattle.acn_asn_parse.specs.Modules.{is_value_name, has_identifier, has_item, has_more, type_is, value_is, assigned, type_assign, value_assign, assign_at, items_at, module_of, with_items, module_in, module_at, more_modules, modules_in, modules_at}
 use Rattle.acn_asn_types.proofs.ValueLaws.{Passes, Found, value_found, value_again, not_same}
-use Rattle.acn_asn_types.proofs.ListLaws.{both, all_pass, pass_all}
+use Rattle.acn_asn_types.proofs.ListLaws.{all_pass, pass_all}
 use Rattle.acn_asn_types.proofs.SimpleLaws.{not_reserved}
 use Rattle.acn_asn_types.proofs.TypesFound.{type_found}
 use Rattle.acn_asn_types.proofs.TypesAgain.{type_again, EndsType, word_ends}
@@ -71,8 +71,8 @@ upper_is_no_identifier (b ∷ bs) f = by_test (nat_le 97 b) refl
     by_test : (t : Bool) → nat_le 97 b ≡ t → t && nat_le b 122 ≡ false
     by_test false e = refl
     by_test true e =
-        let g = both (nat_le 65 b && nat_le b 90) (not (is_reserved (b ∷ bs))) f in
-        let h = both (nat_le 65 b) (nat_le b 90) g.0 in
+        let g = and_parts (nat_le 65 b && nat_le b 90) (not (is_reserved (b ∷ bs))) f in
+        let h = and_parts (nat_le 65 b) (nat_le b 90) g.0 in
         absurd (omega (arith, leb-true 97 b e, leb-true b 90 h.1))
 
 -- ---- assignments and modules, over a parser of types
@@ -178,14 +178,14 @@ module _ (inner : Parser AsnType) where
     assign_again : (x : Assign) (r : List Lexeme) → length (assign_text x ++ r) ≤ limit → Passes assign_fine x → EndsType r → assign_at inner (assign_text x ++ r) ≡ Some (x, r)
     unfolding assign_at type_assign value_assign type_is value_is assign_tokens type_tokens type_fits
     assign_again (assign.TypeIs name t) r bound fits ends =
-        let f = both (is_reference name) (type_fits t) fits in
+        let f = and_parts (is_reference name) (type_fits t) fits in
         rw (has_name name false ((mark (codes "::=") ∷ type_tokens t) ++ r) (upper_is_no_identifier name f.0))
         (then_again _ _ _ _ _ (word_again is_reference name _ f.0)
         (then_again _ _ _ _ _ (expect_again _ _ _)
         (then_again _ _ _ _ _ (again t r (omega arith) f.1 ends) refl)))
     assign_again (assign.ValueIs name t v) r bound fits ends =
-        let f = both (is_identifier name && type_fits t) (value_fits v) fits in
-        let g = both (is_identifier name) (type_fits t) f.0 in
+        let f = and_parts (is_identifier name && type_fits t) (value_fits v) fits in
+        let g = and_parts (is_identifier name) (type_fits t) f.0 in
         let regroup : (type_tokens t ++ mark (codes "::=") ∷ value_tokens v) ++ r ≡ type_tokens t ++ (mark (codes "::=") ∷ (value_tokens v ++ r)) = append_assoc (type_tokens t) (mark (codes "::=") ∷ value_tokens v) r in
         let within : length (type_tokens t ++ (mark (codes "::=") ∷ (value_tokens v ++ r))) ≤ limit = omega (arith, ap length regroup) in
         rw (has_name name true ((type_tokens t ++ mark (codes "::=") ∷ value_tokens v) ++ r) g.0)
@@ -196,8 +196,8 @@ module _ (inner : Parser AsnType) where
 
     assign_word : (x : Assign) (text : List ℕ) (r : List Lexeme) → Passes assign_fine x → is_reserved text ≡ true → is_identifier text ≡ false → sees Word text (assign_text x ++ r) ≡ false
     unfolding assign_tokens type_fits
-    assign_word (assign.TypeIs name t) text r fits p q = sees_text _ _ _ _ (not_reserved name text (both (is_reference name) (type_fits t) fits).0 p)
-    assign_word (assign.ValueIs name t v) text r fits p q = sees_text _ _ _ _ (not_same name text (both (is_identifier name) (type_fits t) (both (is_identifier name && type_fits t) (value_fits v) fits).0).0 q)
+    assign_word (assign.TypeIs name t) text r fits p q = sees_text _ _ _ _ (not_reserved name text (and_parts (is_reference name) (type_fits t) fits).0 p)
+    assign_word (assign.ValueIs name t v) text r fits p q = sees_text _ _ _ _ (not_same name text (and_parts (is_identifier name) (type_fits t) (and_parts (is_identifier name && type_fits t) (value_fits v) fits).0).0 q)
 
     assign_starts : (x : Assign) (r : List Lexeme) → Passes assign_fine x → has_item (assign_text x ++ r) ≡ true
     unfolding has_item reserved is_identifier
@@ -224,7 +224,7 @@ module _ (inner : Parser AsnType) where
 
     items_word : (xs : List Assign) (text : List ℕ) (r : List Lexeme) → list_all assign_fine xs ≡ true → is_reserved text ≡ true → is_identifier text ≡ false → bytes_eq (codes "END") text ≡ false → sees Word text (flat_map assign_text xs ++ ended r) ≡ false
     items_word [] text r fits p q n = sees_text _ _ _ _ n
-    items_word (x ∷ xs) text r fits p q n = rw (append_assoc (assign_text x) (flat_map assign_text xs) (ended r)) (assign_word x text _ (both (assign_fine x) (list_all assign_fine xs) fits).0 p q)
+    items_word (x ∷ xs) text r fits p q n = rw (append_assoc (assign_text x) (flat_map assign_text xs) (ended r)) (assign_word x text _ (and_parts (assign_fine x) (list_all assign_fine xs) fits).0 p q)
 
     abbrev imports_and : AsnModule → List Lexeme → List Lexeme
     imports_and x r = option_tokens imports_tokens x.imports ++ (flat_map assign_text x.items ++ ended r)
@@ -252,9 +252,9 @@ module _ (inner : Parser AsnType) where
     unfolding module_at module_in with_items module_of
     module_again x r bound fits =
         let rest = flat_map assign_text x.items ++ ended r in
-        let f = both (((is_reference x.name && option_fits oid_fits x.oid) && option_fits exports_fit x.exports) && option_fits (list_all import_fits) x.imports) (list_all assign_fits (map assign_view x.items)) fits in
-        let g = both ((is_reference x.name && option_fits oid_fits x.oid) && option_fits exports_fit x.exports) (option_fits (list_all import_fits) x.imports) f.0 in
-        let h = both (is_reference x.name && option_fits oid_fits x.oid) (option_fits exports_fit x.exports) g.0 in
+        let f = and_parts (((is_reference x.name && option_fits oid_fits x.oid) && option_fits exports_fit x.exports) && option_fits (list_all import_fits) x.imports) (list_all assign_fits (map assign_view x.items)) fits in
+        let g = and_parts ((is_reference x.name && option_fits oid_fits x.oid) && option_fits exports_fit x.exports) (option_fits (list_all import_fits) x.imports) f.0 in
+        let h = and_parts (is_reference x.name && option_fits oid_fits x.oid) (option_fits exports_fit x.exports) g.0 in
         let items : list_all assign_fine x.items ≡ true = sym (items_fine x.items) ∙ f.1 in
         let whole : length (opening_tokens (head_of x) ++ (mark (codes "::=") ∷ word (codes "BEGIN") ∷ (option_tokens exports_tokens x.exports ++ imports_and x r))) ≤ limit = subst (λ z. length z ≤ limit) (module_split x r) bound in
         let within : length rest ≤ limit = omega (arith, length-append (opening_tokens (head_of x)) (mark (codes "::=") ∷ word (codes "BEGIN") ∷ (option_tokens exports_tokens x.exports ++ imports_and x r)), length-append (option_tokens exports_tokens x.exports) (imports_and x r), length-append (option_tokens imports_tokens x.imports) rest) in
@@ -278,7 +278,7 @@ module _ (inner : Parser AsnType) where
     unfolding modules_in more_modules
     modules_from [] bound some fits = absurd cc
     modules_from (x ∷ xs) bound some fits =
-        let f = both (module_fine x) (list_all module_fine xs) fits in
+        let f = and_parts (module_fine x) (list_all module_fine xs) fits in
         let e : flat_map module_text xs ++ [] ≡ flat_map module_text xs = append-nil (flat_map module_text xs) in
         let within : length (flat_map module_text xs ++ []) ≤ limit = omega (arith, ap length e, length-append (module_text x) (flat_map module_text xs)) in
         let more : many has_more (module_at inner) (flat_map module_text xs ++ []) ≡ Some (xs, []) = many_again has_more (module_at inner) module_text (Passes module_fine) (λ _. Unit {0}) limit (λ x r b f _. module_again x r b f) module_starts (λ _ _ _. tt) module_some xs [] within (pass_all module_fine xs f.1) tt refl in

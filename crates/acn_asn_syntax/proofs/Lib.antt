@@ -1,4 +1,6 @@
--- for the crates above that match on sets, types, components and alternatives
+-- for acn_mentions, acn_world, acn_repeated, acn_names, acn_set_elements and acn_constraint
 pub mod Views
+-- for acn_asn_types
 pub mod SetTokens
+-- for acn_asn_types
 pub mod TypeTokens

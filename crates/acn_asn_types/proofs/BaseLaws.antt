@@ -3,7 +3,7 @@ use Rattle.std.proofs.Common.{◌≡◌, ℕ, ◌+◌, ◌^◌, ◌<◌, ◌≤�
 use Rattle.std.specs.Prelude.{codes}
 use Rattle.std.specs.Cmp.Derive.{both_true}
 use Rattle.std.specs.Fmt.{decimal}
-use Rattle.std.proofs.lemmas.Bool.{lt-ltb, ltb-true}
+use Rattle.std.proofs.lemmas.Bool.{lt-ltb, ltb-true, and_parts}
 use Rattle.acn_lex.specs.declared.Kind.TheVariants.{Word, Number, Mark}
 use Rattle.acn_lex.specs.Lexeme.{Lexeme, same_kind}
 use Rattle.acn_cursor.specs.Steps.{Parser, given, and_then, ◌>>=◌, ◌>>◌, pure, token, sees, eat, expect, number}
@@ -25,7 +25,6 @@ use Rattle.acn_asn_syntax.specs.Spelling.{class_tokens, mode_tokens, tag_tokens,
 use Rattle.acn_asn_types.specs.Values.{signed, value_at}
 use Rattle.acn_asn_types.specs.Bases.{private_if, application_if, universal_if, class_at, explicit_if, implicit_if, mode_at, tag_in, tag_if, tag_at, grouped, named, number_if, item_number, item, default_if, optional_if, rest_at}
 use Rattle.acn_asn_types.proofs.ValueLaws.{Passes, Found, signed_found, signed_again, value_found, value_again}
-use Rattle.acn_asn_types.proofs.ListLaws.{both}
 
 -- every item fits
 abbrev Any : {A : Type 0} → A → Bool
@@ -165,7 +164,7 @@ named_found ts x r e =
 pub named_again : (x : Named) (r : List Lexeme) → named_fits x ≡ true → named (named_tokens x ++ r) ≡ Some (x, r)
 unfolding named named_tokens
 named_again x r fits =
-    let f = both (is_identifier x.name) (number_fits x.number) fits in
+    let f = and_parts (is_identifier x.name) (number_fits x.number) fits in
     then_again _ _ _ _ _ (word_again _ x.name _ f.0)
     (then_again _ _ _ _ _ (expect_again _ _ _)
     (then_again _ _ _ _ _ (grouped_again x.negative x.number r f.1) refl))
@@ -203,7 +202,7 @@ item_number_again (Some n) r fits ends =
 pub item_again : (x : Item) (r : List Lexeme) → item_fits x ≡ true → sees Mark (codes "(") r ≡ false → item (item_tokens x ++ r) ≡ Some (x, r)
 unfolding item item_tokens
 item_again x r fits ends =
-    let f = both (is_identifier x.name) (option_fits (λ (n : Bool × ℕ). number_fits n.1) x.number) fits in
+    let f = and_parts (is_identifier x.name) (option_fits (λ (n : Bool × ℕ). number_fits n.1) x.number) fits in
     then_again _ _ _ _ _ (word_again _ x.name _ f.0)
     (then_again _ _ _ _ _ (item_number_again x.number r f.1 ends) refl)
 

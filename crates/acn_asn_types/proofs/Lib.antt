@@ -1,9 +1,14 @@
+-- for acn_asn_parse
 pub mod ValueLaws
-pub mod SetsFound
-pub mod SetsAgain
-pub mod Chains
+mod SetsFound
+mod SetsAgain
+mod Chains
+-- for acn_asn_parse
 pub mod ListLaws
-pub mod BaseLaws
+mod BaseLaws
+-- for acn_asn_parse
 pub mod SimpleLaws
+-- for acn_asn_parse
 pub mod TypesFound
+-- for acn_asn_parse
 pub mod TypesAgain

@@ -11,10 +11,7 @@ use Rattle.acn_asn_syntax.specs.Values.{mark, with_commas}
 use Rattle.acn_asn_syntax.specs.Spelling.{is_some}
 use Rattle.acn_asn_types.specs.Lists.{has_comma, next, more_of, listed}
 use Rattle.acn_asn_types.proofs.ValueLaws.{Passes, Found}
-
-pub both : (a b : Bool) → a && b ≡ true → (a ≡ true) × (b ≡ true)
-both true b e = (refl, e)
-both false b e = absurd cc
+use Rattle.std.proofs.lemmas.Bool.{and_parts}
 
 pub all_pass : {A : Type 0} (test : A → Bool) (xs : List A) → AllByRecursion (Passes test) xs → list_all test xs ≡ true
 all_pass test [] h = refl
@@ -22,7 +19,7 @@ all_pass test (x ∷ xs) h = both_true h.0 (all_pass test xs h.1)
 
 pub pass_all : {A : Type 0} (test : A → Bool) (xs : List A) → list_all test xs ≡ true → AllByRecursion (Passes test) xs
 pass_all test [] h = tt
-pass_all test (x ∷ xs) h = let b = both (test x) (list_all test xs) h in (b.0, pass_all test xs b.1)
+pass_all test (x ∷ xs) h = let b = and_parts (test x) (list_all test xs) h in (b.0, pass_all test xs b.1)
 
 abbrev pub some_fit : {A : Type 0} → (A → Bool) → List A → Bool
 some_fit fits xs = is_some xs && list_all fits xs
@@ -76,7 +73,7 @@ module _ {A : Type 0} (item : Parser A) (tokens : A → List Lexeme) (fits : A �
     unfolding listed more_of
     listed_again x xs r bound fit after ends =
         let regroup : with_commas tokens (x ∷ xs) ++ r ≡ tokens x ++ (flat_map next_tokens xs ++ r) = append_assoc (tokens x) (flat_map next_tokens xs) r in
-        let f = both (fits x) (list_all fits xs) fit in
+        let f = and_parts (fits x) (list_all fits xs) fit in
         let within : length (tokens x ++ (flat_map next_tokens xs ++ r)) ≤ limit = subst (λ z. length z ≤ limit) regroup bound in
         let rest_within : length (flat_map next_tokens xs ++ r) ≤ limit = omega (arith, length-append (tokens x) (flat_map next_tokens xs ++ r)) in
         let more : many has_comma (next item) (flat_map next_tokens xs ++ r) ≡ Some (xs, r) = many_again has_comma (next item) next_tokens (Passes fits) After limit next_again next_starts (λ x r _. comma _) next_some xs r rest_within (pass_all fits xs f.1) after ends in

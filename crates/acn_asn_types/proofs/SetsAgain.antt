@@ -4,7 +4,7 @@ use Rattle.std.specs.Prelude.{codes, is_some, option_map}
 use Rattle.std.specs.List.{flat_map, list_all, AllByRecursion}
 use Rattle.std.specs.Fmt.{decimal}
 use Rattle.std.specs.Cmp.Derive.{both_true}
-use Rattle.std.proofs.lemmas.Bool.{ltb-true}
+use Rattle.std.proofs.lemmas.Bool.{ltb-true, and_parts}
 use Rattle.std.proofs.lemmas.Slice.Eq.{bytes_eq-Decides}
 use Rattle.std.specs.Str.{bytes_eq}
 use Rattle.acn_lex.specs.declared.Kind.TheVariants.{Word, Number, Mark}
@@ -74,13 +74,9 @@ plain_range g r low high =
     (then_again _ _ _ _ _ (given_again _ _ g.high_out _ (end_mark (codes "MAX") g.high (codes "<") r refl))
     (then_again _ _ _ _ _ (end_again _ g.high _ high is_max) refl)))))
 
-both : (a b : Bool) → a && b ≡ true → (a ≡ true) × (b ≡ true)
-both true b e = (refl, e)
-both false b e = absurd cc
-
 pass_all : {A : Type 0} (test : A → Bool) (xs : List A) → list_all test xs ≡ true → AllByRecursion (Passes test) xs
 pass_all test [] h = tt
-pass_all test (x ∷ xs) h = let b = both (test x) (list_all test xs) h in (b.0, pass_all test xs b.1)
+pass_all test (x ∷ xs) h = let b = and_parts (test x) (list_all test xs) h in (b.0, pass_all test xs b.1)
 
 -- ---- what an element doesn't begin with
 
@@ -110,7 +106,7 @@ group_word text s r = sees_kind _ _ _ _ _ refl
 pub element_word : (x : Element) (text : List ℕ) (r : List Lexeme) → Passes element_fits x → IsOtherHere text → sees Word text (element_tokens x ++ r) ≡ false
 element_word x text r = form.by_element (λ x. Passes element_fits x → IsOtherHere text → sees Word text (element_tokens x ++ r) ≡ false)
     (λ v fits h. rw form.tokens_Value (value_word v text r (sym (form.fits_Value v) ∙ fits) h.plain))
-    (λ g fits h. rw form.tokens_Range (range_word text g r (both (end_fits g.low) (end_fits g.high) (sym (form.fits_Range g) ∙ fits)).0 h.plain h.is_not_min))
+    (λ g fits h. rw form.tokens_Range (range_word text g r (and_parts (end_fits g.low) (end_fits g.high) (sym (form.fits_Range g) ∙ fits)).0 h.plain h.is_not_min))
     (λ s fits h. rw form.tokens_SizeOf (sees_text _ _ _ _ h.is_not_size))
     (λ s fits h. rw form.tokens_From (sees_text _ _ _ _ h.is_not_from))
     (λ s fits h. rw form.tokens_Inner (group_word text (set_tokens s) r))
@@ -156,7 +152,7 @@ module _ (inner : Parser Set) (limit : ℕ) (again : (s : Set) (r : List Lexeme)
       (then_again _ _ _ _ _ (eat_nothing _ _ _ (value_word v _ r fits' is_size))
       (then_again _ _ _ _ _ (eat_nothing _ _ _ (value_word v _ r fits' is_from))
       (rw (value_mark v (codes "(") r refl) (plain_value v r fits' ends)))))
-      (λ g bound fits ends. let fits' = both (end_fits g.low) (end_fits g.high) (sym (form.fits_Range g) ∙ fits) in
+      (λ g bound fits ends. let fits' = and_parts (end_fits g.low) (end_fits g.high) (sym (form.fits_Range g) ∙ fits) in
       rw form.tokens_Range
       (then_again _ _ _ _ _ (eat_nothing _ _ _ (range_word _ g r fits'.0 is_size refl))
       (then_again _ _ _ _ _ (eat_nothing _ _ _ (range_word _ g r fits'.0 is_from refl))
@@ -198,7 +194,7 @@ module _ (inner : Parser Set) (limit : ℕ) (again : (s : Set) (r : List Lexeme)
       (λ e but bound fits ends.
       let t = form.tokens_part e but in
       let whole : part_tokens (roll-Part (record { element = e; but = but })) ++ r ≡ element_tokens e ++ (but_tokens (option_map element_tokens but) ++ r) = rw (t, append_assoc) refl in
-      let f = both (element_fits e) (but_proper (option_map element_fits but)) (sym (form.fits_part e but) ∙ fits) in
+      let f = and_parts (element_fits e) (but_proper (option_map element_fits but)) (sym (form.fits_part e but) ∙ fits) in
       let in_all : length (element_tokens e ++ (but_tokens (option_map element_tokens but) ++ r)) ≤ suc limit = subst (λ (z : List Lexeme). length z ≤ suc limit) whole bound in
       let in_rest : length (but_tokens (option_map element_tokens but) ++ r) ≤ suc limit = omega (arith, length-append (element_tokens e) (but_tokens (option_map element_tokens but) ++ r)) in
       rw whole
@@ -254,7 +250,7 @@ module _ (inner : Parser Set) (limit : ℕ) (again : (s : Set) (r : List Lexeme)
   meet_again x r = form.by_meet (λ x. length (meet_tokens x ++ r) ≤ suc limit → Passes meet_fits x → EndsMeet r → meet inner (meet_tokens x ++ r) ≡ Some (x, r))
       (λ first more bound fits ends.
       let whole : meet_tokens (roll-Meet (record { first = first; more = more })) ++ r ≡ part_tokens first ++ (flat_map next_part_tokens more ++ r) = rw (form.tokens_meet first more, append_assoc) refl in
-      let f = both (part_fits first) (list_all (λ (p : Bool × Part). part_fits p.1) more) (sym (form.fits_meet first more) ∙ fits) in
+      let f = and_parts (part_fits first) (list_all (λ (p : Bool × Part). part_fits p.1) more) (sym (form.fits_meet first more) ∙ fits) in
       let all = pass_all (λ (p : Bool × Part). part_fits p.1) more f.1 in
       let in_all : length (part_tokens first ++ (flat_map next_part_tokens more ++ r)) ≤ suc limit = subst (λ (z : List Lexeme). length z ≤ suc limit) whole bound in
       let in_rest : length (flat_map next_part_tokens more ++ r) ≤ suc limit = omega (arith, length-append (part_tokens first) (flat_map next_part_tokens more ++ r)) in
@@ -323,12 +319,12 @@ module _ (inner : Parser Set) (limit : ℕ) (again : (s : Set) (r : List Lexeme)
 
   part_word : (x : Part) (r : List Lexeme) → Passes part_fits x → sees Word (codes "ALL") (part_tokens x ++ r) ≡ false
   part_word x r = form.by_part (λ x. Passes part_fits x → sees Word (codes "ALL") (part_tokens x ++ r) ≡ false)
-      (λ e but fits. rw (form.tokens_part e but, append_assoc) (element_word e _ _ (both (element_fits e) (but_proper (option_map element_fits but)) (sym (form.fits_part e but) ∙ fits)).0 is_all))
+      (λ e but fits. rw (form.tokens_part e but, append_assoc) (element_word e _ _ (and_parts (element_fits e) (but_proper (option_map element_fits but)) (sym (form.fits_part e but) ∙ fits)).0 is_all))
       x
 
   meet_word : (x : Meet) (r : List Lexeme) → Passes meet_fits x → sees Word (codes "ALL") (meet_tokens x ++ r) ≡ false
   meet_word x r = form.by_meet (λ x. Passes meet_fits x → sees Word (codes "ALL") (meet_tokens x ++ r) ≡ false)
-      (λ first more fits. rw (form.tokens_meet first more, append_assoc) (part_word first _ (both (part_fits first) (list_all (λ (p : Bool × Part). part_fits p.1) more) (sym (form.fits_meet first more) ∙ fits)).0))
+      (λ first more fits. rw (form.tokens_meet first more, append_assoc) (part_word first _ (and_parts (part_fits first) (list_all (λ (p : Bool × Part). part_fits p.1) more) (sym (form.fits_meet first more) ∙ fits)).0))
       x
 
   set_in_again : (x : Set) (r : List Lexeme) → length (set_tokens x ++ closing r) ≤ suc limit → Passes set_fits x → set_in inner (set_tokens x ++ closing r) ≡ Some (x, closing r)
@@ -343,7 +339,7 @@ module _ (inner : Parser Set) (limit : ℕ) (again : (s : Set) (r : List Lexeme)
       (then_again _ _ _ _ _ (element_again e _ in_element (sym (form.fits_AllExcept e) ∙ fits) (closing_ends r).part.element) refl))))
       (λ m more bound fits.
       let whole : set_tokens (set.Union m more) ++ closing r ≡ meet_tokens m ++ (flat_map next_meet_tokens more ++ closing r) = rw (form.tokens_Union m more, append_assoc) refl in
-      let f = both (meet_fits m) (list_all (λ (p : Bool × Meet). meet_fits p.1) more) (sym (form.fits_Union m more) ∙ fits) in
+      let f = and_parts (meet_fits m) (list_all (λ (p : Bool × Meet). meet_fits p.1) more) (sym (form.fits_Union m more) ∙ fits) in
       let all = pass_all (λ (p : Bool × Meet). meet_fits p.1) more f.1 in
       let in_all : length (meet_tokens m ++ (flat_map next_meet_tokens more ++ closing r)) ≤ suc limit = subst (λ (z : List Lexeme). length z ≤ suc limit) whole bound in
       let in_rest : length (flat_map next_meet_tokens more ++ closing r) ≤ suc limit = omega (arith, length-append (meet_tokens m) (flat_map next_meet_tokens more ++ closing r)) in

@@ -22,8 +22,9 @@ use Rattle.acn_asn_syntax.proofs.TypeTokens as form
 use Rattle.acn_asn_types.specs.Lists.{has_comma, listed}
 use Rattle.acn_asn_types.specs.Bases.{named, item, named_if, integer_at, enumerated_at, dot_if, reference_at, enumerated_if, integer_if, number_base, bit_if, octet_if, string_base, characters_if, null_base_if, boolean_if, simple_base}
 use Rattle.acn_asn_types.proofs.ValueLaws.{Passes, Found}
-use Rattle.acn_asn_types.proofs.ListLaws.{both, some_fit, listed_found, listed_again}
+use Rattle.acn_asn_types.proofs.ListLaws.{some_fit, listed_found, listed_again}
 use Rattle.acn_asn_types.proofs.BaseLaws.{named_found, named_again, item_found, item_again}
+use Rattle.std.proofs.lemmas.Bool.{and_parts}
 
 -- a proper base that is not SEQUENCE OF
 unfoldable pub plain_fits : AsnBase → Bool
@@ -38,7 +39,7 @@ plain_by b f l = both_true f (ap not l)
 
 pub fits_by : (b : AsnBase) → plain_fits b ≡ true → base_fits b ≡ true
 unfolding plain_fits
-fits_by b f = (both (base_fits b) (not (is_list b)) f).0
+fits_by b f = (and_parts (base_fits b) (not (is_list b)) f).0
 
 -- ---- found
 
@@ -160,7 +161,7 @@ not_reserved name text p q = by_test (bytes_eq name text) refl
     by_test : (b : Bool) → bytes_eq name text ≡ b → b ≡ false
     by_test true e =
         let k : name ≡ text = (bytes_eq-Decides name text).0 e in
-        let f = both (is_upper name) (not (is_reserved name)) p in
+        let f = and_parts (is_upper name) (not (is_reserved name)) p in
         let z : is_reserved name ≡ true = ap is_reserved k ∙ q in
         let w : not (is_reserved name) ≡ false = ap not z in
         absurd (cc (f.1, w))
@@ -243,5 +244,5 @@ ref_word (Some from) name text r f g k = sees_text _ _ _ _ (not_reserved from te
 pub again_Ref : (from : Option (List ℕ)) (name : List ℕ) (r : List Lexeme) → plain_fits (base.Ref from name) ≡ true → EndsBase r → simple_base (base_tokens (base.Ref from name) ++ r) ≡ Some (base.Ref from name, r)
 unfolding simple_base string_base number_base reserved
 again_Ref from name r fits ends =
-    let f = both (option_fits is_reference from) (is_reference name) (sym (form.fits_Ref from name) ∙ fits_by _ fits) in
+    let f = and_parts (option_fits is_reference from) (is_reference name) (sym (form.fits_Ref from name) ∙ fits_by _ fits) in
     rw form.tokens_Ref (then_again _ _ _ _ _ (eat_nothing _ _ _ (ref_word from name (codes "BOOLEAN") r f.0 f.1 refl)) (then_again _ _ _ _ _ (eat_nothing _ _ _ (ref_word from name (codes "NULL") r f.0 f.1 refl)) (then_again _ _ _ _ _ (eat_nothing _ _ _ (ref_word from name (codes "IA5String") r f.0 f.1 refl)) (then_again _ _ _ _ _ (eat_nothing _ _ _ (ref_word from name (codes "OCTET") r f.0 f.1 refl)) (then_again _ _ _ _ _ (eat_nothing _ _ _ (ref_word from name (codes "BIT") r f.0 f.1 refl)) (then_again _ _ _ _ _ (eat_nothing _ _ _ (ref_word from name (codes "INTEGER") r f.0 f.1 refl)) (then_again _ _ _ _ _ (eat_nothing _ _ _ (ref_word from name (codes "ENUMERATED") r f.0 f.1 refl)) (reference_again from name r f.0 f.1 ends))))))))

@@ -40,10 +40,11 @@ use Rattle.acn_asn_types.specs.Sets.{set_at}
 use Rattle.acn_asn_types.specs.Types.{has_paren, typed, component_of, alternative_of, list_type, containing_at, set_constraint, constraint_at, size_at, some_constraint, of_constraint, list_at, finish, component, components_at, alternative, choice_at, base_at, sequence_at, other_at, step_at, chain, type_in, type_at}
 use Rattle.acn_asn_types.proofs.ValueLaws.{Passes, IsOther}
 use Rattle.acn_asn_types.proofs.SetsAgain.{closing, set_again, element_word, IsOtherHere}
-use Rattle.acn_asn_types.proofs.ListLaws.{both, pass_all, some_fit, listed_again}
+use Rattle.acn_asn_types.proofs.ListLaws.{pass_all, some_fit, listed_again}
 use Rattle.acn_asn_types.proofs.BaseLaws.{BeginsBase, tag_again, rest_again, EndsRest}
 use Rattle.acn_asn_types.proofs.SimpleLaws.{plain_fits, fits_by, EndsBase, not_reserved, again_Boolean, again_Null, again_Ia5String, again_OctetString, again_BitString, again_Integer, again_Enumerated, again_Ref}
 use Rattle.acn_asn_types.proofs.TypesFound.{head_tokens, list_by, list_is, list_fits_by}
+use Rattle.std.proofs.lemmas.Bool.{and_parts}
 
 -- behind a type
 pub record EndsType (r : List Lexeme) : Type 0 where
@@ -72,18 +73,18 @@ is_containing = record { plain = record { is_upper = refl; is_not_true = refl; i
 
 part_word : (x : Part) (r : List Lexeme) → Passes part_fits x → sees Word (codes "CONTAINING") (part_tokens x ++ r) ≡ false
 part_word x r = sets.by_part (λ x. Passes part_fits x → sees Word (codes "CONTAINING") (part_tokens x ++ r) ≡ false)
-    (λ e but fits. rw (sets.tokens_part e but, append_assoc) (element_word e _ _ (both (element_fits e) _ (sym (sets.fits_part e but) ∙ fits)).0 is_containing))
+    (λ e but fits. rw (sets.tokens_part e but, append_assoc) (element_word e _ _ (and_parts (element_fits e) _ (sym (sets.fits_part e but) ∙ fits)).0 is_containing))
     x
 
 meet_word : (x : Meet) (r : List Lexeme) → Passes meet_fits x → sees Word (codes "CONTAINING") (meet_tokens x ++ r) ≡ false
 meet_word x r = sets.by_meet (λ x. Passes meet_fits x → sees Word (codes "CONTAINING") (meet_tokens x ++ r) ≡ false)
-    (λ first more fits. rw (sets.tokens_meet first more, append_assoc) (part_word first _ (both (part_fits first) _ (sym (sets.fits_meet first more) ∙ fits)).0))
+    (λ first more fits. rw (sets.tokens_meet first more, append_assoc) (part_word first _ (and_parts (part_fits first) _ (sym (sets.fits_meet first more) ∙ fits)).0))
     x
 
 set_word : (x : Set) (r : List Lexeme) → Passes set_fits x → sees Word (codes "CONTAINING") (set_tokens x ++ r) ≡ false
 set_word x r = sets.by_set (λ x. Passes set_fits x → sees Word (codes "CONTAINING") (set_tokens x ++ r) ≡ false)
     (λ e fits. rw (sets.tokens_AllExcept e) (sees_text _ _ _ _ refl))
-    (λ m more fits. rw (sets.tokens_Union m more, append_assoc) (meet_word m _ (both (meet_fits m) _ (sym (sets.fits_Union m more) ∙ fits)).0))
+    (λ m more fits. rw (sets.tokens_Union m more, append_assoc) (meet_word m _ (and_parts (meet_fits m) _ (sym (sets.fits_Union m more) ∙ fits)).0))
     x
 
 -- ---- a constraint behind a type begins with a parenthesis
@@ -105,7 +106,7 @@ constraint_some c = form.by_constraint (λ c. Passes outer_fits c → 0 < length
 constraints_end : (cs : List Constraint) (r : List Lexeme) → list_all outer_fits cs ≡ true → EndsType r → EndsBase (flat_map constraint_tokens cs ++ r)
 constraints_end [] r f ends = record { brace = ends.brace; dot = ends.dot }
 constraints_end (c ∷ cs) r f ends =
-    let g = both (outer_fits c) (list_all outer_fits cs) f in
+    let g = and_parts (outer_fits c) (list_all outer_fits cs) f in
     let m = constraint_mark c (flat_map constraint_tokens cs ++ r) g.0 in
     rw (append_assoc (constraint_tokens c) (flat_map constraint_tokens cs) r) (record { brace = m.1; dot = m.2 })
 
@@ -260,7 +261,7 @@ module _ (limit : ℕ) (set : Parser Set)
   unfolding alternative alternative_of
   alternative_again x r = form.by_alternative (λ x. length (alternative_tokens x ++ r) ≤ limit → Passes alternative_fits x → EndsType r → alternative set inner (alternative_tokens x ++ r) ≡ Some (x, r))
       (λ name t bound fits ends.
-      let f = both (is_identifier name) (type_fits t) (sym (form.fits_alternative name t) ∙ fits) in
+      let f = and_parts (is_identifier name) (type_fits t) (sym (form.fits_alternative name t) ∙ fits) in
       let b : length ((word name ∷ type_tokens t) ++ r) ≤ limit = subst (λ z. length (z ++ r) ≤ limit) (form.tokens_alternative name t) bound in
       rw (form.tokens_alternative name t)
       (then_again _ _ _ _ _ (word_again _ name _ f.0)
@@ -290,8 +291,8 @@ module _ (limit : ℕ) (set : Parser Set)
   unfolding component component_of
   component_again x r = form.by_component (λ x. length (component_tokens x ++ r) ≤ limit → Passes component_fits x → EndsComponent r → component set inner (component_tokens x ++ r) ≡ Some (x, r))
       (λ name t z bound fits ends.
-      let f = both (is_identifier name && type_fits t) (rest_fits z) (sym (form.fits_component name t z) ∙ fits) in
-      let g = both (is_identifier name) (type_fits t) f.0 in
+      let f = and_parts (is_identifier name && type_fits t) (rest_fits z) (sym (form.fits_component name t z) ∙ fits) in
+      let g = and_parts (is_identifier name) (type_fits t) f.0 in
       let whole : component_tokens (roll-Component (record { name = name; of = t; rest = z })) ++ r ≡ word name ∷ (type_tokens t ++ (rest_tokens z ++ r)) = rw (form.tokens_component name t z) (ap (λ k. word name ∷ k) (append_assoc (type_tokens t) (rest_tokens z) r)) in
       let b : length (word name ∷ (type_tokens t ++ (rest_tokens z ++ r))) ≤ limit = subst (λ k. length k ≤ limit) whole bound in
       rw whole
@@ -352,7 +353,7 @@ module _ (limit : ℕ) (set : Parser Set)
 
   no_list : (b : AsnBase) → is_list b ≡ true → plain_fits b ≡ true → ⊥
   unfolding plain_fits
-  no_list b l f = let z : not (is_list b) ≡ false = ap not l in let k = (both (base_fits b) (not (is_list b)) f).1 in absurd (cc (z, k))
+  no_list b l f = let z : not (is_list b) ≡ false = ap not l in let k = (and_parts (base_fits b) (not (is_list b)) f).1 in absurd (cc (z, k))
 
   base_word : (w : List ℕ) → bytes_eq w (codes "SEQUENCE") ≡ false → bytes_eq w (codes "CHOICE") ≡ false → bytes_eq w (codes "IMPLICIT") ≡ false → bytes_eq w (codes "EXPLICIT") ≡ false → IsBaseWord w
   base_word w a b c d = record { sequence = a; choice = b; implicit = c; explicit = d }
@@ -360,11 +361,11 @@ module _ (limit : ℕ) (set : Parser Set)
   reference_step : (from : Option (List ℕ)) (name : List ℕ) → Steps (base.Ref from name)
   unfolding ref_tokens reserved
   reference_step None name tag cs r bound f g =
-      let k = both (option_fits is_reference None) (is_reference name) (sym (form.fits_Ref None name) ∙ fits_by _ g) in
+      let k = and_parts (option_fits is_reference None) (is_reference name) (sym (form.fits_Ref None name) ∙ fits_by _ g) in
       let w = base_word name (not_reserved name _ k.1 refl) (not_reserved name _ k.1 refl) (not_reserved name _ k.1 refl) (not_reserved name _ k.1 refl) in
       simple_step (base.Ref None name) name [] (form.tokens_Ref None name) w (λ g m ends. again_Ref None name m g ends) tag cs r bound f g
   reference_step (Some from) name tag cs r bound f g =
-      let k = both (option_fits is_reference (Some from)) (is_reference name) (sym (form.fits_Ref (Some from) name) ∙ fits_by _ g) in
+      let k = and_parts (option_fits is_reference (Some from)) (is_reference name) (sym (form.fits_Ref (Some from) name) ∙ fits_by _ g) in
       let w = base_word from (not_reserved from _ k.0 refl) (not_reserved from _ k.0 refl) (not_reserved from _ k.0 refl) (not_reserved from _ k.0 refl) in
       simple_step (base.Ref (Some from) name) from (mark (codes ".") ∷ word name ∷ []) (form.tokens_Ref (Some from) name) w (λ g m ends. again_Ref (Some from) name m g ends) tag cs r bound f g
 
@@ -415,9 +416,9 @@ module _ (limit : ℕ) (set : Parser Set)
   plain_chain : (n : ℕ) (tag : Option Tag) (b : AsnBase) (cs : List Constraint) → is_list b ≡ false → Chained (suc n) (roll-AsnType (record { tag = tag; base = b; constraints = cs }))
   unfolding typed plain_fits
   plain_chain n tag b cs l r turns bound fits ends =
-      let f = both ((option_fits tag_fits tag && base_fits b) && list_all outer_fits cs) _ (sym (form.fits_type tag b cs) ∙ fits) in
-      let g = both (option_fits tag_fits tag && base_fits b) (list_all outer_fits cs) f.0 in
-      let k = both (option_fits tag_fits tag) (base_fits b) g.0 in
+      let f = and_parts ((option_fits tag_fits tag && base_fits b) && list_all outer_fits cs) _ (sym (form.fits_type tag b cs) ∙ fits) in
+      let g = and_parts (option_fits tag_fits tag && base_fits b) (list_all outer_fits cs) f.0 in
+      let k = and_parts (option_fits tag_fits tag) (base_fits b) g.0 in
       let regroup : type_tokens (roll-AsnType (record { tag = tag; base = b; constraints = cs })) ++ r ≡ option_tokens tag_tokens tag ++ (base_tokens b ++ tail_tokens cs r) = rw (form.tokens_type tag b cs) (simp append_assoc refl) in
       let whole : length (option_tokens tag_tokens tag ++ (base_tokens b ++ tail_tokens cs r)) ≤ suc limit = subst (λ z. length z ≤ suc limit) regroup bound in
       let within : length (base_tokens b ++ tail_tokens cs r) ≤ suc limit = omega (arith, length-append (option_tokens tag_tokens tag) (base_tokens b ++ tail_tokens cs r)) in
@@ -426,7 +427,7 @@ module _ (limit : ℕ) (set : Parser Set)
 
   no_constraints : (tag : Option Tag) (c : Option Constraint) (u : AsnType) (x : Constraint) (xs : List Constraint) → type_fits (roll-AsnType (record { tag = tag; base = base.SequenceOf c u; constraints = x ∷ xs })) ≡ true → ⊥
   no_constraints tag c u x xs fits =
-      let f = both ((option_fits tag_fits tag && base_fits (base.SequenceOf c u)) && list_all outer_fits (x ∷ xs)) (cond (is_list (base.SequenceOf c u)) false true) (sym (form.fits_type tag (base.SequenceOf c u) (x ∷ xs)) ∙ fits) in
+      let f = and_parts ((option_fits tag_fits tag && base_fits (base.SequenceOf c u)) && list_all outer_fits (x ∷ xs)) (cond (is_list (base.SequenceOf c u)) false true) (sym (form.fits_type tag (base.SequenceOf c u) (x ∷ xs)) ∙ fits) in
       let z : cond (is_list (base.SequenceOf c u)) false true ≡ false = ap (λ b. cond b false true) (list_is c u) in
       let w : false ≡ true = sym z ∙ f.1 in
       absurd cc
@@ -437,10 +438,10 @@ module _ (limit : ℕ) (set : Parser Set)
   list_chain n more tag c u [] r turns bound fits ends =
       let k : ListHead = record { tag = tag; constraint = c } in
       let regroup : type_tokens (roll-AsnType (record { tag = tag; base = base.SequenceOf c u; constraints = [] })) ++ r ≡ head_tokens k ++ (type_tokens u ++ r) = ap (λ z. z ++ r) (list_by tag c u) ∙ append_assoc (head_tokens k) (type_tokens u) r in
-      let f = both (option_fits tag_fits tag && (option_fits inner_fits c && type_fits u) && true) true (sym (list_fits_by tag c u) ∙ fits) in
-      let g = both (option_fits tag_fits tag && (option_fits inner_fits c && type_fits u)) true f.0 in
-      let i = both (option_fits tag_fits tag) (option_fits inner_fits c && type_fits u) g.0 in
-      let j = both (option_fits inner_fits c) (type_fits u) i.1 in
+      let f = and_parts (option_fits tag_fits tag && (option_fits inner_fits c && type_fits u) && true) true (sym (list_fits_by tag c u) ∙ fits) in
+      let g = and_parts (option_fits tag_fits tag && (option_fits inner_fits c && type_fits u)) true f.0 in
+      let i = and_parts (option_fits tag_fits tag) (option_fits inner_fits c && type_fits u) g.0 in
+      let j = and_parts (option_fits inner_fits c) (type_fits u) i.1 in
       let whole : length (head_tokens k ++ (type_tokens u ++ r)) ≤ suc limit = subst (λ z. length z ≤ suc limit) regroup bound in
       let few : length (head_tokens k ++ (type_tokens u ++ r)) ≤ suc n = subst (λ z. length z ≤ suc n) regroup turns in
       let taken : 0 < length (head_tokens k) = omega (arith, length-append (option_tokens tag_tokens tag) (word (codes "SEQUENCE") ∷ (option_tokens constraint_tokens c ++ word (codes "OF") ∷ []))) in

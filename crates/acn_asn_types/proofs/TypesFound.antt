@@ -34,9 +34,10 @@ use Rattle.acn_asn_types.specs.Sets.{set_at}
 use Rattle.acn_asn_types.specs.Types.{has_paren, typed, component_of, alternative_of, list_type, containing_at, set_constraint, content_if, constraint_at, size_at, some_constraint, size_if, of_constraint, list_at, finish, component, none_if, components_at, alternative, choice_at, choice_if, base_at, brace_if, sequence_at, other_at, sequence_if, step_at, chain_if, chain, type_in, type_at}
 use Rattle.acn_asn_types.proofs.ValueLaws.{Passes, Found}
 use Rattle.acn_asn_types.proofs.SetsFound.{set_found}
-use Rattle.acn_asn_types.proofs.ListLaws.{both, all_pass, some_fit, listed_found}
+use Rattle.acn_asn_types.proofs.ListLaws.{all_pass, some_fit, listed_found}
 use Rattle.acn_asn_types.proofs.BaseLaws.{tag_found, rest_found}
 use Rattle.acn_asn_types.proofs.SimpleLaws.{plain_fits, plain_by, TakesBase, simple_found}
+use Rattle.std.proofs.lemmas.Bool.{and_parts}
 
 -- what may stand behind a type may stand before OF
 inner_by : (c : Constraint) → outer_fits c ≡ true → inner_fits c ≡ true
@@ -162,7 +163,7 @@ module _ (sets : Parser Set) (set_found : Found sets set_tokens set_fits) (inner
       let a = repeat_found has_paren (constraint_at sets inner) constraint_tokens (Passes outer_fits) constraint_found (length m) m _ _ e1 in
       let spelled : ts ≡ ((option_tokens tag_tokens tag ++ base_tokens b) ++ flat_map constraint_tokens cs) ++ m1 = simp append_assoc (cc (p, t.parts, a.parts)) in
       let parts : ts ≡ type_tokens (typed tag b cs) ++ m1 = rw (form.tokens_type tag b cs) spelled in
-      let g = both (base_fits b) (not (is_list b)) t.fits in
+      let g = and_parts (base_fits b) (not (is_list b)) t.fits in
       let fits = form.fits_type tag b cs ∙ both_true (both_true (both_true f g.0) (all_pass outer_fits cs a.fits)) (no_list (is_list b) (is_none cs) g.1) in
       done (step.Inner (typed tag b cs)) m1 _ _ h parts fits)
     where
@@ -205,7 +206,7 @@ module _ (sets : Parser Set) (set_found : Found sets set_tokens set_fits) (inner
       let a = listed_found (component sets inner) component_tokens component_fits component_found _ _ _ e1 in
       let b = expect_found _ _ _ _ _ e2 in
       let parts : ts ≡ behind_brace cs' ++ m2 = simp append_assoc (cc (p, a.parts, b)) in
-      done cs' m2 _ _ h parts (both (is_some cs') (list_all component_fits cs') a.fits).1))
+      done cs' m2 _ _ h parts (and_parts (is_some cs') (list_all component_fits cs') a.fits).1))
 
   brace_found : (tag : Option Tag) (b : Bool) (ts ts' ts2 m : List Lexeme) (x : Step) (r : List Lexeme) → option_fits tag_fits tag ≡ true → ts ≡ option_tokens tag_tokens tag ++ ts' → ts' ≡ word (codes "SEQUENCE") ∷ ts2 → ts2 ≡ given b (mark (codes "{")) ++ m → brace_if sets inner tag b m ≡ Some (x, r) → TakesStep ts x r
   unfolding components_at
@@ -263,7 +264,7 @@ module _ (sets : Parser Set) (set_found : Found sets set_tokens set_fits) (inner
   chain_by n more ts t r (step.Head k) m a h =
       then_found (chain sets inner n m) _ _ h (λ u m1 e1 h.
       let b = more m u m1 e1 in
-      let f = both (option_fits tag_fits k.tag) (option_fits inner_fits k.constraint) a.fits in
+      let f = and_parts (option_fits tag_fits k.tag) (option_fits inner_fits k.constraint) a.fits in
       let spelled : ts ≡ (head_tokens k ++ type_tokens u) ++ m1 = a.parts ∙ (ap (λ z. head_tokens k ++ z) b.parts ∙ sym (append_assoc (head_tokens k) (type_tokens u) m1)) in
       let parts : ts ≡ type_tokens (list_type k u) ++ m1 = rw (list_tokens k u) spelled in
       done (list_type k u) m1 _ _ h parts (list_fits k u ∙ both_true (both_true (both_true f.0 (both_true f.1 b.fits)) refl) refl))

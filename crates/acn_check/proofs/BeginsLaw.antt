@@ -24,7 +24,6 @@ use Rattle.acn_grammar.specs.declared.node.NumKind.{NumKind}
 use Rattle.acn_grammar.specs.declared.node.NumKind.TheVariants.{Integer, Boolean, Enumerated, Null}
 use Rattle.acn_grammar.specs.declared.node.NumLeaf.{NumLeaf}
 use Rattle.acn_grammar.specs.declared.node.Table.{Table}
-use Rattle.acn_grammar.proofs.Codings.{both_are, not_is}
 use Rattle.acn_grammar.proofs.FineLeaves.{rules_of, no_values}
 use Rattle.acn_grammar.proofs.LeafLengths.{le_fact, lt_fact, eq_fact}
 use Rattle.acn_grammar.proofs.Texts.{either}
@@ -33,6 +32,7 @@ use Rattle.acn_packet_laws.proofs.Codes.{each_number_has_a_code, set_ordered}
 use Rattle.acn_packet_laws.proofs.HasImage.{Ordered}
 use Rattle.acn_check.specs.First.{hits, turned, begins, begins_by, can_begin}
 use Rattle.acn_check.proofs.Assembly.{some_inj}
+use Rattle.std.proofs.lemmas.Bool.{le-leb, leb-true, or_left, or_right, and_parts, not-true}
 
 -- one bit more of a number that is read from its front
 pub push_bit : (bs : List Bool) (i n d : ℕ) → i < length bs → length bs ≤ 64 → n ≡ number (take i bs) → d ≡ bool_byte (get_or bs i false)
@@ -76,20 +76,6 @@ le_true a b h = grind (arith, ints, nat_tests)
 lt_not : (a b : ℤ) → int_lt a b ≡ false → b ≤ℤ a
 lt_not a b h = grind (arith, ints, nat_tests)
 
-nat_true : (a b : ℕ) → a ≤ b → nat_le a b ≡ true
-nat_true a b h = grind (arith, nat_tests)
-
-nat_is : (a b : ℕ) → nat_le a b ≡ true → a ≤ b
-nat_is a b h = grind (arith, nat_tests)
-
-or_left : (a b : Bool) → a ≡ true → (a || b) ≡ true
-or_left true b h = refl
-or_left false b h = cc
-
-or_right : (a b : Bool) → b ≡ true → (a || b) ≡ true
-or_right true b h = refl
-or_right false b h = h
-
 trans_le : (a b c : ℤ) → a ≤ℤ b → b ≤ℤ c → a ≤ℤ c
 trans_le a b c h k = omega (arith, ints)
 
@@ -122,11 +108,11 @@ reaches a v k h = omega (arith, mul-le-mul_right {m = v} {n = a / 2 ^ k} (2 ^ k)
 hit_of : (low : ℤ) (k v : ℕ) (r : ℤ × ℤ) (y : ℤ) → low ≤ℤ y → r.0 ≤ℤ y → y ≤ℤ r.1 → distance low y / 2 ^ k ≡ v → hits low k v r ≡ true
 hit_of low k v r y a b c e =
     let far = shorter (distance low y) (distance low r.1) k (further low y r.1 a c) in
-    rw (le_true low r.1 (trans_le low y r.1 a c), nat_true v (distance low r.1 / 2 ^ k) (omega (arith, far, e))) (last (int_lt r.0 low) refl)
+    rw (le_true low r.1 (trans_le low y r.1 a c), le-leb v (distance low r.1 / 2 ^ k) (omega (arith, far, e))) (last (int_lt r.0 low) refl)
   where
     last : (t : Bool) → int_lt r.0 low ≡ t → (t || nat_le (distance low r.0 / 2 ^ k) v) ≡ true
     last true h = refl
-    last false h = (let near = shorter (distance low r.0) (distance low y) k (further low r.0 y (lt_not r.0 low h) b) in nat_true (distance low r.0 / 2 ^ k) v (omega (arith, near, e)))
+    last false h = (let near = shorter (distance low r.0) (distance low y) k (further low r.0 y (lt_not r.0 low h) b) in le-leb (distance low r.0 / 2 ^ k) v (omega (arith, near, e)))
 
 record Hit (low : ℤ) (k v : ℕ) (r : ℤ × ℤ) : Type 0 where
   y : ℤ
@@ -146,16 +132,16 @@ exactly_at low k v r top far first = record {
 
 of_hit : (low : ℤ) (k v : ℕ) (r : ℤ × ℤ) → r.0 ≤ℤ r.1 → hits low k v r ≡ true → Hit low k v r
 of_hit low k v r o h =
-    let p = both_are (int_le low r.1) (nat_le v (distance low r.1 / 2 ^ k) && (int_lt r.0 low || nat_le (distance low r.0 / 2 ^ k) v)) h in
-    let q = both_are (nat_le v (distance low r.1 / 2 ^ k)) (int_lt r.0 low || nat_le (distance low r.0 / 2 ^ k) v) p.1 in
+    let p = and_parts (int_le low r.1) (nat_le v (distance low r.1 / 2 ^ k) && (int_lt r.0 low || nat_le (distance low r.0 / 2 ^ k) v)) h in
+    let q = and_parts (nat_le v (distance low r.1 / 2 ^ k)) (int_lt r.0 low || nat_le (distance low r.0 / 2 ^ k) v) p.1 in
     let top = le_fact low r.1 p.0 in
-    let far = reaches (distance low r.1) v k (nat_is v (distance low r.1 / 2 ^ k) q.0) in
+    let far = reaches (distance low r.1) v k (leb-true v (distance low r.1 / 2 ^ k) q.0) in
     by (int_lt r.0 low) refl top far q.1
   where
     by : (t : Bool) → int_lt r.0 low ≡ t → low ≤ℤ r.1 → v * 2 ^ k ≤ distance low r.1 → (t || nat_le (distance low r.0 / 2 ^ k) v) ≡ true → Hit low k v r
     by true e top far g = exactly_at low k v r top far (below_low r.0 low (v * 2 ^ k) (lt_fact r.0 low e))
     by false e top far g =
-        let under = nat_is (distance low r.0 / 2 ^ k) v g in
+        let under = leb-true (distance low r.0 / 2 ^ k) v g in
         let start = lt_not r.0 low e in
         elim (dec_lt (distance low r.0) (v * 2 ^ k)) [
           | yes less ↦ exactly_at low k v r top far (beyond low r.0 (v * 2 ^ k) start less)
@@ -167,7 +153,7 @@ of_hit low k v r o h =
 any_hit : (low : ℤ) (k v : ℕ) (rs : List (ℤ × ℤ)) (y : ℤ) → has rs y ≡ true → low ≤ℤ y → distance low y / 2 ^ k ≡ v → list_any (hits low k v) rs ≡ true
 any_hit low k v [] y h a e = cc
 any_hit low k v (r ∷ rs) y h a e = either {F = list_any (hits low k v) (r ∷ rs) ≡ true} (int_le r.0 y && int_le y r.1) (has rs y) h
-    (λ q. let w = both_are (int_le r.0 y) (int_le y r.1) q in or_left (hits low k v r) (list_any (hits low k v) rs) (hit_of low k v r y a (le_fact r.0 y w.0) (le_fact y r.1 w.1) e))
+    (λ q. let w = and_parts (int_le r.0 y) (int_le y r.1) q in or_left (hits low k v r) (list_any (hits low k v) rs) (hit_of low k v r y a (le_fact r.0 y w.0) (le_fact y r.1 w.1) e))
     (λ q. or_right (hits low k v r) (list_any (hits low k v) rs) (any_hit low k v rs y q a e))
 
 record Any_hit (low : ℤ) (k v : ℕ) (rs : List (ℤ × ℤ)) : Type 0 where
@@ -190,7 +176,7 @@ hit_any low k v (r ∷ rs) o h = either {F = Any_hit low k v (r ∷ rs)} (hits l
 range_has : (low high : ℤ) (set : List (ℤ × ℤ)) (x : ℤ) → is_range low high set ≡ true → low ≤ℤ x → x ≤ℤ high → has set x ≡ true
 range_has low high [] x h a b = cc
 range_has low high (r ∷ []) x h a b =
-    let f = both_are (int_eq r.0 low) (int_eq r.1 high) h in
+    let f = and_parts (int_eq r.0 low) (int_eq r.1 high) h in
     let one = eq_fact r.0 low f.0 in
     let two = eq_fact r.1 high f.1 in
     rw (one, two, le_true low x a) (or_left (int_le x high) false (le_true x high b))
@@ -199,7 +185,7 @@ range_has low high (r ∷ s ∷ rs) x h a b = cc
 item_at : (items : List (List ℕ × ℤ)) (y : ℤ) → has (map (λ named. (named.1, named.1)) items) y ≡ true → (i : ℕ) × (option_map (λ named. named.1) (slice_get items i) ≡ Some y) × (i < length items)
 item_at [] y h = cc
 item_at (n ∷ items) y h = either {F = (i : ℕ) × (option_map (λ named. named.1) (slice_get (n ∷ items) i) ≡ Some y) × (i < length (n ∷ items))} (int_le n.1 y && int_le y n.1) (has (map (λ named. (named.1, named.1)) items) y) h
-    (λ q. let w = both_are (int_le n.1 y) (int_le y n.1) q in (0, ap Some (one n.1 y (le_fact n.1 y w.0) (le_fact y n.1 w.1)), omega arith))
+    (λ q. let w = and_parts (int_le n.1 y) (int_le y n.1) q in (0, ap Some (one n.1 y (le_fact n.1 y w.0) (le_fact y n.1 w.1)), omega arith))
     (λ q. let r = item_at items y q in (suc r.0, r.1, omega (arith, r.2)))
   where
     one : (a b : ℤ) → a ≤ℤ b → b ≤ℤ a → a ≡ b
@@ -210,12 +196,12 @@ item_in : (kind : NumKind) (coding : NumCoding) (items : Items) (table : Option 
 item_in Integer coding items table set i s v l = (let n = values_of_integer s in cc)
   where
     values_of_integer : set_fine Integer coding items table set ≡ true → items.values ≡ false
-    values_of_integer s = (let a = both_are (Rattle.acn_num.specs.Ranges.are_ranges set) (Rattle.acn_grammar.specs.Leaves.integer_set_fine coding (Rattle.acn_grammar.specs.Images.ends set) && no_items items) s in no_values items (both_are (Rattle.acn_grammar.specs.Leaves.integer_set_fine coding (Rattle.acn_grammar.specs.Images.ends set)) (no_items items) a.1).1)
-item_in Boolean coding items table set i s v l = (let n = no_values items (both_are (is_range (pos 0) (pos 1) set) (no_items items) s).1 in cc)
-item_in Null coding items table set i s v l = (let n = no_values items (both_are (is_range (pos 0) (pos 0) set) (no_items items) s).1 in cc)
+    values_of_integer s = (let a = and_parts (Rattle.acn_num.specs.Ranges.are_ranges set) (Rattle.acn_grammar.specs.Leaves.integer_set_fine coding (Rattle.acn_grammar.specs.Images.ends set) && no_items items) s in no_values items (and_parts (Rattle.acn_grammar.specs.Leaves.integer_set_fine coding (Rattle.acn_grammar.specs.Images.ends set)) (no_items items) a.1).1)
+item_in Boolean coding items table set i s v l = (let n = no_values items (and_parts (is_range (pos 0) (pos 1) set) (no_items items) s).1 in cc)
+item_in Null coding items table set i s v l = (let n = no_values items (and_parts (is_range (pos 0) (pos 0) set) (no_items items) s).1 in cc)
 item_in Enumerated coding items table set i s v l =
-    let a = both_are (nat_lt 0 (length items.items)) (is_range (pos 0) (pos (length items.items - 1)) set && items_fine coding items) s in
-    let b = both_are (is_range (pos 0) (pos (length items.items - 1)) set) (items_fine coding items) a.1 in
+    let a = and_parts (nat_lt 0 (length items.items)) (is_range (pos 0) (pos (length items.items - 1)) set && items_fine coding items) s in
+    let b = and_parts (is_range (pos 0) (pos (length items.items - 1)) set) (items_fine coding items) a.1 in
     range_has (pos 0) (pos (length items.items - 1)) set (pos i) b.0 (omega (arith, ints)) (last i (length items.items) l)
   where
     last : (i n : ℕ) → i < n → pos i ≤ℤ pos (n - 1)
@@ -375,7 +361,7 @@ module _ (leaf : NumLeaf) (fine : IsTrue (num_fine leaf)) (plain : leaf.table �
       let r = rules_of leaf fine in
       let k = flag_kind leaf.kind a b (ap (takes leaf.kind) (sym e) ∙ r.kind) in
       let set = subst (λ (z : NumKind). set_fine z leaf.coding leaf.items leaf.table leaf.set ≡ true) k r.set in
-      let f = both_are (is_range (pos 0) (pos 1) leaf.set) (no_items leaf.items) set in
+      let f = and_parts (is_range (pos 0) (pos 1) leaf.set) (no_items leaf.items) set in
       record {
         permitted = range_has (pos 0) (pos 1) leaf.set x f.0 low high;
         image = x;
@@ -388,7 +374,7 @@ module _ (leaf : NumLeaf) (fine : IsTrue (num_fine leaf)) (plain : leaf.table �
       let r = rules_of leaf fine in
       let k = fixed_kind leaf.kind a (ap (takes leaf.kind) (sym e) ∙ r.kind) in
       let set = subst (λ (z : NumKind). set_fine z leaf.coding leaf.items leaf.table leaf.set ≡ true) k r.set in
-      let f = both_are (is_range (pos 0) (pos 0) leaf.set) (no_items leaf.items) set in
+      let f = and_parts (is_range (pos 0) (pos 0) leaf.set) (no_items leaf.items) set in
       record {
         permitted = range_has (pos 0) (pos 0) leaf.set (pos 0) f.0 (omega (arith, ints)) (omega (arith, ints));
         image = pos 0;
@@ -415,10 +401,10 @@ same_not : (a b : List Bool) → same_bits a b ≡ false → a ≢ b
 same_not a b h e = (let t = ap (same_bits a) e ∙ h in let s = same_self a in cc)
 
 begins_is : (p whole : List Bool) → begins p whole ≡ true → take (length p) whole ≡ p
-begins_is p whole h = same_is (take (length p) whole) p (both_are (nat_le (length p) (length whole)) (same_bits (take (length p) whole) p) h).1
+begins_is p whole h = same_is (take (length p) whole) p (and_parts (nat_le (length p) (length whole)) (same_bits (take (length p) whole) p) h).1
 
 is_begins : (p whole : List Bool) → length p ≤ length whole → take (length p) whole ≡ p → begins p whole ≡ true
-is_begins p whole l e = rw (nat_true (length p) (length whole) l) (ap (λ (x : List Bool). same_bits x p) e ∙ same_self p)
+is_begins p whole l e = rw (le-leb (length p) (length whole) l) (ap (λ (x : List Bool). same_bits x p) e ∙ same_self p)
 
 -- the pattern, and what fills it up to the length of another
 abbrev filled_to : List Bool → ℕ → List Bool
@@ -479,22 +465,22 @@ module _ (leaf : NumLeaf) (fine : IsTrue (num_fine leaf)) (plain : leaf.table �
   pub begins_law : (coding : NumCoding) → leaf.coding ≡ coding → leaf.little ≡ false → is_wide (length p) coding ≡ true
       → (begins_by p coding (images_of leaf) ≡ true → Begun p leaf) × (Begun p leaf → begins_by p coding (images_of leaf) ≡ true)
   begins_law (Range low width) e l w =
-      let r = reads_range leaf fine plain p low width e l (nat_is (length p) width w) in
+      let r = reads_range leaf fine plain p low width e l (leb-true (length p) width w) in
       (hit_begins leaf fine plain p low width (λ bs. bs) r, begins_hit leaf fine plain p low width (λ bs. bs) r)
   begins_law (PosInt width) e l w =
-      let r = reads_pos leaf fine plain p width e l (nat_is (length p) width w) in
+      let r = reads_pos leaf fine plain p width e l (leb-true (length p) width w) in
       (hit_begins leaf fine plain p (pos 0) width (λ bs. bs) r, begins_hit leaf fine plain p (pos 0) width (λ bs. bs) r)
   begins_law (Twos width) e l w =
-      let long = nat_is (length p) width w in
+      let long = leb-true (length p) width w in
       let r = reads_twos leaf fine plain p width e l long (omega arith) in
       (hit_begins leaf fine plain p (neg_ℤ (pos (2 ^ (width - 1)))) width turned r, begins_hit leaf fine plain p (neg_ℤ (pos (2 ^ (width - 1)))) width turned r)
   begins_law (Flag (Some a) (Some b)) e l w = (two_patterns a b e, λ t. either_pattern a b t.2.image t.1 (code_as leaf fine plain p (Flag (Some a) (Some b)) e l t.0 t.1 t.2) t.3)
-  begins_law (Flag (Some a) None) e l w = ((λ h. one_pattern a e (nat_is (length p) (length a) w)), λ t. refl)
-  begins_law (Flag None (Some b)) e l w = ((λ h. other_pattern b e (nat_is (length p) (length b) w)), λ t. refl)
-  begins_law (Flag None None) e l w = ((λ h. one_bit e p refl (nat_is (length p) 1 w)), λ t. refl)
+  begins_law (Flag (Some a) None) e l w = ((λ h. one_pattern a e (leb-true (length p) (length a) w)), λ t. refl)
+  begins_law (Flag None (Some b)) e l w = ((λ h. other_pattern b e (leb-true (length p) (length b) w)), λ t. refl)
+  begins_law (Flag None None) e l w = ((λ h. one_bit e p refl (leb-true (length p) 1 w)), λ t. refl)
   begins_law (Fixed a) e l w = (
     (λ h. (pos 0, a, fixed_code leaf fine plain p a e, begins_is p a h)),
-    λ t. (let s = code_as leaf fine plain p (Fixed a) e l t.0 t.1 t.2 in is_begins p a (nat_is (length p) (length a) w) (ap (take (length p)) (sym s.1) ∙ t.3)),
+    λ t. (let s = code_as leaf fine plain p (Fixed a) e l t.0 t.1 t.2 in is_begins p a (leb-true (length p) (length a) w) (ap (take (length p)) (sym s.1) ∙ t.3)),
   )
   begins_law (CountedFrom low) e l w = cc
   begins_law CountedSigned e l w = cc

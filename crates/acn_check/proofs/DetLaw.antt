@@ -11,13 +11,13 @@ use Rattle.acn_grammar.specs.Tree.{IsTree, is_slot, role_fine, slots_of, stand_r
 use Rattle.acn_grammar.specs.Walk.{Stand, Role, a_component, an_inserted, an_alternative, an_element, a_content, root_node, nodes, form_nodes, field_nodes, alternative_nodes, nodes_of, slot_here}
 use Rattle.acn_grammar.specs.declared.node.NumLeaf.{NumLeaf}
 use Rattle.acn_grammar.specs.declared.node.Presence.{Presence}
-use Rattle.acn_grammar.proofs.Codings.{both_are, equal_numbers}
 use Rattle.acn_packet_laws.proofs.Placed.{field_number, is_number, tree_numbered, tree_rules}
 use Rattle.acn_grammar.proofs.TreeRules.{stand_fine}
 use Rattle.acn_check.specs.Facts.{seen}
 use Rattle.acn_check.specs.First.{Det, leaf_in, dets}
 use Rattle.acn_check.specs.Order.{lines_of}
 use Rattle.acn_check.proofs.TreeFits.{Each, each_left, each_right}
+use Rattle.std.proofs.lemmas.Bool.{and_parts, eqb-true}
 
 -- What stands at the head of a list of nodes.
 
@@ -77,8 +77,8 @@ record FromWith (a slot : ℕ) (l : List Stand) : Type 0 where
 from_with : (a : ℕ) (at : Stand) (l : List Stand) (n : Numbered at) → From a (at ∷ l) → FromWith a n.slot l
 from_with a at l n f =
     let g = subst (λ (xs : List ℕ). same_name xs (range_with_len a (length xs)) ≡ true) (ap (λ o. cons_option o (slots_of l)) n.slot_is) f in
-    let h = both_are (nat_eq n.slot a) (same_name (slots_of l) (range_with_len (a + 1) (length (slots_of l)))) g in
-    record { first = equal_numbers n.slot a h.0; rest = h.1 }
+    let h = and_parts (nat_eq n.slot a) (same_name (slots_of l) (range_with_len (a + 1) (length (slots_of l)))) g in
+    record { first = eqb-true n.slot a h.0; rest = h.1 }
 
 -- From an entry of the table to its node.
 
@@ -267,7 +267,7 @@ found_is (at ∷ l) k a fine from i = found_by l at k a from (λ a' i' f. found_
 
 each_fine : (all l : List Stand) → list_all (λ at. all_true (stand_rules all at)) l ≡ true → Each Fine l
 each_fine all [] h = tt
-each_fine all (at ∷ l) h = (let f = both_are (all_true (stand_rules all at)) (list_all (λ x. all_true (stand_rules all x)) l) h in ((stand_fine all at f.0).role, each_fine all l f.1))
+each_fine all (at ∷ l) h = (let f = and_parts (all_true (stand_rules all at)) (list_all (λ x. all_true (stand_rules all x)) l) h in ((stand_fine all at f.0).role, each_fine all l f.1))
 
 -- The whole tree.
 

@@ -12,6 +12,7 @@ use Rattle.acn_grammar.specs.declared.node.Test.TheVariants.{Flag, Equals}
 use Rattle.acn_check.specs.First.{asked, put, gathered, given, only_if}
 use Rattle.acn_check.proofs.KindUses.{only_true}
 use Rattle.acn_check.proofs.Puts.{Less, Same, More, stands}
+use Rattle.std.proofs.lemmas.Bool.{ltb-true, eqb-true}
 
 int_eq_is : (x y : ℤ) → int_eq x y ≡ true → x ≡ y
 int_eq_is x y h = grind (arith, ints)
@@ -19,17 +20,11 @@ int_eq_is x y h = grind (arith, ints)
 int_same : (x : ℤ) → int_eq x x ≡ true
 int_same x = grind (arith, ints)
 
-lt_is : (a b : ℕ) → nat_lt a b ≡ true → a < b
-lt_is a b h = grind (arith, nat_tests)
-
-eq_is : (a b : ℕ) → nat_eq a b ≡ true → a ≡ b
-eq_is a b h = grind (arith, nat_tests)
-
 eq_not : (a b : ℕ) → (a ≡ b → ⊥) → nat_eq a b ≡ false
 eq_not a b n = by (nat_eq a b) refl
   where
     by : (c : Bool) → nat_eq a b ≡ c → c ≡ false
-    by true h = absurd (n (eq_is a b h))
+    by true h = absurd (n (eqb-true a b h))
     by false h = refl
 
 eq_same : (a : ℕ) → nat_eq a a ≡ true
@@ -127,10 +122,10 @@ put_from s x (e ∷ es) es' b l r h = by (stands s e.0) (λ k q g. put_from s x 
     by : Less s e.0 ⊎ (Same s e.0 ⊎ More s e.0) → ((k : Env) → e.0 < s → put s x es ≡ Some k → PutFrom e.0 s x es k) → PutFrom b s x (e ∷ es) es'
     by (inl m) rest =
         let same : (s, x) ∷ e ∷ es ≡ es' = (let g = rw (m.lt) at h in cc) in
-        subst (λ k. PutFrom b s x (e ∷ es) k) same (record { rises = (l, (lt_is s e.0 m.lt, r.1)); done = in_front s x e es (lt_is s e.0 m.lt) r.1 })
+        subst (λ k. PutFrom b s x (e ∷ es) k) same (record { rises = (l, (ltb-true s e.0 m.lt, r.1)); done = in_front s x e es (ltb-true s e.0 m.lt) r.1 })
     by (inr (inl m)) rest =
         let o = only_true (int_eq x e.1) (e ∷ es) es' (rw (m.lt, m.eq) at h) in
-        subst (λ k. PutFrom b s x (e ∷ es) k) o.1 (record { rises = r; done = there s x e es (eq_is s e.0 m.eq) (int_eq_is x e.1 o.0) })
+        subst (λ k. PutFrom b s x (e ∷ es) k) o.1 (record { rises = r; done = there s x e es (eqb-true s e.0 m.eq) (int_eq_is x e.1 o.0) })
     by (inr (inr m)) rest =
         let o = mapped_some e (put s x es) es' (rw (m.lt, m.eq) at h) in
         let p = rest o.0 (more_is s e.0 m) o.1 in
@@ -147,10 +142,10 @@ put_in s x (e ∷ es) es' r h = by (stands s e.0)
     by : Less s e.0 ⊎ (Same s e.0 ⊎ More s e.0) → PutIn s x (e ∷ es) es'
     by (inl m) =
         let same : (s, x) ∷ e ∷ es ≡ es' = (let g = rw (m.lt) at h in cc) in
-        subst (λ k. PutIn s x (e ∷ es) k) same (record { rises = (lt_is s e.0 m.lt, r); done = in_front s x e es (lt_is s e.0 m.lt) r })
+        subst (λ k. PutIn s x (e ∷ es) k) same (record { rises = (ltb-true s e.0 m.lt, r); done = in_front s x e es (ltb-true s e.0 m.lt) r })
     by (inr (inl m)) =
         let o = only_true (int_eq x e.1) (e ∷ es) es' (rw (m.lt, m.eq) at h) in
-        subst (λ k. PutIn s x (e ∷ es) k) o.1 (record { rises = r; done = there s x e es (eq_is s e.0 m.eq) (int_eq_is x e.1 o.0) })
+        subst (λ k. PutIn s x (e ∷ es) k) o.1 (record { rises = r; done = there s x e es (eqb-true s e.0 m.eq) (int_eq_is x e.1 o.0) })
     by (inr (inr m)) =
         let o = mapped_some e (put s x es) es' (rw (m.lt, m.eq) at h) in
         let p = put_from s x es o.0 e.0 (more_is s e.0 m) r o.1 in
@@ -216,7 +211,7 @@ module _ (env : Env) where
       by : Less s e.0 ⊎ (Same s e.0 ⊎ More s e.0) → (es' : Env) × (put s x es ≡ Some es') × Sub es' → (es' : Env) × (put s x (e ∷ es) ≡ Some es') × Sub es'
       by (inl m) rest = ((s, x) ∷ e ∷ es, rw (m.lt) refl, (h, u))
       by (inr (inl m)) rest =
-          let same : s ≡ e.0 = eq_is s e.0 m.eq in
+          let same : s ≡ e.0 = eqb-true s e.0 m.eq in
           let number : x ≡ e.1 = (let a : at_slot env s ≡ Some e.1 = ap (at_slot env) same ∙ u.0 in cc) in
           (e ∷ es, rw (m.lt, m.eq) (ap (λ b. only_if b (e ∷ es)) (ap (int_eq x) (sym number) ∙ int_same x)), u)
       by (inr (inr m)) rest = (e ∷ rest.0, rw (m.lt, m.eq) (ap (option_map (λ more. e ∷ more)) rest.1), (u.0, rest.2))

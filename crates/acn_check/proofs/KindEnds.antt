@@ -15,7 +15,6 @@ use Rattle.acn_grammar.specs.declared.node.NumLeaf.{NumLeaf}
 use Rattle.acn_grammar.specs.declared.node.Presence.TheVariants.{Always, Bit, When}
 use Rattle.acn_grammar.specs.declared.node.Sizing.{Sizing}
 use Rattle.acn_grammar.specs.declared.node.Table.{Table}
-use Rattle.acn_grammar.proofs.Codings.{both_are, not_is}
 use Rattle.acn_grammar.proofs.SpanLaw.{Fine, FormFine, FieldsFine, AlternativesFine}
 use Rattle.acn_grammar.proofs.TreeRules.{tree_fine}
 use Rattle.acn_check.specs.Facts.{Facts, seen, facts_of}
@@ -27,6 +26,7 @@ use Rattle.acn_check.proofs.KindLaws.{PlainLaw}
 use Rattle.acn_check.proofs.KindUses.{only_true, only_none}
 use Rattle.acn_check.proofs.Numbers.{only_terminator_ambiguous, plain_tail}
 use Rattle.acn_check.proofs.TreeFits.{Each, each_both}
+use Rattle.std.proofs.lemmas.Bool.{and_parts, not-true}
 
 -- The forms inside a grammar keep their rules.
 
@@ -132,8 +132,8 @@ some_of f o x l e s = sym e ∙ ap (option_map f) s
 -- a lead has no table
 pub lead_plain : (n : ℕ) (g : Grammar) (leaf : NumLeaf) → lead n g ≡ Some leaf → leaf.table ≡ None
 lead_plain n g leaf h =
-    let a = both_are (is_wide n leaf.coding) (not leaf.little && has_no_table leaf.table) (lead_kept n g leaf h) in
-    no_table_is leaf.table (both_are (not leaf.little) (has_no_table leaf.table) a.1).1
+    let a = and_parts (is_wide n leaf.coding) (not leaf.little && has_no_table leaf.table) (lead_kept n g leaf h) in
+    no_table_is leaf.table (and_parts (not leaf.little) (has_no_table leaf.table) a.1).1
 
 lead_is_fine : (n : ℕ) (o : Option NumLeaf) → ((leaf : NumLeaf) → o ≡ Some leaf → Good n leaf) → lead_fine o ≡ true
 lead_is_fine n None good = refl
@@ -164,7 +164,7 @@ leads_are_fine root tree = stands_fine (nodes_of root) (node_formed root root_no
 pub fine_turn : (lines : List Line) (i : ℕ) (line : Line) → i < length lines → line ≡ get_or lines i line → list_all leads_fine (map facts_of (drop i lines)) ≡ true → leads_fine (facts_of line) ≡ true
 fine_turn lines i line h e f =
     let there = subst (λ (xs : List Line). list_all leads_fine (map facts_of xs) ≡ true) (drop_more lines i line h ∙ ap (λ (x : Line). x ∷ drop (i + 1) lines) (sym e)) f in
-    (both_are (leads_fine (facts_of line)) (list_all leads_fine (map facts_of (drop (i + 1) lines))) there).0
+    (and_parts (leads_fine (facts_of line)) (list_all leads_fine (map facts_of (drop (i + 1) lines))) there).0
 
 -- The fault.
 
@@ -177,9 +177,9 @@ record Law (p : List Bool) (leaf : NumLeaf) : Type 0 where
 
 leaf_law : (p : List Bool) (leaf : NumLeaf) → 1 ≤ length p → Good (length p) leaf → Law p leaf
 leaf_law p leaf some good =
-    let a = both_are (is_wide (length p) leaf.coding) (not leaf.little && has_no_table leaf.table) good.1 in
-    let b = both_are (not leaf.little) (has_no_table leaf.table) a.1 in
-    let l = begins_law leaf good.0 (no_table_is leaf.table b.1) p some leaf.coding refl (not_is leaf.little b.0) a.0 in
+    let a = and_parts (is_wide (length p) leaf.coding) (not leaf.little && has_no_table leaf.table) good.1 in
+    let b = and_parts (not leaf.little) (has_no_table leaf.table) a.1 in
+    let l = begins_law leaf good.0 (no_table_is leaf.table b.1) p some leaf.coding refl (not-true leaf.little b.0) a.0 in
     record { to = l.0; from = l.1 }
 
 told_to : (p : List Bool) (o : Option NumLeaf) → 1 ≤ length p → ((leaf : NumLeaf) → o ≡ Some leaf → Good (length p) leaf) → not_told p o ≡ true → LeadAmbiguous p o
@@ -204,7 +204,7 @@ end_give path sizing (Some p) g fine rule a e =
     only_none (not_told p (lead (length p) g)) (terminator_ambiguous path) (told_from p (lead (length p) g) (some_bits p rule) (λ leaf h. lead_good (length p) g leaf fine h) a) e
 
 form_take : (path : List ℕ) (form : Form) (f : CheckFault) → FormFine form → ambiguous_in path form ≡ Some f → (terminator_ambiguous path ≡ f) × ListAmbiguous form
-form_take path (list sizing g) f fine e = end_take path sizing (ending sizing.rule) g f fine.1 (both_are (sizes_fine sizing.sizes) (list_rule_fine (ending sizing.rule) sizing) fine.0).1 e
+form_take path (list sizing g) f fine e = end_take path sizing (ending sizing.rule) g f fine.1 (and_parts (sizes_fine sizing.sizes) (list_rule_fine (ending sizing.rule) sizing) fine.0).1 e
 form_take path (num leaf) f fine e = cc
 form_take path (octets sizing) f fine e = cc
 form_take path (bits sizing) f fine e = cc
@@ -214,7 +214,7 @@ form_take path (choice cases rule) f fine e = cc
 form_take path (contained sizing g) f fine e = cc
 
 form_give : (path : List ℕ) (form : Form) → FormFine form → ListAmbiguous form → ambiguous_in path form ≡ None → ⊥
-form_give path (list sizing g) fine a e = end_give path sizing (ending sizing.rule) g fine.1 (both_are (sizes_fine sizing.sizes) (list_rule_fine (ending sizing.rule) sizing) fine.0).1 a e
+form_give path (list sizing g) fine a e = end_give path sizing (ending sizing.rule) g fine.1 (and_parts (sizes_fine sizing.sizes) (list_rule_fine (ending sizing.rule) sizing) fine.0).1 a e
 form_give path (num leaf) fine a e = absurd a
 form_give path (octets sizing) fine a e = absurd a
 form_give path (bits sizing) fine a e = absurd a

@@ -12,7 +12,7 @@ use Rattle.acn_grammar.specs.declared.node.ChoiceRule.TheVariants.{Index, Tests,
 use Rattle.acn_grammar.specs.declared.node.NumLeaf.{NumLeaf}
 use Rattle.acn_grammar.specs.declared.node.Test.{Test}
 use Rattle.acn_well_formed.proofs.Listed.{same_refl}
-use Rattle.acn_packet_laws.proofs.Placed.{or_left, or_right}
+use Rattle.std.proofs.lemmas.Bool.{or_left, or_right}
 use Rattle.acn_grammar.proofs.Texts.{either}
 use Rattle.acn_check.specs.First.{Det, dets, only_if, items_in, is_item, without_item, no_item_at}
 use Rattle.acn_check.specs.Order.{lines_of}

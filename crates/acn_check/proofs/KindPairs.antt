@@ -14,7 +14,6 @@ use Rattle.acn_grammar.specs.declared.node.ChoiceRule.{ChoiceRule}
 use Rattle.acn_grammar.specs.declared.node.ChoiceRule.TheVariants.{Index, Tests, Item}
 use Rattle.acn_grammar.specs.declared.node.NumLeaf.{NumLeaf}
 use Rattle.acn_grammar.specs.declared.node.Test.{Test}
-use Rattle.acn_grammar.proofs.Codings.{both_are, equal_numbers}
 use Rattle.acn_check.specs.First.{Det, dets, given, only_if, gathered, domain_in, permits, common, has_some, both_hold, overlapping, overlap_in, overlap_at}
 use Rattle.acn_check.specs.Order.{lines_of}
 use Rattle.acn_check.proofs.Assembly.{tail, NodeLaw, FirstHere}
@@ -26,16 +25,7 @@ use Rattle.acn_check.proofs.KindUses.{only_true}
 use Rattle.acn_check.proofs.Numbers.{only_overlap}
 use Rattle.acn_check.proofs.PairsOf.{Case, FoundPair, pairs_some, pairs_none}
 use Rattle.acn_check.proofs.TallyLaw.{contains_holds, holds_contains}
-
-lt_is : (a b : ℕ) → nat_lt a b ≡ true → a < b
-lt_is a b h = grind (arith, nat_tests)
-
-is_lt : (a b : ℕ) → a < b → nat_lt a b ≡ true
-is_lt a b h = grind (arith, nat_tests)
-
-both_true : (a b : Bool) → a ≡ true → b ≡ true → (a && b) ≡ true
-both_true true b h k = k
-both_true false b h k = cc
+use Rattle.std.proofs.lemmas.Bool.{ltb-true, lt-ltb, and_from, and_parts, eqb-true}
 
 domain_is : (o : Option Det) → unwrap_or (option_map (λ (leaf : NumLeaf). leaf.set) (option_map (λ d. d.leaf) o)) [] ≡ domain_in o
 domain_is None = refl
@@ -81,12 +71,12 @@ module _ (root : Grammar) (tree : IsTree root) where
   all_permitted : (es : Env) → list_all (permits table) es ≡ true → AllByRecursion (λ e. In (domain_of root e.0) e.1) es
   all_permitted [] h = tt
   all_permitted (e ∷ es) h =
-      let p = both_are (permits table e) (list_all (permits table) es) h in
+      let p = and_parts (permits table e) (list_all (permits table) es) h in
       (ap (λ d. has d e.1) (domain_are e.0) ∙ p.0, all_permitted es p.1)
 
   permitted_at : (env : Env) (s : ℕ) (x : ℤ) → AllByRecursion (λ e. In (domain_of root e.0) e.1) env → at_slot env s ≡ Some x → In (domain_of root s) x
   permitted_at [] s x p e = cc
-  permitted_at (e' ∷ env) s x p e = by (nat_eq e'.0 s) (equal_numbers e'.0 s) e (λ q. permitted_at env s x p.1 q)
+  permitted_at (e' ∷ env) s x p e = by (nat_eq e'.0 s) (eqb-true e'.0 s) e (λ q. permitted_at env s x p.1 q)
     where
       by : (t : Bool) → (t ≡ true → e'.0 ≡ s) → (if t then Some e'.1 else at_slot env s) ≡ Some x → (at_slot env s ≡ Some x → In (domain_of root s) x) → In (domain_of root s) x
       by true f e rest = let same = f refl in let value : e'.1 ≡ x = cc in rw (← same, ← value) p.0
@@ -94,7 +84,7 @@ module _ (root : Grammar) (tree : IsTree root) where
 
   sub_permitted : (env es : Env) → AllByRecursion (λ e. In (domain_of root e.0) e.1) env → Sub env es → list_all (permits table) es ≡ true
   sub_permitted env [] p u = refl
-  sub_permitted env (e ∷ es) p u = both_true (permits table e) (list_all (permits table) es) (ap (λ d. has d e.1) (sym (domain_are e.0)) ∙ permitted_at env e.0 e.1 p u.0) (sub_permitted env es p u.1)
+  sub_permitted env (e ∷ es) p u = and_from (permits table e) (list_all (permits table) es) (ap (λ d. has d e.1) (sym (domain_are e.0)) ∙ permitted_at env e.0 e.1 p u.0) (sub_permitted env es p u.1)
 
   -- From the numbers of two alternatives to the evidence.
 
@@ -110,12 +100,12 @@ module _ (root : Grammar) (tree : IsTree root) where
       by : (b : Bool) → (has_some ts && has_some us) ≡ b → (if b then common table (ts ++ us) else None) ≡ Some vs → Both ts us vs
       by false h g = cc
       by true h g =
-          let s = both_are (has_some ts) (has_some us) h in
+          let s = and_parts (has_some ts) (has_some us) h in
           let c = some_given (gathered (ts ++ us) []) (λ es. only_if (list_all (permits table) es) es) vs g in
           let o = only_true (list_all (permits table) c.0) c.0 vs c.2 in
           record {
-            one = lt_is 0 (length ts) s.0;
-            other = lt_is 0 (length us) s.1;
+            one = ltb-true 0 (length ts) s.0;
+            other = ltb-true 0 (length us) s.1;
             numbers = c.1 ∙ ap Some o.1;
             permitted = ap (list_all (permits table)) (sym o.1) ∙ o.0;
           }
@@ -151,7 +141,7 @@ module _ (root : Grammar) (tree : IsTree root) where
       let ts = v.one.1 ++ v.other.1 in
       let g = gather_sub values ts [] v.holds tt in
       let p = sub_permitted values g.0 v.permitted g.2 in
-      let s = both_true (has_some v.one.1) (has_some v.other.1) (is_lt 0 (length v.one.1) v.some_one) (is_lt 0 (length v.other.1) v.some_other) in
+      let s = and_from (has_some v.one.1) (has_some v.other.1) (lt-ltb 0 (length v.one.1) v.some_one) (lt-ltb 0 (length v.other.1) v.some_other) in
       let is : both_hold table v.one.1 v.other.1 ≡ Some g.0 =
       ap (λ b. if b then common table (v.one.1 ++ v.other.1) else None) s ∙ (ap (λ o. given o (λ es. only_if (list_all (permits table) es) es)) g.1 ∙ ap (λ b. only_if b g.0) p) in
       let clash : Some g.0 ≡ None = sym is ∙ none in

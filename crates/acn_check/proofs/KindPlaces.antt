@@ -10,24 +10,13 @@ use Rattle.acn_grammar.specs.Walk.{Stand, Role, root_node, a_component, an_inser
 use Rattle.acn_grammar.specs.declared.node.ChoiceRule.{ChoiceRule}
 use Rattle.acn_grammar.specs.declared.node.ChoiceRule.TheVariants.{Index, Tests, Item}
 use Rattle.acn_grammar.specs.declared.node.Test.{Test}
-use Rattle.acn_grammar.proofs.Codings.{both_are}
-use Rattle.acn_packet_laws.proofs.Placed.{or_left, or_right}
 use Rattle.acn_grammar.proofs.Texts.{either}
 use Rattle.acn_check.specs.Facts.{seen, is_component, tag_of}
 use Rattle.acn_check.specs.First.{unclear, mixed_in, mixed_at, by_item, much_open}
 use Rattle.acn_check.proofs.KindLaws.{PlainLaw}
 use Rattle.acn_check.proofs.KindUses.{only_true, only_none}
 use Rattle.acn_check.proofs.Numbers.{only_absent_unclear, only_mixed_choice, only_too_many_open, plain_tail}
-
-lt_is : (a b : ℕ) → nat_lt a b ≡ true → a < b
-lt_is a b h = grind (arith, nat_tests)
-
-is_lt : (a b : ℕ) → a < b → nat_lt a b ≡ true
-is_lt a b h = grind (arith, nat_tests)
-
-both_true : (a b : Bool) → a ≡ true → b ≡ true → (a && b) ≡ true
-both_true true b h k = k
-both_true false b h k = cc
+use Rattle.std.proofs.lemmas.Bool.{ltb-true, lt-ltb, and_from, and_parts, or_left, or_right}
 
 -- Alternatives with conditions, and without.
 
@@ -37,12 +26,12 @@ Case = List ℕ × List Test
 some_with : (cases : List Case) → list_any has_tests cases ≡ true → (i : ℕ) × (one : Case) × (slice_get cases i ≡ Some one) × (0 < length one.1)
 some_with [] h = cc
 some_with (c ∷ cases) h = either {F = (i : ℕ) × (one : Case) × (slice_get (c ∷ cases) i ≡ Some one) × (0 < length one.1)} (has_tests c) (list_any has_tests cases) h
-    (λ q. (zero, c, refl, lt_is 0 (length c.1) q))
+    (λ q. (zero, c, refl, ltb-true 0 (length c.1) q))
     (λ q. let r = some_with cases q in (suc r.0, r.1, r.2, r.3))
 
 with_some : (cases : List Case) (i : ℕ) (one : Case) → slice_get cases i ≡ Some one → 0 < length one.1 → list_any has_tests cases ≡ true
 with_some [] i one e h = cc
-with_some (c ∷ cases) zero one e h = (let same : c ≡ one = cc in or_left (has_tests c) (list_any has_tests cases) (is_lt 0 (length c.1) (subst (λ (x : Case). 0 < length x.1) (sym same) h)))
+with_some (c ∷ cases) zero one e h = (let same : c ≡ one = cc in or_left (has_tests c) (list_any has_tests cases) (lt-ltb 0 (length c.1) (subst (λ (x : Case). 0 < length x.1) (sym same) h)))
 with_some (c ∷ cases) (suc i) one e h = or_right (has_tests c) (list_any has_tests cases) (with_some cases i one e h)
 
 no_tests : (c : Case) → not (has_tests c) ≡ true → c.1 ≡ []
@@ -106,7 +95,7 @@ More (a_component name presence own) = 1 < length (presence_tests presence)
 More _ = ⊥
 
 true_more : (role : Role) → (is_component role && nat_lt 1 (length (tag_of role).tests)) ≡ true → More role
-true_more (a_component n p own) h = lt_is 1 (length (presence_tests p)) h
+true_more (a_component n p own) h = ltb-true 1 (length (presence_tests p)) h
 true_more root_node h = cc
 true_more (an_inserted name slot) h = cc
 true_more (an_alternative name ts) h = cc
@@ -114,7 +103,7 @@ true_more an_element h = cc
 true_more a_content h = cc
 
 more_true : (role : Role) → More role → (is_component role && nat_lt 1 (length (tag_of role).tests)) ≡ true
-more_true (a_component n p own) h = is_lt 1 (length (presence_tests p)) h
+more_true (a_component n p own) h = lt-ltb 1 (length (presence_tests p)) h
 more_true root_node h = absurd h
 more_true (an_inserted name slot) h = absurd h
 more_true (an_alternative name ts) h = absurd h
@@ -149,7 +138,7 @@ module _ (root : Grammar) where
       let c = mixed_choice_of at.path at.form f e in
       let cases = conditions_of c.cases in
       let o = only_true (list_any has_tests cases && (by_item c.rule || list_any (λ x. not (has_tests x)) cases)) (mixed_choice at.path) f (ap (mixed_in at.path) (sym c.form_is) ∙ e) in
-      let t = both_are (list_any has_tests cases) (by_item c.rule || list_any (λ x. not (has_tests x)) cases) o.0 in
+      let t = and_parts (list_any has_tests cases) (by_item c.rule || list_any (λ x. not (has_tests x)) cases) o.0 in
       let one = some_with cases t.0 in
       let why = either {F = ((s : ℕ) × (c.rule ≡ Item s)) ⊎ ((j : ℕ) × (other : Case) × (slice_get cases j ≡ Some other) × (other.1 ≡ []))} (by_item c.rule) (list_any (λ x. not (has_tests x)) cases) t.1 (λ q. inl (item_is c.rule q)) (λ q. inr (some_without cases q)) in
       (ap number_of_fault (sym o.1), subst (λ x. Evidence root x k 0) o.1 (c.cases, c.rule, record { at = at; is_at = is; path_is = refl; form_is = is_choice root at.form c.cases c.rule c.form_is }, one.0, one.1, one.2, one.3, why))
@@ -161,7 +150,7 @@ module _ (root : Grammar) where
       let at = e'.2.at in
       let form = choice_is root at.form e'.0 e'.1 e'.2.form_is in
       let cases = conditions_of e'.0 in
-      let holds = both_true (list_any has_tests cases) (by_item e'.1 || list_any (λ x. not (has_tests x)) cases) (with_some cases e'.3 e'.4 e'.5 e'.6) (why e'.1 cases e'.7) in
+      let holds = and_from (list_any has_tests cases) (by_item e'.1 || list_any (λ x. not (has_tests x)) cases) (with_some cases e'.3 e'.4 e'.5 e'.6) (why e'.1 cases e'.7) in
       (at, e'.2.is_at, λ none. only_none (list_any has_tests cases && (by_item e'.1 || list_any (λ x. not (has_tests x)) cases)) (mixed_choice at.path) holds (sym (ap (mixed_in at.path) form) ∙ none))
     where
       why : (rule : ChoiceRule) (cases : List Case) → ((s : ℕ) × (rule ≡ Item s)) ⊎ ((j : ℕ) × (other : Case) × (slice_get cases j ≡ Some other) × (other.1 ≡ [])) → (by_item rule || list_any (λ x. not (has_tests x)) cases) ≡ true
@@ -180,13 +169,13 @@ module _ (root : Grammar) where
   take_open : (k : ℕ) (at : Stand) (f : CheckFault) → NodeAt root k at → much_open k (seen at) ≡ Some f → (number_of_fault f ≡ 10) × Evidence root f k 0
   take_open k at f is e =
       let o = only_true (nat_lt 256 (open_at at)) (too_many_open at.path (open_at at)) f e in
-      (ap number_of_fault (sym o.1), subst (λ x. Evidence root x k 0) o.1 (at, is, refl, refl, lt_is 256 (open_at at) o.0))
+      (ap number_of_fault (sym o.1), subst (λ x. Evidence root x k 0) o.1 (at, is, refl, refl, ltb-true 256 (open_at at) o.0))
 
   give_open : (f : CheckFault) (k u : ℕ) → number_of_fault f ≡ 10 → Evidence root f k u → (at : Stand) × NodeAt root k at × (much_open k (seen at) ≡ None → ⊥)
   give_open f k u is e =
       let o = only_too_many_open f is in
       let e' : Evidence root (too_many_open o.0 o.1) k u = subst (λ x. Evidence root x k u) o.2 e in
-      let many = is_lt 256 (open_at e'.0) (let h = e'.3 in let g = e'.4 in omega (arith, h, g)) in
+      let many = lt-ltb 256 (open_at e'.0) (let h = e'.3 in let g = e'.4 in omega (arith, h, g)) in
       (e'.0, e'.1, λ none. only_none (nat_lt 256 (open_at e'.0)) (too_many_open e'.0.path (open_at e'.0)) many none)
 
   pub open_law : PlainLaw root 10 much_open

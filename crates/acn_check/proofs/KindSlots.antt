@@ -23,22 +23,7 @@ use Rattle.acn_check.proofs.Numbers.{only_det_width, only_unused, only_too_many_
 use Rattle.acn_check.proofs.TallyLaw.{tallied_law, contains_holds, holds_contains}
 use Rattle.acn_check.proofs.Telling.{all_at}
 use Rattle.acn_check.proofs.TreeFits.{leaves_fine}
-
-lt_is : (a b : ℕ) → nat_lt a b ≡ true → a < b
-lt_is a b h = grind (arith, nat_tests)
-
-is_lt : (a b : ℕ) → a < b → nat_lt a b ≡ true
-is_lt a b h = grind (arith, nat_tests)
-
-le_is : (a b : ℕ) → nat_le a b ≡ true → a ≤ b
-le_is a b h = grind (arith, nat_tests)
-
-is_le : (a b : ℕ) → a ≤ b → nat_le a b ≡ true
-is_le a b h = grind (arith, nat_tests)
-
-not_is : (b : Bool) → not b ≡ true → b ≡ false
-not_is true h = cc
-not_is false h = refl
+use Rattle.std.proofs.lemmas.Bool.{ltb-true, lt-ltb, leb-true, le-leb, not-true}
 
 clash : (b : Bool) → b ≡ true → b ≡ false → ⊥
 clash true h g = cc
@@ -88,14 +73,14 @@ module _ (root : Grammar) (tree : IsTree root) where
   module _ (widths : WidthsAreLengths) where
     -- a leaf has a width of at most 64 bits exactly where the test says so
     fits_width : (leaf : NumLeaf) → num_fine leaf ≡ true → (w : ℕ) → HasWidth leaf w → w ≤ 64 → width_fits (width_of leaf) ≡ true
-    fits_width leaf fine w h le = ap width_fits ((widths leaf w fine).1 h) ∙ is_le w 64 le
+    fits_width leaf fine w h le = ap width_fits ((widths leaf w fine).1 h) ∙ le-leb w 64 le
 
     pub width_fit : (leaf : NumLeaf) → num_fine leaf ≡ true → width_fits (width_of leaf) ≡ true → (w : ℕ) × HasWidth leaf w × (w ≤ 64)
     width_fit leaf fine h = by (width_of leaf) refl h
       where
         by : (o : Option ℕ) → width_of leaf ≡ o → width_fits o ≡ true → (w : ℕ) × HasWidth leaf w × (w ≤ 64)
         by None e g = cc
-        by (Some w) e g = (w, (widths leaf w fine).0 e, le_is w 64 g)
+        by (Some w) e g = (w, (widths leaf w fine).0 e, leb-true w 64 g)
 
     leaf_fine : (s : ℕ) (d : Det) → slice_get table s ≡ Some d → num_fine d.leaf ≡ true
     leaf_fine s d e = all_at (λ (x : Det). num_fine x.leaf) table s d (leaves_fine root tree) e
@@ -109,7 +94,7 @@ module _ (root : Grammar) (tree : IsTree root) where
         let o = only_true (not (width_fits (width_of t.det.leaf))) (det_width at.path) f g in
         let leaf : slot_leaf root s.0 ≡ Some t.det.leaf = leaf_entry root tree s.0 ∙ ap (option_map (λ (x : Det). x.leaf)) t.is_here in
         let fine = leaf_fine s.0 t.det t.is_here in
-        (ap number_of_fault (sym o.1), subst (λ x. Evidence root x k 0) o.1 (at, s.0, t.det.leaf, is, refl, slot, leaf, λ w. clash (width_fits (width_of t.det.leaf)) (fits_width t.det.leaf fine w.0 w.1 w.2) (not_is (width_fits (width_of t.det.leaf)) o.0)))
+        (ap number_of_fault (sym o.1), subst (λ x. Evidence root x k 0) o.1 (at, s.0, t.det.leaf, is, refl, slot, leaf, λ w. clash (width_fits (width_of t.det.leaf)) (fits_width t.det.leaf fine w.0 w.1 w.2) (not-true (width_fits (width_of t.det.leaf)) o.0)))
 
     give_width : (f : CheckFault) (k u : ℕ) → number_of_fault f ≡ 3 → Evidence root f k u → (at : Stand) × NodeAt root k at × (no_width table k (seen at) ≡ None → ⊥)
     give_width f k u is e =
@@ -141,7 +126,7 @@ module _ (root : Grammar) (tree : IsTree root) where
       let t = tallied_law root s.0 d.det d.is_here in
       let g : idle_here at.path t.tally ≡ Some f = ap (λ o. given o (idle_here at.path)) (sym t.is_here) ∙ s.2 in
       let o = only_true (not t.tally.used) (unused at.path) f g in
-      let idle = not_is t.tally.used o.0 in
+      let idle = not-true t.tally.used o.0 in
       (ap number_of_fault (sym o.1), subst (λ x. Evidence root x k 0) o.1 (at, s.0, is, refl, s.1, λ c. clash t.tally.used (t.used ∙ contains_holds (map slot_of (flat_map uses (nodes_of root))) s.0 c) idle))
 
   give_unused : (f : CheckFault) (k u : ℕ) → number_of_fault f ≡ 6 → Evidence root f k u → (at : Stand) × NodeAt root k at × (no_use tallies k (seen at) ≡ None → ⊥)
@@ -169,13 +154,13 @@ module _ (root : Grammar) (tree : IsTree root) where
   take_equals k at f is e =
       let s = some_slot (slot_here at.role) (equals_here at.path) f e in
       let o = only_true (nat_lt 64 (equals_on root s.0)) (too_many_conditions at.path (equals_on root s.0)) f s.2 in
-      (ap number_of_fault (sym o.1), subst (λ x. Evidence root x k 0) o.1 (at, s.0, is, refl, s.1, refl, lt_is 64 (equals_on root s.0) o.0))
+      (ap number_of_fault (sym o.1), subst (λ x. Evidence root x k 0) o.1 (at, s.0, is, refl, s.1, refl, ltb-true 64 (equals_on root s.0) o.0))
 
   give_equals : (f : CheckFault) (k u : ℕ) → number_of_fault f ≡ 11 → Evidence root f k u → (at : Stand) × NodeAt root k at × (many_equals root k (seen at) ≡ None → ⊥)
   give_equals f k u is e =
       let o = only_too_many_conditions f is in
       let e' : Evidence root (too_many_conditions o.0 o.1) k u = subst (λ x. Evidence root x k u) o.2 e in
-      let many = is_lt 64 (equals_on root e'.1) (let h = e'.5 in let g = e'.6 in omega (arith, h, g)) in
+      let many = lt-ltb 64 (equals_on root e'.1) (let h = e'.5 in let g = e'.6 in omega (arith, h, g)) in
       (e'.0, e'.2, λ none. only_none (nat_lt 64 (equals_on root e'.1)) (too_many_conditions e'.0.path (equals_on root e'.1)) many (sym (given_slot k e'.1 e'.0 (equals_here e'.0.path) e'.4) ∙ none))
 
   pub equals_law : PlainLaw root 11 (many_equals root)

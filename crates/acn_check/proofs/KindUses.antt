@@ -18,12 +18,7 @@ use Rattle.acn_check.proofs.Assembly.{some_inj}
 use Rattle.acn_check.proofs.DetLaw.{entry_field, field_entry, leaf_entry}
 use Rattle.acn_check.proofs.KindLaws.{UseLaw}
 use Rattle.acn_check.proofs.Numbers.{only_forward, only_det_kind, plain_tail}
-
-lt_is : (a b : ℕ) → nat_lt a b ≡ true → a < b
-lt_is a b h = grind (arith, nat_tests)
-
-is_lt : (a b : ℕ) → a < b → nat_lt a b ≡ true
-is_lt a b h = grind (arith, nat_tests)
+use Rattle.std.proofs.lemmas.Bool.{ltb-true, lt-ltb}
 
 -- the kind of a leaf fits the use exactly where the use asks for it
 fits_asked : (use' : Use) (kind : NumKind) → fits_kind use' kind ≡ true → AsksFor use' kind
@@ -97,7 +92,7 @@ module _ (root : Grammar) (tree : IsTree root) where
       by None g e' = cc
       by (Some d) g e' =
           let t = only_true (nat_lt k d.at) (forward at.path d.path) f e' in
-          (ap number_of_fault (sym t.1), subst (λ x. Evidence root x k u) t.1 (named, d.at, use_of k u at named d is h g, lt_is k d.at t.0))
+          (ap number_of_fault (sym t.1), subst (λ x. Evidence root x k u) t.1 (named, d.at, use_of k u at named d is h g, ltb-true k d.at t.0))
 
   give_behind : (f : CheckFault) (k u : ℕ) → number_of_fault f ≡ 1 → Evidence root f k u → (at : Stand) × (named : Use) × NodeAt root k at × (slice_get (uses at) u ≡ Some named) × (behind table k (seen at) named ≡ None → ⊥)
   give_behind f k u is e =
@@ -106,7 +101,7 @@ module _ (root : Grammar) (tree : IsTree root) where
       let used = e'.2 in
       let t = field_entry root tree e'.1 (slot_of e'.0) used.field used.is_field used.slot in
       let less : k < t.det.at = (let n = t.node in let l = e'.3 in omega (arith, n, l)) in
-      (used.at, e'.0, used.is_at, used.is_use, λ none. only_none (nat_lt k t.det.at) (forward used.at.path t.det.path) (is_lt k t.det.at less) (sym (ap (λ d. given d (behind_here k used.at.path)) t.is_here) ∙ none))
+      (used.at, e'.0, used.is_at, used.is_use, λ none. only_none (nat_lt k t.det.at) (forward used.at.path t.det.path) (lt-ltb k t.det.at less) (sym (ap (λ d. given d (behind_here k used.at.path)) t.is_here) ∙ none))
 
   pub behind_law : UseLaw root 1 (behind table)
   behind_law = record {

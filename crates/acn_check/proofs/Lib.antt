@@ -1,26 +1,26 @@
-pub mod Answering
-pub mod Assembly
-pub mod BeginsLaw
-pub mod Cases
-pub mod DetLaw
-pub mod FirstOf
-pub mod Flat
-pub mod Gathered
-pub mod KindEnds
-pub mod KindItems
-pub mod KindLaws
-pub mod KindPairs
-pub mod KindPlaces
-pub mod KindSlots
-pub mod KindUses
-pub mod Listing
-pub mod Numbers
-pub mod PairsOf
-pub mod Promises
-pub mod Puts
-pub mod TallyLaw
-pub mod Tallying
-pub mod Telling
-pub mod TreeFits
-pub mod TwoNumbers
-pub mod Whole
+mod Answering
+mod Assembly
+mod BeginsLaw
+mod Cases
+mod DetLaw
+mod FirstOf
+mod Flat
+mod Gathered
+mod KindEnds
+mod KindItems
+mod KindLaws
+mod KindPairs
+mod KindPlaces
+mod KindSlots
+mod KindUses
+mod Listing
+mod Numbers
+mod PairsOf
+mod Promises
+mod Puts
+mod TallyLaw
+mod Tallying
+mod Telling
+mod TreeFits
+mod TwoNumbers
+mod Whole

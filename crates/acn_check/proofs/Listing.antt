@@ -2,7 +2,6 @@
 use Rattle.std.proofs.Common.{◌≡◌, ℕ, ◌+◌, ◌<◌, ◌≤◌, ◌^◌, true, false, None, List, [], ◌∷◌, ◌++◌, length, drop, nat_le, nat_lt, sym, ap, ◌∙◌, arith, length-append, append_assoc, subst, add-one, get_or}
 use Rattle.std.specs.List.{list_all}
 use Rattle.std.proofs.lemmas.Bool.Decides.{nat_tests}
-use Rattle.acn_grammar.proofs.Codings.{both_are}
 use Rattle.acn_grammar.proofs.TreeRules.{list_all-append}
 use Rattle.std.proofs.lemmas.List.{drop_more}
 use Rattle.acn_grammar.specs.Grammar.{Grammar, Fields, node}
@@ -11,6 +10,7 @@ use Rattle.acn_grammar.specs.Walk.{presence_tests}
 use Rattle.acn_grammar.specs.declared.node.Field.{Field}
 use Rattle.acn_grammar.specs.declared.node.Alternative.{Alternative}
 use Rattle.acn_check.specs.Facts.{Facts, Tag, Fit, fits, facts, field_facts, alternative_facts, one_field, one_alternative}
+use Rattle.std.proofs.lemmas.Bool.{and_parts}
 
 pub fit_left : (a b : List Facts) → Fit (a ++ b) → Fit a
 fit_left a b f = record { each = (list_all-append fits a b f.each).0; few = (let n = length-append a b in let m = f.few in omega arith) }
@@ -19,11 +19,11 @@ pub fit_right : (a b : List Facts) → Fit (a ++ b) → Fit b
 fit_right a b f = record { each = (list_all-append fits a b f.each).1; few = (let n = length-append a b in let m = f.few in omega arith) }
 
 pub fit_behind : (x : Facts) (l : List Facts) → Fit (x ∷ l) → Fit l
-fit_behind x l f = record { each = (both_are (fits x) (list_all fits l) f.each).1; few = (let m = f.few in omega arith) }
+fit_behind x l f = record { each = (and_parts (fits x) (list_all fits l) f.each).1; few = (let m = f.few in omega arith) }
 
 pub fit_path : (x : Facts) (l : List Facts) → Fit (x ∷ l) → length x.path ≤ 64
 fit_path x l f =
-    let p = both_are (nat_le (length x.path) 64) (nat_lt x.at_home (2 ^ 32)) (both_are (fits x) (list_all fits l) f.each).0 in
+    let p = and_parts (nat_le (length x.path) 64) (nat_lt x.at_home (2 ^ 32)) (and_parts (fits x) (list_all fits l) f.each).0 in
     le (length x.path) p.0
   where
     le : (n : ℕ) → nat_le n 64 ≡ true → n ≤ 64
@@ -31,7 +31,7 @@ fit_path x l f =
 
 pub fit_home : (x : Facts) (l : List Facts) → Fit (x ∷ l) → x.at_home < 2 ^ 32
 fit_home x l f =
-    let p = both_are (nat_le (length x.path) 64) (nat_lt x.at_home (2 ^ 32)) (both_are (fits x) (list_all fits l) f.each).0 in
+    let p = and_parts (nat_le (length x.path) 64) (nat_lt x.at_home (2 ^ 32)) (and_parts (fits x) (list_all fits l) f.each).0 in
     lt x.at_home p.1
   where
     lt : (n : ℕ) → nat_lt n (2 ^ 32) ≡ true → n < 2 ^ 32

@@ -9,12 +9,11 @@ use Rattle.acn_grammar.specs.Grammar.{Grammar}
 use Rattle.acn_grammar.specs.Tree.{holds}
 use Rattle.acn_grammar.specs.Walk.{Stand, Use, condition, item_of, size_of, slot_of, uses, nodes_of}
 use Rattle.acn_grammar.specs.declared.node.Test.TheVariants.{Flag, Equals}
-use Rattle.acn_grammar.proofs.Codings.{equal_numbers}
-use Rattle.acn_packet_laws.proofs.Placed.{or_left, or_right}
 use Rattle.acn_grammar.proofs.Texts.{either}
 use Rattle.acn_check.specs.Facts.{seen}
 use Rattle.acn_check.specs.First.{Det, Tally, dets, is_equals, raised, tallied_at, tallied_one, tallied, no_tallies, uses_of}
 use Rattle.acn_check.specs.Order.{lines_of, tallies_of}
+use Rattle.std.proofs.lemmas.Bool.{eqb-true, eqb-false, or_left, or_right}
 
 -- Numbers in a list.
 
@@ -32,7 +31,7 @@ contains_holds xs s c = get_holds xs c.0 s c.1 c.2
 pub holds_contains : (xs : List ℕ) (s : ℕ) → holds xs s ≡ true → Contains xs s
 holds_contains [] s h = cc
 holds_contains (x ∷ xs) s h = either {F = Contains (x ∷ xs) s} (nat_eq x s) (holds xs s) h
-    (λ q. (zero, omega arith, equal_numbers x s q))
+    (λ q. (zero, omega arith, eqb-true x s q))
     (λ q. let r = holds_contains xs s q in (suc r.0, omega (arith, r.1), r.2))
 
 -- One slot of the table.
@@ -57,12 +56,6 @@ abbrev raise_all : ℕ → List Use → Tally → Tally
 raise_all s [] t = t
 raise_all s (u ∷ us) t = raise_all s us (if hits u s then raised u t else t)
 
-eq_is : (a b : ℕ) → nat_eq a b ≡ true → a ≡ b
-eq_is a b h = grind (arith, nat_tests)
-
-eq_not : (a b : ℕ) → nat_eq a b ≡ false → a ≡ b → ⊥
-eq_not a b h e = grind (arith, nat_tests)
-
 one_raised : (ts : List Tally) (u : Use) (s : ℕ) (t : Tally) → slice_get ts s ≡ Some t → slice_get (tallied_one ts u) s ≡ Some (if hits u s then raised u t else t)
 one_raised ts u s t e = by (hits u s) refl
   where
@@ -72,10 +65,10 @@ one_raised ts u s t e = by (hits u s) refl
 
     by : (b : Bool) → hits u s ≡ b → slice_get (tallied_one ts u) s ≡ Some (if b then raised u t else t)
     by true h =
-        let same : slot_of u ≡ s = eq_is (slot_of u) s h in
+        let same : slot_of u ≡ s = eqb-true (slot_of u) s h in
         let e' : slice_get ts (slot_of u) ≡ Some t = ap (slice_get ts) same ∙ e in
         ap (λ o. slice_get (tallied_at ts u o) s) e' ∙ (ap (slice_get (slice_set ts (slot_of u) (raised u t))) (sym same) ∙ get-set-same ts (slot_of u) (raised u t) t e')
-    by false h = other (slice_get ts (slot_of u)) (eq_not (slot_of u) s h) ∙ e
+    by false h = other (slice_get ts (slot_of u)) (eqb-false (slot_of u) s h) ∙ e
 
 all_raised : (us : List Use) (ts : List Tally) (s : ℕ) (t : Tally) → slice_get ts s ≡ Some t → slice_get (tallied ts us) s ≡ Some (raise_all s us t)
 all_raised [] ts s t e = e

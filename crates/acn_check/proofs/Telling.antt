@@ -7,8 +7,8 @@ use Rattle.acn_grammar.specs.Faults.{check_fault_of}
 use Rattle.acn_grammar.specs.Slots.{first_of_two}
 use Rattle.acn_grammar.specs.Walk.{Use}
 use Rattle.acn_grammar.specs.declared.check_fault.CheckFault as program
-use Rattle.acn_grammar.proofs.Codings.{both_are}
 use Rattle.acn_check.specs.First.{Told, first_of}
+use Rattle.std.proofs.lemmas.Bool.{and_parts}
 
 -- an answer of a part is one of the whole
 pub told_as : (o whole : Option CheckFault) (e : program.CheckFault) → ((f : CheckFault) → o ≡ Some f → whole ≡ Some f) → Told o (Err e) → Told whole (Err e)
@@ -53,5 +53,5 @@ told_by_form p ts us use' r n e t = subst (λ o. Told o r) (sym (with_tests p 0 
 -- each element of a list passes a test that all pass
 pub all_at : {A : Type 0} (p : A → Bool) (xs : List A) (i : ℕ) (x : A) → list_all p xs ≡ true → slice_get xs i ≡ Some x → p x ≡ true
 all_at p [] i x h e = cc
-all_at p (y ∷ xs) zero x h e = (let f = both_are (p y) (list_all p xs) h in let same : y ≡ x = cc in rw (← same) f.0)
-all_at p (y ∷ xs) (suc i) x h e = all_at p xs i x (both_are (p y) (list_all p xs) h).1 e
+all_at p (y ∷ xs) zero x h e = (let f = and_parts (p y) (list_all p xs) h in let same : y ≡ x = cc in rw (← same) f.0)
+all_at p (y ∷ xs) (suc i) x h e = all_at p xs i x (and_parts (p y) (list_all p xs) h).1 e

@@ -8,7 +8,6 @@ use Rattle.acn_grammar.specs.Grammar.{Grammar, Form, Fields, Alternatives, node,
 use Rattle.acn_grammar.specs.Leaves.{num_fine}
 use Rattle.acn_grammar.specs.Tree.{IsTree, form_fine, is_home, home_fine, holds, near, same_numbers, slots_of, stand_rules, all_true}
 use Rattle.acn_grammar.specs.Walk.{Stand, nodes_of, presence_tests, slot_here, conditions_of}
-use Rattle.acn_grammar.proofs.Codings.{both_are}
 use Rattle.acn_packet_laws.proofs.Placed.{tree_rules}
 use Rattle.acn_grammar.proofs.TreeRules.{stand_fine}
 use Rattle.std.specs.List.{cons_option}
@@ -18,6 +17,7 @@ use Rattle.acn_check.specs.Order.{lines_of}
 use Rattle.acn_check.specs.Program.{few_in, FewCases}
 use Rattle.acn_check.proofs.Flat.{length-map, lines_are}
 use Rattle.acn_grammar.proofs.Characters.{same_name-is}
+use Rattle.std.proofs.lemmas.Bool.{and_parts}
 
 -- what holds of each of a list
 abbrev pub Each : {A : Type 0} → (A → Type 0) → List A → Type 0
@@ -38,7 +38,7 @@ each_both P (x ∷ a) b e f = (e.0, each_both P a b e.1 f)
 
 each_from : {A B : Type 0} (p : A → Bool) (f : A → B) (P : B → Type 0) (l : List A) → ((x : A) → p x ≡ true → P (f x)) → list_all p l ≡ true → Each P (map f l)
 each_from p f P [] h e = tt
-each_from p f P (x ∷ l) h e = (let q = both_are (p x) (list_all p l) e in (h x q.0, each_from p f P l h q.1))
+each_from p f P (x ∷ l) h e = (let q = and_parts (p x) (list_all p l) e in (h x q.0, each_from p f P l h q.1))
 
 -- Homes.
 
@@ -67,7 +67,7 @@ home_small all at (list sizing g) h l = omega arith
 home_small all at (choice cases rule) h l = omega arith
 home_small all at (contained sizing g) h l = omega arith
 home_small all at (seq fields home) h l =
-    let f = both_are (same_numbers home (filter (λ s. is_home all s at) (slots_of all))) (list_all (holds (near fields)) home) h in
+    let f = and_parts (same_numbers home (filter (λ s. is_home all s at) (slots_of all))) (list_all (holds (near fields)) home) h in
     let e = ap length (same_name-is home (filter (λ s. is_home all s at) (slots_of all)) f.0) in
     let a = length-filter (λ s. is_home all s at) (slots_of all) in
     let b = length-slots all in
@@ -159,7 +159,7 @@ module _ (root : Grammar) (tree : IsTree root) where
   few_nodes : length (nodes_of root) ≤ 65536
   few_nodes =
       let all = nodes_of root in
-      le (length all) (both_are (nat_le (length all) 65536) (same_numbers (slots_of all) (range_with_len 0 (length (slots_of all))) && list_all (λ at. all_true (stand_rules all at)) all) tree).0
+      le (length all) (and_parts (nat_le (length all) 65536) (same_numbers (slots_of all) (range_with_len 0 (length (slots_of all))) && list_all (λ at. all_true (stand_rules all at)) all) tree).0
     where
       le : (n : ℕ) → nat_le n 65536 ≡ true → n ≤ 65536
       le n h = grind (arith, nat_tests)

@@ -3,7 +3,7 @@ use Rattle.std.proofs.Common.{◌≡◌, ◌⊎◌, inl, inr, ℕ, suc, ℤ, Boo
 use Rattle.std.specs.Prelude.{option_map, if◌then◌else◌, Result, Ok, Err, IfOk}
 use Rattle.std.specs.List.{list_any}
 use Rattle.std.specs.Ordering.{int_eq, int_cmp, is_eq}
-use Rattle.std.proofs.lemmas.Bool.{and_parts, or_parts, or_cases, not-true, cases_Bool}
+use Rattle.std.proofs.lemmas.Bool.{and_parts, or_parts, or_cases, not-true, cases_Bool, eqb-true}
 use Rattle.std.proofs.lemmas.Bool.Decides.{nat_tests}
 use Rattle.std.proofs.lemmas.Cmp.{int_cmp_total}
 use Rattle.std.proofs.lemmas.Int.{ints}
@@ -23,9 +23,6 @@ int_eq_is x y h = grind (arith, ints)
 int_same : (x : ℤ) → int_eq x x ≡ true
 int_same x = grind (arith, ints)
 
-eq_is : (a b : ℕ) → nat_eq a b ≡ true → a ≡ b
-eq_is a b h = grind (arith, nat_tests)
-
 -- What holds says what is asked.
 
 holds_asked : (env : Env) (t : Test) → Holds env t → at_slot env (asked t).0 ≡ Some (asked t).1
@@ -39,7 +36,7 @@ asked_holds env (u ∷ us) s y h e = by (cases_Bool (nat_eq (asked u).0 s)) (λ 
     by : (nat_eq (asked u).0 s ≡ true) ⊎ (nat_eq (asked u).0 s ≡ false) → (number_asked s us ≡ Some y → at_slot env s ≡ Some y) → at_slot env s ≡ Some y
     by (inl t) rest =
         let here : Some (asked u).1 ≡ Some y = sym (ap (λ b. if b then Some (asked u).1 else number_asked s us) t) ∙ e in
-        sym (ap (at_slot env) (eq_is (asked u).0 s t)) ∙ (holds_asked env u h.0 ∙ here)
+        sym (ap (at_slot env) (eqb-true (asked u).0 s t)) ∙ (holds_asked env u h.0 ∙ here)
     by (inr f) rest = rest (sym (ap (λ b. if b then Some (asked u).1 else number_asked s us) f) ∙ e)
 
 holds_left : (env : Env) (ts us : List Test) → AllHold env (ts ++ us) → AllHold env ts

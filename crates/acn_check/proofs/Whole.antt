@@ -21,12 +21,7 @@ use Rattle.acn_check.proofs.KindPlaces.{unclear_law, mixed_law, open_law}
 use Rattle.acn_check.proofs.KindSlots.{width_law, unused_law, equals_law}
 use Rattle.acn_check.proofs.KindUses.{behind_law, kind_law, only_true, only_none}
 use Rattle.acn_check.proofs.Numbers.{only_too_long, only_too_many_values, plain_tail}
-
-lt_is : (a b : ℕ) → nat_lt a b ≡ true → a < b
-lt_is a b h = grind (arith, nat_tests)
-
-is_lt : (a b : ℕ) → a < b → nat_lt a b ≡ true
-is_lt a b h = grind (arith, nat_tests)
+use Rattle.std.proofs.lemmas.Bool.{ltb-true, lt-ltb}
 
 -- Limits of the whole tree.
 
@@ -54,11 +49,11 @@ module _ (root : Grammar) where
   long_law = record {
     some = λ f e.
         let o = only_true (nat_lt 524336 (span root).greatest) (too_long (span root).greatest) f e in
-        at_root 9 (λ g u is. plain_tail g u (λ four. absurd (omega arith)) (λ seven. absurd (omega arith))) long_zero f (ap number_of_fault (sym o.1)) (subst (λ x. Evidence root x 0 0) o.1 (refl, refl, lt_is 524336 (span root).greatest o.0));
+        at_root 9 (λ g u is. plain_tail g u (λ four. absurd (omega arith)) (λ seven. absurd (omega arith))) long_zero f (ap number_of_fault (sym o.1)) (subst (λ x. Evidence root x 0 0) o.1 (refl, refl, ltb-true 524336 (span root).greatest o.0));
     none = λ e f k u is evidence.
         let o = only_too_long f is in
         let e' : Evidence root (too_long o.0) k u = subst (λ x. Evidence root x k u) o.1 evidence in
-        only_none (nat_lt 524336 (span root).greatest) (too_long (span root).greatest) (is_lt 524336 (span root).greatest (let a = e'.1 in let b = e'.2 in omega (arith, a, b))) e;
+        only_none (nat_lt 524336 (span root).greatest) (too_long (span root).greatest) (lt-ltb 524336 (span root).greatest (let a = e'.1 in let b = e'.2 in omega (arith, a, b))) e;
   }
 
   values_zero : (g : CheckFault) (k u : ℕ) → number_of_fault g ≡ 12 → Evidence root g k u → k ≡ 0
@@ -68,11 +63,11 @@ module _ (root : Grammar) where
   values_law = record {
     some = λ f e.
         let o = only_true (nat_lt 1048576 (value_count root)) (too_many_values (value_count root)) f e in
-        at_root 12 (λ g u is. plain_tail g u (λ four. absurd (omega arith)) (λ seven. absurd (omega arith))) values_zero f (ap number_of_fault (sym o.1)) (subst (λ x. Evidence root x 0 0) o.1 (refl, refl, lt_is 1048576 (value_count root) o.0));
+        at_root 12 (λ g u is. plain_tail g u (λ four. absurd (omega arith)) (λ seven. absurd (omega arith))) values_zero f (ap number_of_fault (sym o.1)) (subst (λ x. Evidence root x 0 0) o.1 (refl, refl, ltb-true 1048576 (value_count root) o.0));
     none = λ e f k u is evidence.
         let o = only_too_many_values f is in
         let e' : Evidence root (too_many_values o.0) k u = subst (λ x. Evidence root x k u) o.1 evidence in
-        only_none (nat_lt 1048576 (value_count root)) (too_many_values (value_count root)) (is_lt 1048576 (value_count root) (let a = e'.1 in let b = e'.2 in omega (arith, a, b))) e;
+        only_none (nat_lt 1048576 (value_count root)) (too_many_values (value_count root)) (lt-ltb 1048576 (value_count root) (let a = e'.1 in let b = e'.2 in omega (arith, a, b))) e;
   }
 
 -- All kinds.

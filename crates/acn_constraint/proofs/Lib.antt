@@ -1,5 +1,5 @@
-pub mod Bases
-pub mod Firsts
-pub mod Judged
-pub mod Steps
-pub mod Unions
+mod Bases
+mod Firsts
+mod Judged
+mod Steps
+mod Unions

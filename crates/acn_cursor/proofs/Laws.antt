@@ -15,6 +15,7 @@ use Rattle.acn_lex.specs.Number.{number_in}
 use Rattle.acn_lex.proofs.NumberLemmas as written
 use Rattle.acn_lex.specs.Lexeme.{Lexeme, same_kind}
 use Rattle.acn_cursor.specs.Steps.{Parser, given, and_then, ◌>>=◌, token, sees, behind, after, eat, expect, text_of, taken_if, passing, word, number, repeat, many, pure}
+use Rattle.std.proofs.lemmas.Bool.{and_parts}
 
 pub ap2 : {A B C : Type 0} (f : A → B → C) {x y : A} {u v : B} → x ≡ y → u ≡ v → f x u ≡ f y v
 ap2 f {x} {y} {u} {v} p q = ap (λ a. f a u) p ∙ ap (f y) q
@@ -22,10 +23,6 @@ ap2 f {x} {y} {u} {v} p q = ap (λ a. f a u) p ∙ ap (f y) q
 -- what an outcome is
 pub outcome_is : {A : Type 0} (p q : A × List Lexeme) → Some p ≡ Some q → (p.0 ≡ q.0) × (p.1 ≡ q.1)
 outcome_is {A} p q e = let k : p ≡ q = cc in (ap (λ (z : A × List Lexeme). z.0) k, ap (λ (z : A × List Lexeme). z.1) k)
-
-both : (a b : Bool) → a && b ≡ true → (a ≡ true) × (b ≡ true)
-both true b e = (refl, e)
-both false b e = absurd cc
 
 -- ---- one after the other
 
@@ -82,7 +79,7 @@ pub sees_found : (k : Kind) (text : List ℕ) (ts : List Lexeme) → sees k text
 unfolding sees
 sees_found k text [] e = absurd cc
 sees_found k text (t ∷ ts) e =
-    let b = both (same_kind t.kind k) (bytes_eq t.text text) e in
+    let b = and_parts (same_kind t.kind k) (bytes_eq t.text text) e in
     ap2 (λ (a : Kind) (b : List ℕ). token a b ∷ ts) (kind_same t.kind k b.0) ((bytes_eq-Decides t.text text).0 b.1)
 
 pub sees_again : (k : Kind) (text : List ℕ) (ts : List Lexeme) → sees k text (token k text ∷ ts) ≡ true

@@ -1,4 +1,6 @@
-pub mod Lists
+mod Lists
+-- for acn_names
 pub mod Places
+-- for acn_names
 pub mod Assigned
-pub mod Transport
+mod Transport

@@ -1,2 +1,2 @@
-pub mod Kept
-pub mod Entries
+mod Kept
+mod Entries

@@ -4,15 +4,15 @@ use Rattle.std.proofs.lemmas.Bool.Decides.{nat_tests}
 use Rattle.acn_grammar.specs.Asks.{same_name}
 use Rattle.acn_grammar.specs.Spell.{CharactersPart}
 use Rattle.acn_grammar.specs.declared.node.TextLeaf.{TextLeaf}
-use Rattle.acn_grammar.proofs.Codings.{both_are, equal_numbers}
+use Rattle.std.proofs.lemmas.Bool.{and_parts, eqb-true}
 
 pub same_name-is : (xs ys : List ℕ) → same_name xs ys ≡ true → xs ≡ ys
 same_name-is [] [] h = refl
 same_name-is [] (y ∷ ys) h = cc
 same_name-is (x ∷ xs) [] h = cc
 same_name-is (x ∷ xs) (y ∷ ys) h =
-    let f = both_are (nat_eq x y) (same_name xs ys) h in
-    let one = equal_numbers x y f.0 in
+    let f = and_parts (nat_eq x y) (same_name xs ys) h in
+    let one = eqb-true x y f.0 in
     let rest = same_name-is xs ys f.1 in
     cc
 

@@ -10,6 +10,7 @@ use Rattle.acn_grammar.specs.declared.node.NumCoding.{NumCoding}
 use Rattle.acn_grammar.specs.declared.node.NumCoding.TheVariants.{Range, CountedFrom, CountedSigned, PosInt, Twos, Bcd, BcdEnded, Ascii, AsciiEnded, Flag, Fixed}
 use Rattle.acn_grammar.proofs.Octets.{low_bits-number}
 use Rattle.acn_grammar.proofs.Prefix.{CodeLaw, same_front, number_law, range_law, pos_int_law, twos_law, fixed_law, flag_law, counted_law}
+use Rattle.std.proofs.lemmas.Bool.{and_parts, not-true, eqb-true}
 
 -- Digits.
 
@@ -221,17 +222,6 @@ no_digit (a ∷ b ∷ c ∷ d ∷ e ∷ []) t n x more r below eq = cc
 no_digit (a ∷ b ∷ c ∷ d ∷ e ∷ f ∷ []) t n x more r below eq = cc
 no_digit (a ∷ b ∷ c ∷ d ∷ e ∷ f ∷ g ∷ []) t n x more r below eq = cc
 
-pub both_are : (a b : Bool) → (a && b) ≡ true → (a ≡ true) × (b ≡ true)
-both_are true b h = (refl, h)
-both_are false b h = cc
-
-pub not_is : (a : Bool) → not a ≡ true → a ≡ false
-not_is true h = cc
-not_is false h = refl
-
-pub equal_numbers : (a b : ℕ) → nat_eq a b ≡ true → a ≡ b
-equal_numbers a b h = grind (arith, nat_tests)
-
 same_bits-refl : (p : List Bool) → same_bits p p ≡ true
 same_bits-refl [] = refl
 same_bits-refl (true ∷ p) = same_bits-refl p
@@ -252,13 +242,13 @@ coding_law (Bcd n) little h = bcd_law n little
 coding_law BcdEnded little h = bcd_ended_law little
 coding_law (Ascii n signed) little h = ascii_law n signed little
 coding_law (AsciiEnded end signed) little h =
-    let w = both_are (is_terminator end) (not (begins_number (octet_numbers end))) h in
-    ascii_ended_law end signed little (no_digit end w.0 (not_is (begins_number (octet_numbers end)) w.1))
+    let w = and_parts (is_terminator end) (not (begins_number (octet_numbers end))) h in
+    ascii_ended_law end signed little (no_digit end w.0 (not-true (begins_number (octet_numbers end)) w.1))
 coding_law (Flag None None) little h = flag_bit_law little
 coding_law (Flag (Some p) None) little h = flag_law p little
 coding_law (Flag None (Some q)) little h = flag_no_law q little
 coding_law (Flag (Some p) (Some q)) little h =
-    let a = both_are (is_pattern p) (nat_eq (length p) (length q) && not (same_bits p q)) h in
-    let b = both_are (nat_eq (length p) (length q)) (not (same_bits p q)) a.1 in
-    flag_two_law p q little (equal_numbers (length p) (length q) b.0) (patterns_differ p q (not_is (same_bits p q) b.1))
+    let a = and_parts (is_pattern p) (nat_eq (length p) (length q) && not (same_bits p q)) h in
+    let b = and_parts (nat_eq (length p) (length q)) (not (same_bits p q)) a.1 in
+    flag_two_law p q little (eqb-true (length p) (length q) b.0) (patterns_differ p q (not-true (same_bits p q) b.1))
 coding_law (Fixed pattern) little h = fixed_law pattern little

@@ -11,9 +11,9 @@ use Rattle.std.proofs.lemmas.List.{length-append}
 use Rattle.acn_num.specs.Bits.{low_bits, IsNumber, IsSigned}
 use Rattle.acn_grammar.specs.Code.{Counted, AreDigits, IsMinimal, decimal_number}
 use Rattle.acn_grammar.specs.Length.{least_octets, least_signed_octets, fits_octets, digit_count}
-use Rattle.acn_grammar.proofs.Codings.{both_are}
 use Rattle.acn_grammar.proofs.Numbers.{number-below, signed-below, signed-above}
 use Rattle.acn_grammar.proofs.Octets.{low_bits-number, low_bits-length}
+use Rattle.std.proofs.lemmas.Bool.{le-leb, leb-true, and_parts}
 
 -- as many as pass of numbers of which the first m pass and the others don't
 pub counts : (p : ℕ → Bool) (a n m : ℕ) → m ≤ n → ((j : ℕ) → a ≤ j → j < a + m → p j ≡ true) → ((j : ℕ) → a + m ≤ j → j < a + n → p j ≡ false) → count_by p (range_with_len a n) ≡ m
@@ -42,14 +42,8 @@ count_more p q a (suc n) h =
     ones true true h = omega arith
     ones true false h = let e = h refl in cc
 
-pub le_true : (a b : ℕ) → a ≤ b → nat_le a b ≡ true
-le_true a b h = grind (arith, nat_tests)
-
 pub le_false : (a b : ℕ) → b < a → nat_le a b ≡ false
 le_false a b h = grind (arith, nat_tests)
-
-pub le_is : (a b : ℕ) → nat_le a b ≡ true → a ≤ b
-le_is a b h = grind (arith, nat_tests)
 
 -- Octets.
 
@@ -63,7 +57,7 @@ octet_powers (suc c) =
 pub least_octets-is : (k c : ℕ) → 0 < c → c ≤ 8 → k < 256 ^ c → (1 < c → 256 ^ (c - 1) ≤ k) → least_octets k ≡ c
 least_octets-is k c p l h g =
     let n = counts (λ j. nat_le (256 ^ j) k) 1 7 (c - 1) (omega arith)
-    (λ j u v. le_true (256 ^ j) k (omega (arith, g (omega arith), pow-le-pow_right {n = 256} (omega arith) {i = j} {j = c - 1} (omega arith))))
+    (λ j u v. le-leb (256 ^ j) k (omega (arith, g (omega arith), pow-le-pow_right {n = 256} (omega arith) {i = j} {j = c - 1} (omega arith))))
     (λ j u v. le_false (256 ^ j) k (omega (arith, pow-le-pow_right {n = 256} (omega arith) {i = c} {j = j} (omega arith)))) in
     omega arith
 
@@ -117,7 +111,7 @@ fits_true y c h k = both (int_le (neg_ℤ (pos (2 ^ (8 * c - 1)))) y) (int_lt y 
 
 pub fits_is : (y : ℤ) (c : ℕ) → fits_octets y c ≡ true → (neg_ℤ (pos (2 ^ (8 * c - 1))) ≤ℤ y) × (y <ℤ pos (2 ^ (8 * c - 1)))
 fits_is y c h =
-    let f = both_are (int_le (neg_ℤ (pos (2 ^ (8 * c - 1)))) y) (int_lt y (pos (2 ^ (8 * c - 1)))) h in
+    let f = and_parts (int_le (neg_ℤ (pos (2 ^ (8 * c - 1)))) y) (int_lt y (pos (2 ^ (8 * c - 1)))) h in
     (le_fact _ _ f.0, lt_fact _ _ f.1)
   where
     le_fact : (a b : ℤ) → int_le a b ≡ true → a ≤ℤ b
@@ -188,7 +182,7 @@ digits-from d e ds h =
 pub digit_count-is : (k n : ℕ) → 0 < n → n ≤ 20 → k < 10 ^ n → (1 < n → 10 ^ (n - 1) ≤ k) → digit_count k ≡ n
 digit_count-is k n p l h g =
     let m = counts (λ j. nat_le (10 ^ j) k) 1 19 (n - 1) (omega arith)
-    (λ j u v. le_true (10 ^ j) k (omega (arith, g (omega arith), pow-le-pow_right {n = 10} (omega arith) {i = j} {j = n - 1} (omega arith))))
+    (λ j u v. le-leb (10 ^ j) k (omega (arith, g (omega arith), pow-le-pow_right {n = 10} (omega arith) {i = j} {j = n - 1} (omega arith))))
     (λ j u v. le_false (10 ^ j) k (omega (arith, pow-le-pow_right {n = 10} (omega arith) {i = n} {j = j} (omega arith)))) in
     omega arith
 

@@ -13,9 +13,10 @@ use Rattle.acn_grammar.specs.declared.node.NumKind.{NumKind}
 use Rattle.acn_grammar.specs.declared.node.NumKind.TheVariants.{Integer, Boolean, Enumerated, Null}
 use Rattle.acn_grammar.specs.declared.node.NumLeaf.{NumLeaf}
 use Rattle.acn_grammar.specs.declared.node.Table.{Table}
-use Rattle.acn_grammar.proofs.Codings.{both_are, not_is, coding_law}
+use Rattle.acn_grammar.proofs.Codings.{coding_law}
 use Rattle.acn_grammar.proofs.ImagesOne.{lines_one, item_numbers_one, same_item}
 use Rattle.acn_grammar.proofs.Prefix.{Lawful}
+use Rattle.std.proofs.lemmas.Bool.{and_parts, not-true}
 
 -- Each rule of a leaf by its name.
 pub record Rules (leaf : NumLeaf) : Type 0 where
@@ -30,7 +31,7 @@ pub record Rules (leaf : NumLeaf) : Type 0 where
   pub writes : can_write_all leaf.coding (written_ends leaf) ≡ true
 
 behind : (b : Bool) (rest : List Bool) → list_all (λ x. x) (b ∷ rest) ≡ true → (b ≡ true) × (list_all (λ x. x) rest ≡ true)
-behind b rest h = both_are b (list_all (λ x. x) rest) h
+behind b rest h = and_parts b (list_all (λ x. x) rest) h
 
 nine : (a b c d e f g i j : Bool) → list_all (λ x. x) (a ∷ b ∷ c ∷ d ∷ e ∷ f ∷ g ∷ i ∷ j ∷ []) ≡ true → (a ≡ true) × (b ≡ true) × (c ≡ true) × (d ≡ true) × (e ≡ true) × (f ≡ true) × (g ≡ true) × (i ≡ true) × (j ≡ true)
 nine a b c d e f g i j h =
@@ -53,26 +54,26 @@ rules_of leaf h =
 
 -- items are there only where they are written
 pub no_values : (items : Items) → no_items items ≡ true → items.values ≡ false
-no_values items h = not_is items.values (both_are (nat_eq (length items.items) 0) (not items.values) h).1
+no_values items h = not-true items.values (and_parts (nat_eq (length items.items) 0) (not items.values) h).1
 
 items_differ : (kind : NumKind) (coding : NumCoding) (items : Items) (table : Option Table) (set : List (ℤ × ℤ)) → set_fine kind coding items table set ≡ true → items.values ≡ true → all_differ same_item items.items ≡ true
 items_differ Integer coding items table set h v =
-    let a = both_are (are_ranges set) (integer_set_fine coding (ends set) && no_items items) h in
-    let n = no_values items (both_are (integer_set_fine coding (ends set)) (no_items items) a.1).1 in
+    let a = and_parts (are_ranges set) (integer_set_fine coding (ends set) && no_items items) h in
+    let n = no_values items (and_parts (integer_set_fine coding (ends set)) (no_items items) a.1).1 in
     cc
-items_differ Boolean coding items table set h v = let n = no_values items (both_are (is_range (pos 0) (pos 1) set) (no_items items) h).1 in cc
-items_differ Null coding items table set h v = let n = no_values items (both_are (is_range (pos 0) (pos 0) set) (no_items items) h).1 in cc
+items_differ Boolean coding items table set h v = let n = no_values items (and_parts (is_range (pos 0) (pos 1) set) (no_items items) h).1 in cc
+items_differ Null coding items table set h v = let n = no_values items (and_parts (is_range (pos 0) (pos 0) set) (no_items items) h).1 in cc
 items_differ Enumerated coding items table set h v =
-    let a = both_are (nat_lt 0 (length items.items)) (is_range (pos 0) (pos (length items.items - 1)) set && items_fine coding items) h in
-    let b = both_are (is_range (pos 0) (pos (length items.items - 1)) set) (items_fine coding items) a.1 in
-    (both_are (all_differ (λ x y. same_name x.0 y.0) items.items) (all_differ same_item items.items) b.1).1
+    let a = and_parts (nat_lt 0 (length items.items)) (is_range (pos 0) (pos (length items.items - 1)) set && items_fine coding items) h in
+    let b = and_parts (is_range (pos 0) (pos (length items.items - 1)) set) (items_fine coding items) a.1 in
+    (and_parts (all_differ (λ x y. same_name x.0 y.0) items.items) (all_differ same_item items.items) b.1).1
 
 table_one : (coding : NumCoding) (set : List (ℤ × ℤ)) (table : Option Table) → table_fine coding set table ≡ true → (x z y : ℤ) → image_by table x ≡ Some y → image_by table z ≡ Some y → x ≡ z
 table_one coding set None h x z y p q = cc
 table_one coding set (Some table) h x z y p q =
-    let a = both_are (has_size coding) (list_all line_fine table.lines && (all_differ share table.lines && nat_eq (count (images_by (Some table) set)) (count set))) h in
-    let b = both_are (list_all line_fine table.lines) (all_differ share table.lines && nat_eq (count (images_by (Some table) set)) (count set)) a.1 in
-    let c = both_are (all_differ share table.lines) (nat_eq (count (images_by (Some table) set)) (count set)) b.1 in
+    let a = and_parts (has_size coding) (list_all line_fine table.lines && (all_differ share table.lines && nat_eq (count (images_by (Some table) set)) (count set))) h in
+    let b = and_parts (list_all line_fine table.lines) (all_differ share table.lines && nat_eq (count (images_by (Some table) set)) (count set)) a.1 in
+    let c = and_parts (all_differ share table.lines) (nat_eq (count (images_by (Some table) set)) (count set)) b.1 in
     lines_one table.lines x z y c.0 p q
 
 by_values : (v : Bool) (items : Items) (table : Option Table) → (v ≡ true → all_differ same_item items.items ≡ true)

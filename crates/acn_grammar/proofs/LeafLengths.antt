@@ -17,10 +17,10 @@ use Rattle.acn_grammar.specs.declared.node.NumKind.{NumKind}
 use Rattle.acn_grammar.specs.declared.node.NumKind.TheVariants.{Integer, Boolean, Enumerated, Null}
 use Rattle.acn_grammar.specs.declared.node.NumLeaf.{NumLeaf}
 use Rattle.acn_grammar.specs.declared.node.Table.{Table}
-use Rattle.acn_grammar.proofs.Codings.{both_are, not_is, equal_numbers}
 use Rattle.acn_grammar.proofs.Counts.{counted-octets, counted-signed, digits-count, fits_true}
 use Rattle.acn_grammar.proofs.FineLeaves.{rules_of}
 use Rattle.acn_grammar.proofs.Within.{by_values, ends-has}
+use Rattle.std.proofs.lemmas.Bool.{and_parts, not-true, eqb-true}
 
 -- how great a number a code of several lengths can have
 abbrev pub Limits : NumCoding → ℤ → Type 0
@@ -59,9 +59,9 @@ flag-length mode None (Some q) little y bs f (inl c) = ap length c.1
 flag-length mode None (Some q) little y bs f (inr c) = one_pattern mode q bs c.1
 flag-length mode (Some p) (Some q) little y bs f (inl c) = ap length c.1
 flag-length mode (Some p) (Some q) little y bs f (inr c) =
-    let a = both_are (is_pattern p) (nat_eq (length p) (length q) && not (same_bits p q)) f in
-    let b = both_are (nat_eq (length p) (length q)) (not (same_bits p q)) a.1 in
-    ap length c.1 ∙ sym (equal_numbers (length p) (length q) b.0)
+    let a = and_parts (is_pattern p) (nat_eq (length p) (length q) && not (same_bits p q)) f in
+    let b = and_parts (nat_eq (length p) (length q)) (not (same_bits p q)) a.1 in
+    ap length c.1 ∙ sym (eqb-true (length p) (length q) b.0)
 
 pub coding-length : (coding : NumCoding) (little : Bool) (mode : Mode) (y : ℤ) (bs : List Bool) → coding_fine coding ≡ true → Limits coding y → CodingCode mode coding little y bs → length bs ≡ coding_length coding y
 coding-length (Range low width) little mode y bs f l c = c.2.width
@@ -103,7 +103,7 @@ some_ends coding (Some e) h = (e, refl, h)
 
 pub int_ends : (coding : NumCoding) (o : Option (ℤ × ℤ)) → integer_set_fine coding o ≡ true → (e : ℤ × ℤ) × (o ≡ Some e) × (int_le (neg_ℤ (pos (2 ^ 63))) e.0 ≡ true) × (is_below coding e.0 e.1 ≡ true)
 int_ends coding None h = cc
-int_ends coding (Some e) h = let f = both_are (int_le (neg_ℤ (pos (2 ^ 63))) e.0) (is_below coding e.0 e.1) h in (e, refl, f.0, f.1)
+int_ends coding (Some e) h = let f = and_parts (int_le (neg_ℤ (pos (2 ^ 63))) e.0) (is_below coding e.0 e.1) h in (e, refl, f.0, f.1)
 
 pub le_fact : (x y : ℤ) → int_le x y ≡ true → x ≤ℤ y
 le_fact x y h = grind (arith, ints, nat_tests)
@@ -120,11 +120,11 @@ IsPlain items table set coding = (items.values ≡ false) × (table ≡ None) ×
 
 pub is_plain : (kind : NumKind) (coding : NumCoding) (items : Items) (table : Option Table) (set : List (ℤ × ℤ)) → kind ≡ Integer → has_size coding ≡ false → set_fine kind coding items table set ≡ true → table_fine coding set table ≡ true → IsPlain items table set coding
 is_plain Integer coding items None set k n s t =
-    let a = both_are (are_ranges set) (integer_set_fine coding (ends set) && no_items items) s in
-    let b = both_are (integer_set_fine coding (ends set)) (no_items items) a.1 in
-    (not_is items.values (both_are (nat_eq (length items.items) 0) (not items.values) b.1).1, refl, b.0)
+    let a = and_parts (are_ranges set) (integer_set_fine coding (ends set) && no_items items) s in
+    let b = and_parts (integer_set_fine coding (ends set)) (no_items items) a.1 in
+    (not-true items.values (and_parts (nat_eq (length items.items) 0) (not items.values) b.1).1, refl, b.0)
 is_plain Integer coding items (Some table) set k n s t =
-    let a = both_are (has_size coding) (list_all line_fine table.lines && (all_differ share table.lines && nat_eq (count (images_by (Some table) set)) (count set))) t in
+    let a = and_parts (has_size coding) (list_all line_fine table.lines && (all_differ share table.lines && nat_eq (count (images_by (Some table) set)) (count set))) t in
     let w = a.0 in
     cc
 is_plain Boolean coding items table set k n s t = cc
@@ -147,7 +147,7 @@ pub below_span : (low high y : ℤ) (k : ℕ) → neg_ℤ (pos (2 ^ 63)) ≤ℤ 
 below_span low high y k a b c d =
     elim_or (int_lt high (pos (2 ^ 63))) (int_le (pos 0) low && int_lt high (pos (2 ^ 64))) b
     (λ h. let e = lt_fact high (pos (2 ^ 63)) h in omega (arith, ints))
-    (λ h. let f = both_are (int_le (pos 0) low) (int_lt high (pos (2 ^ 64))) h in let e = le_fact (pos 0) low f.0 in let g = lt_fact high (pos (2 ^ 64)) f.1 in omega (arith, ints))
+    (λ h. let f = and_parts (int_le (pos 0) low) (int_lt high (pos (2 ^ 64))) h in let e = le_fact (pos 0) low f.0 in let g = lt_fact high (pos (2 ^ 64)) f.1 in omega (arith, ints))
   where
     elim_or : {F : Type 0} (a b : Bool) → (a || b) ≡ true → (a ≡ true → F) → (b ≡ true → F) → F
     elim_or true b h f g = f refl
@@ -158,12 +158,12 @@ small_magnitude y a b h k l m = omega (arith, ints)
 
 ended_magnitude : (end : List Bool) (signed : Bool) (e : ℤ × ℤ) (y : ℤ) → can_write (AsciiEnded end signed) e ≡ true → e.0 ≤ℤ y → y ≤ℤ e.1 → nat_abs y < 10 ^ 20
 ended_magnitude end false e y h a b =
-    let f = both_are (int_le (pos 0) e.0) (int_lt e.1 (pos (2 ^ 64))) h in
+    let f = and_parts (int_le (pos 0) e.0) (int_lt e.1 (pos (2 ^ 64))) h in
     let p = le_fact (pos 0) e.0 f.0 in
     let q = lt_fact e.1 (pos (2 ^ 64)) f.1 in
     small_magnitude y e.0 e.1 (omega (arith, ints)) a b q
 ended_magnitude end true e y h a b =
-    let f = both_are (int_le (neg_ℤ (pos (2 ^ 63))) e.0) (int_lt e.1 (pos (2 ^ 63))) h in
+    let f = and_parts (int_le (neg_ℤ (pos (2 ^ 63))) e.0) (int_lt e.1 (pos (2 ^ 63))) h in
     let p = le_fact (neg_ℤ (pos (2 ^ 63))) e.0 f.0 in
     let q = lt_fact e.1 (pos (2 ^ 63)) f.1 in
     small_magnitude y e.0 e.1 (omega (arith, ints)) a b (omega (arith, ints))

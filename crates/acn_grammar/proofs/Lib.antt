@@ -1,20 +1,37 @@
-pub mod Back
+mod Back
+-- for acn_packet_laws, acn_text and acn_check
 pub mod Characters
+-- for acn_packet_laws
 pub mod Codings
+-- for acn_packet_laws and acn_ints
 pub mod Counts
+-- for acn_packet_laws, acn_leaf, acn_tree, acn_ints and acn_check
 pub mod FineLeaves
-pub mod ImagesOne
+mod ImagesOne
+-- for acn_leaf and acn_tree
 pub mod Intervals
+-- for acn_packet_laws, acn_ints and acn_check
 pub mod LeafLengths
+-- for acn_packet_laws
 pub mod Monotone
-pub mod NodesBack
+mod NodesBack
+-- for acn_packet_laws and acn_tree
 pub mod Numbers
+-- for acn_packet_laws
 pub mod Octets
+-- for acn_packet_laws and acn_text
 pub mod Prefix
+-- for acn_packet_laws, acn_tree and acn_check
 pub mod SpanLaw
+-- for acn_packet_laws
 pub mod SpellLength
+-- for acn_packet_laws, acn_tree, acn_text and acn_check
 pub mod Texts
+-- for acn_packet_laws, acn_well_formed, acn_tree and acn_check
 pub mod TreeRules
+-- for acn_tree and acn_run
 pub mod Views
+-- for acn_packet_laws and acn_ints
 pub mod WidthLaw
+-- for acn_packet_laws, acn_tree, acn_ints, acn_text and acn_check
 pub mod Within

@@ -11,14 +11,15 @@ use Rattle.acn_grammar.specs.Length.{least_octets, least_signed_octets, fits_oct
 use Rattle.acn_grammar.specs.declared.bounds.Bounds.{Bounds}
 use Rattle.acn_grammar.specs.declared.node.NumCoding.{NumCoding}
 use Rattle.acn_grammar.specs.declared.node.NumCoding.TheVariants.{Range, CountedFrom, CountedSigned, PosInt, Twos, Bcd, BcdEnded, Ascii, AsciiEnded, Flag, Fixed}
-use Rattle.acn_grammar.proofs.Counts.{count_more, le_true, le_is, fits_is, fits_true}
+use Rattle.acn_grammar.proofs.Counts.{count_more, fits_is, fits_true}
 use Rattle.acn_grammar.proofs.Within.{between}
+use Rattle.std.proofs.lemmas.Bool.{le-leb, leb-true}
 
 octets-grow : (a b : ℕ) → a ≤ b → least_octets a ≤ least_octets b
-octets-grow a b h = omega (arith, count_more (λ c. nat_le (256 ^ c) a) (λ c. nat_le (256 ^ c) b) 1 7 (λ j u v. le_true (256 ^ j) b (omega (arith, le_is (256 ^ j) a v))))
+octets-grow a b h = omega (arith, count_more (λ c. nat_le (256 ^ c) a) (λ c. nat_le (256 ^ c) b) 1 7 (λ j u v. le-leb (256 ^ j) b (omega (arith, leb-true (256 ^ j) a v))))
 
 digits-grow : (a b : ℕ) → a ≤ b → digit_count a ≤ digit_count b
-digits-grow a b h = omega (arith, count_more (λ e. nat_le (10 ^ e) a) (λ e. nat_le (10 ^ e) b) 1 19 (λ j u v. le_true (10 ^ j) b (omega (arith, le_is (10 ^ j) a v))))
+digits-grow a b h = omega (arith, count_more (λ e. nat_le (10 ^ e) a) (λ e. nat_le (10 ^ e) b) 1 19 (λ j u v. le-leb (10 ^ j) b (omega (arith, leb-true (10 ^ j) a v))))
 
 -- between 0 and b
 abbrev Nearer : ℤ → ℤ → Type 0

@@ -7,6 +7,7 @@ use Rattle.std.proofs.Math.Numerals.{one-add}
 use Rattle.acn_num.specs.Bits.{number, weight, bit, low_bits, bits as bits_of}
 use Rattle.acn_grammar.specs.Shaped.{are_octets}
 use Rattle.acn_grammar.proofs.Prefix.{same_front}
+use Rattle.std.proofs.lemmas.Bool.{and_parts}
 
 pub low_bits-length : (n x : ℕ) → length (low_bits n x) ≡ n
 low_bits-length zero x = refl
@@ -32,17 +33,13 @@ octet_one x y h k e =
 pub octet_below : (x : ℕ) → nat_lt x 256 ≡ true → x < 256
 octet_below x h = grind (arith, nat_tests)
 
-pub both_true : (a b : Bool) → (a && b) ≡ true → (a ≡ true) × (b ≡ true)
-both_true true b h = (refl, h)
-both_true false b h = cc
-
 pub bits_one : (xs ys : List ℕ) → are_octets xs ≡ true → are_octets ys ≡ true → length xs ≡ length ys → bits_of xs ≡ bits_of ys → xs ≡ ys
 bits_one [] [] h k l e = refl
 bits_one [] (y ∷ ys) h k l e = absurd (omega arith)
 bits_one (x ∷ xs) [] h k l e = absurd (omega arith)
 bits_one (x ∷ xs) (y ∷ ys) h k l e =
-    let p = both_true (nat_lt x 256) (are_octets xs) h in
-    let q = both_true (nat_lt y 256) (are_octets ys) k in
+    let p = and_parts (nat_lt x 256) (are_octets xs) h in
+    let q = and_parts (nat_lt y 256) (are_octets ys) k in
     let parts = same_front (low_bits 8 x) (low_bits 8 y) (bits_of xs) (bits_of ys) refl e in
     let first : x ≡ y = octet_one x y (octet_below x p.0) (octet_below y q.0) parts.0 in
     let rest : xs ≡ ys = bits_one xs ys p.1 q.1 (omega arith) parts.1 in

@@ -25,13 +25,13 @@ use Rattle.acn_grammar.specs.declared.node.ChoiceRule.TheVariants.{Index, Tests,
 use Rattle.acn_grammar.specs.declared.node.Sizing.{Sizing}
 use Rattle.acn_grammar.specs.declared.node.SizeRule.{SizeRule}
 use Rattle.acn_grammar.specs.declared.node.SizeRule.TheVariants.{Prefix, Slot, Ended}
-use Rattle.acn_grammar.proofs.Codings.{both_are, equal_numbers}
 use Rattle.acn_grammar.proofs.LeafLengths.{limits_of, coding-length}
 use Rattle.acn_grammar.proofs.FineLeaves.{rules_of}
 use Rattle.acn_grammar.proofs.Monotone.{Has, Varies, lengths_have}
 use Rattle.acn_grammar.proofs.SpellLength.{then-length, bits-length}
 use Rattle.acn_grammar.proofs.Texts.{either, above, le_fact, lt_fact, ranges_from}
 use Rattle.acn_grammar.proofs.Within.{image_has, between}
+use Rattle.std.proofs.lemmas.Bool.{and_parts, eqb-true}
 
 -- The least is no more than the number, and the greatest no less, where it isn't held down.
 pub record Between (b : Bounds) (n : ℕ) : Type 0 where
@@ -137,8 +137,8 @@ code_between mode leaf h x bs c =
 from_least : (b : ℤ) (rs : List (ℤ × ℤ)) (x z : ℤ) → are_ranges_above b rs ≡ true → has rs x ≡ true → least rs ≡ Some z → z ≤ℤ x
 from_least b [] x z h p e = cc
 from_least b (r ∷ rs) x z h p e =
-    let f = both_are (int_lt b r.0) (int_le r.0 r.1 && are_ranges_above (r.1 +ℤ pos 1) rs) h in
-    let g = both_are (int_le r.0 r.1) (are_ranges_above (r.1 +ℤ pos 1) rs) f.1 in
+    let f = and_parts (int_lt b r.0) (int_le r.0 r.1 && are_ranges_above (r.1 +ℤ pos 1) rs) h in
+    let g = and_parts (int_le r.0 r.1) (are_ranges_above (r.1 +ℤ pos 1) rs) f.1 in
     let is : r.0 ≡ z = cc in
     let whole = le_fact r.0 r.1 g.0 in
     rw (← is) (either {F = r.0 ≤ℤ x} (int_le r.0 x && int_le x r.1) (has rs x) p
@@ -169,10 +169,10 @@ to_greatest b (r ∷ []) x z h p e =
     no_number : {F : Type 0} (x : ℤ) → has [] x ≡ true → F
     no_number x o = cc
 to_greatest b (r ∷ s ∷ rs) x z h p e =
-    let f = both_are (int_lt b r.0) (int_le r.0 r.1 && are_ranges_above (r.1 +ℤ pos 1) (s ∷ rs)) h in
-    let g = both_are (int_le r.0 r.1) (are_ranges_above (r.1 +ℤ pos 1) (s ∷ rs)) f.1 in
-    let i = both_are (int_lt (r.1 +ℤ pos 1) s.0) (int_le s.0 s.1 && are_ranges_above (s.1 +ℤ pos 1) rs) g.1 in
-    let j = both_are (int_le s.0 s.1) (are_ranges_above (s.1 +ℤ pos 1) rs) i.1 in
+    let f = and_parts (int_lt b r.0) (int_le r.0 r.1 && are_ranges_above (r.1 +ℤ pos 1) (s ∷ rs)) h in
+    let g = and_parts (int_le r.0 r.1) (are_ranges_above (r.1 +ℤ pos 1) (s ∷ rs)) f.1 in
+    let i = and_parts (int_lt (r.1 +ℤ pos 1) s.0) (int_le s.0 s.1 && are_ranges_above (s.1 +ℤ pos 1) rs) g.1 in
+    let j = and_parts (int_le s.0 s.1) (are_ranges_above (s.1 +ℤ pos 1) rs) i.1 in
     let rest = sym (last_of_two r s rs) ∙ e in
     let next = to_greatest (r.1 +ℤ pos 1) (s ∷ rs) s.0 z g.1 (first_in s rs (le_fact s.0 s.1 j.0)) rest in
     let over = lt_fact (r.1 +ℤ pos 1) s.0 i.0 in
@@ -183,8 +183,8 @@ to_greatest b (r ∷ s ∷ rs) x z h p e =
 within_all : (low high : ℤ) (rs : List (ℤ × ℤ)) (x : ℤ) → all_within low high rs ≡ true → has rs x ≡ true → x ≤ℤ high
 within_all low high [] x h p = cc
 within_all low high (r ∷ rs) x h p =
-    let f = both_are (int_le low r.0) (int_le r.1 high && all_within low high rs) h in
-    let g = both_are (int_le r.1 high) (all_within low high rs) f.1 in
+    let f = and_parts (int_le low r.0) (int_le r.1 high && all_within low high rs) h in
+    let g = and_parts (int_le r.1 high) (all_within low high rs) f.1 in
     let end = le_fact r.1 high g.0 in
     either {F = x ≤ℤ high} (int_le r.0 x && int_le x r.1) (has rs x) p (λ o. let w = (between r.0 r.1 x o).1 in omega (arith, ints)) (λ o. within_all low high rs x g.1 o)
 
@@ -209,8 +209,8 @@ greatest_size rs n l p (Some (negsuc k)) e h = let q = h (negsuc k) refl in absu
 
 pub size_has : (rs : List (ℤ × ℤ)) (n : ℕ) → sizes_fine rs ≡ true → In rs (pos n) → Has (sizes_of rs) n
 size_has rs n h p =
-    let a = both_are (nat_lt 0 (length rs)) (are_ranges rs && all_within (pos 0) (pos 65536) rs) h in
-    let b = both_are (are_ranges rs) (all_within (pos 0) (pos 65536) rs) a.1 in
+    let a = and_parts (nat_lt 0 (length rs)) (are_ranges rs && all_within (pos 0) (pos 65536) rs) h in
+    let b = and_parts (are_ranges rs) (all_within (pos 0) (pos 65536) rs) a.1 in
     let c = ranges_from rs b.0 in
     let few = within_all (pos 0) (pos 65536) rs (pos n) b.1 p in
     (least_size (least rs) n (λ z e. from_least c.0 rs (pos n) z c.1 p e), greatest_size rs n (omega (arith, ints)) p (greatest rs) refl (λ z e. to_greatest c.0 rs (pos n) z c.1 p e))
@@ -251,7 +251,7 @@ rule_between (Slot s) env n at bs p = rw p.1 (exactly_between 0)
 rule_between (Ended q) env n at bs p = absurd p.0
 
 sized : (sizes : List (ℤ × ℤ)) (rule : SizeRule) → (sizes_fine sizes && rule_fine sizes rule) ≡ true → sizes_fine sizes ≡ true
-sized sizes rule h = (both_are (sizes_fine sizes) (rule_fine sizes rule) h).0
+sized sizes rule h = (and_parts (sizes_fine sizes) (rule_fine sizes rule) h).0
 
 characters-width : (leaf : TextLeaf) (cs : List ℕ) (at : ℕ) (bs : List Bool) → CharactersPart leaf cs at bs → length bs ≡ leaf.width * length cs
 characters-width leaf [] at bs e = ap length e ∙ omega arith
@@ -265,7 +265,7 @@ text_between None leaf env cs at bs h f t =
     (rw none (rule_between leaf.sized.rule env (length cs) at t.front t.first.spelled))
     (same_between (sizes_of leaf.sized.sizes) (length cs) leaf.width (length t.back) (size_has leaf.sized.sizes (length cs) h t.first.given) (characters-width leaf cs (at + length t.front) t.back t.second))
 text_between (Some end) leaf env cs at bs h f t =
-    let a = both_are (no_size leaf.sized.rule) (nat_eq leaf.width 8 && (not leaf.indexed && is_terminator end)) f in
+    let a = and_parts (no_size leaf.sized.rule) (nat_eq leaf.width 8 && (not leaf.indexed && is_terminator end)) f in
     let none = no_width leaf.sized.rule a.0 in
     let first = same_between (sizes_of leaf.sized.sizes) (length cs) leaf.width (length t.spelled.front) (size_has leaf.sized.sizes (length cs) h t.given.0) (characters-width leaf cs at t.spelled.front t.spelled.first) in
     let last : Between (exactly (rule_width leaf.sized.rule + length end)) (length t.spelled.back) = rw (none, t.spelled.second) (exactly_between (length end)) in
@@ -275,7 +275,7 @@ text_between (Some end) leaf env cs at bs h f t =
   where
     no_width : (rule : SizeRule) → no_size rule ≡ true → rule_width rule + length end ≡ length end
     no_width (Prefix low width) h =
-        let z = equal_numbers width 0 (both_are (nat_eq low 0) (nat_eq width 0) h).1 in
+        let z = eqb-true width 0 (and_parts (nat_eq low 0) (nat_eq width 0) h).1 in
         omega arith
     no_width (Slot s) h = cc
     no_width (Ended p) h = cc
@@ -361,10 +361,10 @@ module _ (root : Grammar) (mode : Mode) where
         joined t (exactly (rule_width sizing.rule)) (times (sizes_of sizing.sizes) (exactly 1)) (rule_between sizing.rule env (length cs) at t.front t.first.spelled)
         (same_between (sizes_of sizing.sizes) (length cs) 1 (length t.back) (size_has sizing.sizes (length cs) (sized sizing.sizes sizing.rule f) t.first.given) (ap length t.second ∙ omega arith))
     form_between (text leaf) f env (characters cs) at bs t =
-        let a = both_are (sizes_fine leaf.sized.sizes) (nat_lt 0 (length leaf.alphabet) && (are_ranges leaf.alphabet && (all_within (pos 0) (pos 127) leaf.alphabet && end_fine leaf.ended leaf))) f in
-        let b = both_are (nat_lt 0 (length leaf.alphabet)) (are_ranges leaf.alphabet && (all_within (pos 0) (pos 127) leaf.alphabet && end_fine leaf.ended leaf)) a.1 in
-        let c = both_are (are_ranges leaf.alphabet) (all_within (pos 0) (pos 127) leaf.alphabet && end_fine leaf.ended leaf) b.1 in
-        let e = both_are (all_within (pos 0) (pos 127) leaf.alphabet) (end_fine leaf.ended leaf) c.1 in
+        let a = and_parts (sizes_fine leaf.sized.sizes) (nat_lt 0 (length leaf.alphabet) && (are_ranges leaf.alphabet && (all_within (pos 0) (pos 127) leaf.alphabet && end_fine leaf.ended leaf))) f in
+        let b = and_parts (nat_lt 0 (length leaf.alphabet)) (are_ranges leaf.alphabet && (all_within (pos 0) (pos 127) leaf.alphabet && end_fine leaf.ended leaf)) a.1 in
+        let c = and_parts (are_ranges leaf.alphabet) (all_within (pos 0) (pos 127) leaf.alphabet && end_fine leaf.ended leaf) b.1 in
+        let e = and_parts (all_within (pos 0) (pos 127) leaf.alphabet) (end_fine leaf.ended leaf) c.1 in
         text_between leaf.ended leaf env cs at bs a.0 e.1 t
     form_between (seq fields home) f env (record_of ps) at bs t =
         let inside = fields_between fields f _ ps (at + length t.spelled.front) t.spelled.back t.spelled.second in
@@ -373,7 +373,7 @@ module _ (root : Grammar) (mode : Mode) where
         let is : length bs ≡ length (presence_bits fields ps) + length t.spelled.back = omega arith in
         rw is inside
     form_between (list sizing g) f env (list_of es) at bs t =
-        list_between (ending sizing.rule) sizing env (span g) (Spell root mode g env) (both_are (sizes_fine sizing.sizes) (list_rule_fine (ending sizing.rule) sizing) f.0).0 (span_between g f.1 env) es at bs t
+        list_between (ending sizing.rule) sizing env (span g) (Spell root mode g env) (and_parts (sizes_fine sizing.sizes) (list_rule_fine (ending sizing.rule) sizing) f.0).0 (span_between g f.1 env) es at bs t
     form_between (choice cases rule) f env (alt i d) at bs t =
         joined t (exactly (index_width rule)) (alternatives_span cases) (index_between root rule i at t.front t.first) (alternative_between cases f rule env i d (at + length t.front) t.back t.second)
     form_between (contained sizing g) f env d at bs t =

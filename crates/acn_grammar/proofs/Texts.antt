@@ -9,8 +9,8 @@ use Rattle.acn_grammar.specs.Env.{Env}
 use Rattle.acn_grammar.specs.Leaves.{text_fine, sizes_fine, end_fine, no_size, is_terminator, is_pattern}
 use Rattle.acn_grammar.specs.Spell.{Part, ◌then◌, Where, place_in, character_number, CharactersPart, EndedPart, TextPart, EndsFirst, octet_numbers, RulePart}
 use Rattle.acn_grammar.specs.declared.node.TextLeaf.{TextLeaf}
-use Rattle.acn_grammar.proofs.Codings.{both_are, not_is, equal_numbers}
 use Rattle.acn_grammar.proofs.Prefix.{Law, then_law, number_law, same_front}
+use Rattle.std.proofs.lemmas.Bool.{and_parts, not-true, eqb-true}
 
 given_law : {P Q : Part} {F A B : Type 0} → (A → B → Law P Q F) → Law (Where A P) (Where B Q) F
 given_law h at a b r s p q e = h p.given q.given at a b r s p.spelled q.spelled e
@@ -33,25 +33,25 @@ either false b h f g = g h
 pub above : (b : ℤ) (rs : List (ℤ × ℤ)) (x : ℤ) → are_ranges_above b rs ≡ true → has rs x ≡ true → b <ℤ x
 above b [] x h p = cc
 above b (r ∷ rs) x h p =
-    let f = both_are (int_lt b r.0) (int_le r.0 r.1 && are_ranges_above (r.1 +ℤ pos 1) rs) h in
-    let g = both_are (int_le r.0 r.1) (are_ranges_above (r.1 +ℤ pos 1) rs) f.1 in
+    let f = and_parts (int_lt b r.0) (int_le r.0 r.1 && are_ranges_above (r.1 +ℤ pos 1) rs) h in
+    let g = and_parts (int_le r.0 r.1) (are_ranges_above (r.1 +ℤ pos 1) rs) f.1 in
     let one = lt_fact b r.0 f.0 in
     let two = le_fact r.0 r.1 g.0 in
     either {F = b <ℤ x} (int_le r.0 x && int_le x r.1) (has rs x) p
-    (λ q. let three = le_fact r.0 x (both_are (int_le r.0 x) (int_le x r.1) q).0 in omega (arith, ints))
+    (λ q. let three = le_fact r.0 x (and_parts (int_le r.0 x) (int_le x r.1) q).0 in omega (arith, ints))
     (λ q. let three = above (r.1 +ℤ pos 1) rs x g.1 q in omega (arith, ints))
 
 -- a number of the first range, or of those behind it
 first_or_later : (r : ℤ × ℤ) (rs : List (ℤ × ℤ)) (x : ℤ) → are_ranges_above (r.1 +ℤ pos 1) rs ≡ true → has (r ∷ rs) x ≡ true → int_le x r.1 ≡ true → r.0 ≤ℤ x
 first_or_later r rs x h p e =
     either {F = r.0 ≤ℤ x} (int_le r.0 x && int_le x r.1) (has rs x) p
-    (λ q. le_fact r.0 x (both_are (int_le r.0 x) (int_le x r.1) q).0)
+    (λ q. le_fact r.0 x (and_parts (int_le r.0 x) (int_le x r.1) q).0)
     (λ q. let far = above (r.1 +ℤ pos 1) rs x h q in let near = le_fact x r.1 e in absurd (omega (arith, ints)))
 
 later : (r : ℤ × ℤ) (rs : List (ℤ × ℤ)) (x : ℤ) → has (r ∷ rs) x ≡ true → int_le x r.1 ≡ false → has rs x ≡ true
 later r rs x p e =
     either {F = has rs x ≡ true} (int_le r.0 x && int_le x r.1) (has rs x) p
-    (λ q. let t = (both_are (int_le r.0 x) (int_le x r.1) q).1 in cc)
+    (λ q. let t = (and_parts (int_le r.0 x) (int_le x r.1) q).1 in cc)
     (λ q. q)
 
 place_step : (r : ℤ × ℤ) (x z : ℤ) (m n : ℕ) (s t : Bool) → (s ≡ true → r.0 ≤ℤ x) → (t ≡ true → r.0 ≤ℤ z) → (s ≡ true → x ≤ℤ r.1) → (t ≡ true → z ≤ℤ r.1)
@@ -74,8 +74,8 @@ place_step r x z m n false false a b c d f e = f refl refl (omega arith)
 place_one : (b : ℤ) (rs : List (ℤ × ℤ)) (x z : ℤ) → are_ranges_above b rs ≡ true → has rs x ≡ true → has rs z ≡ true → place_in rs x ≡ place_in rs z → x ≡ z
 place_one b [] x z h p q e = cc
 place_one b (r ∷ rs) x z h p q e =
-    let f = both_are (int_lt b r.0) (int_le r.0 r.1 && are_ranges_above (r.1 +ℤ pos 1) rs) h in
-    let g = both_are (int_le r.0 r.1) (are_ranges_above (r.1 +ℤ pos 1) rs) f.1 in
+    let f = and_parts (int_lt b r.0) (int_le r.0 r.1 && are_ranges_above (r.1 +ℤ pos 1) rs) h in
+    let g = and_parts (int_le r.0 r.1) (are_ranges_above (r.1 +ℤ pos 1) rs) f.1 in
     place_step r x z (place_in rs x) (place_in rs z) (int_le x r.1) (int_le z r.1) (first_or_later r rs x g.1 p) (first_or_later r rs z g.1 q) (le_fact x r.1) (le_fact z r.1)
     (λ s t w. place_one (r.1 +ℤ pos 1) rs x z g.1 (later r rs x p s) (later r rs z q t) w) e
 
@@ -220,18 +220,18 @@ by_end : (end : Option (List Bool)) (leaf : TextLeaf) → are_ranges leaf.alphab
     → Law (EndedPart end leaf env cs) (EndedPart end leaf env' ds) (cs ≡ ds)
 by_end None leaf h f env env' cs ds rule = sized_law leaf h env env' cs ds rule
 by_end (Some end) leaf h f env env' cs ds rule =
-    let a = both_are (no_size leaf.sized.rule) (nat_eq leaf.width 8 && (not leaf.indexed && is_terminator end)) f in
-    let b = both_are (nat_eq leaf.width 8) (not leaf.indexed && is_terminator end) a.1 in
-    let c = both_are (not leaf.indexed) (is_terminator end) b.1 in
-    let d = both_are (is_pattern end) (nat_eq (length end % 8) 0) c.1 in
-    ended_law leaf end (equal_numbers leaf.width 8 b.0) (not_is leaf.indexed c.0) (equal_numbers (length end % 8) 0 d.1) env env' cs ds
+    let a = and_parts (no_size leaf.sized.rule) (nat_eq leaf.width 8 && (not leaf.indexed && is_terminator end)) f in
+    let b = and_parts (nat_eq leaf.width 8) (not leaf.indexed && is_terminator end) a.1 in
+    let c = and_parts (not leaf.indexed) (is_terminator end) b.1 in
+    let d = and_parts (is_pattern end) (nat_eq (length end % 8) 0) c.1 in
+    ended_law leaf end (eqb-true leaf.width 8 b.0) (not-true leaf.indexed c.0) (eqb-true (length end % 8) 0 d.1) env env' cs ds
 
 pub text_law : (leaf : TextLeaf) → IsTrue (text_fine leaf) → (env env' : Env) (cs ds : List ℕ)
     → Law (RulePart leaf.sized.rule env (length cs)) (RulePart leaf.sized.rule env' (length ds)) (length cs ≡ length ds)
     → Law (TextPart leaf env cs) (TextPart leaf env' ds) (cs ≡ ds)
 text_law leaf h env env' cs ds rule =
-    let a = both_are (sizes_fine leaf.sized.sizes) (nat_lt 0 (length leaf.alphabet) && (are_ranges leaf.alphabet && (all_within (pos 0) (pos 127) leaf.alphabet && end_fine leaf.ended leaf))) h in
-    let b = both_are (nat_lt 0 (length leaf.alphabet)) (are_ranges leaf.alphabet && (all_within (pos 0) (pos 127) leaf.alphabet && end_fine leaf.ended leaf)) a.1 in
-    let c = both_are (are_ranges leaf.alphabet) (all_within (pos 0) (pos 127) leaf.alphabet && end_fine leaf.ended leaf) b.1 in
-    let d = both_are (all_within (pos 0) (pos 127) leaf.alphabet) (end_fine leaf.ended leaf) c.1 in
+    let a = and_parts (sizes_fine leaf.sized.sizes) (nat_lt 0 (length leaf.alphabet) && (are_ranges leaf.alphabet && (all_within (pos 0) (pos 127) leaf.alphabet && end_fine leaf.ended leaf))) h in
+    let b = and_parts (nat_lt 0 (length leaf.alphabet)) (are_ranges leaf.alphabet && (all_within (pos 0) (pos 127) leaf.alphabet && end_fine leaf.ended leaf)) a.1 in
+    let c = and_parts (are_ranges leaf.alphabet) (all_within (pos 0) (pos 127) leaf.alphabet && end_fine leaf.ended leaf) b.1 in
+    let d = and_parts (all_within (pos 0) (pos 127) leaf.alphabet) (end_fine leaf.ended leaf) c.1 in
     by_end leaf.ended leaf c.0 d.1 env env' cs ds rule

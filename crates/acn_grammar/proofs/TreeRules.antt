@@ -4,8 +4,8 @@ use Rattle.std.specs.List.{list_all, range_with_len}
 use Rattle.acn_grammar.specs.Grammar.{Grammar, Form, Fields, Alternatives, node, num, octets, bits, text, seq, list, choice, contained, no_fields, component, inserted, no_alternatives, alternative}
 use Rattle.acn_grammar.specs.Tree.{IsTree, is_align, form_fine, role_fine, own_used, names_open, home_fine, stand_rules, all_true, same_numbers, slots_of}
 use Rattle.acn_grammar.specs.Walk.{Stand, Role, a_component, an_inserted, an_alternative, an_element, a_content, root_node, nodes, form_nodes, field_nodes, alternative_nodes, nodes_of}
-use Rattle.acn_grammar.proofs.Codings.{both_are}
 use Rattle.acn_grammar.proofs.SpanLaw.{Fine, FormFine, FieldsFine, AlternativesFine}
+use Rattle.std.proofs.lemmas.Bool.{and_parts}
 
 -- The rules of one node by their names.
 pub record StandFine (all : List Stand) (at : Stand) : Type 0 where
@@ -19,13 +19,13 @@ pub record StandFine (all : List Stand) (at : Stand) : Type 0 where
 
 seven : (a b c d e f g : Bool) → list_all (λ x. x) (a ∷ b ∷ c ∷ d ∷ e ∷ f ∷ g ∷ []) ≡ true → (a ≡ true) × (b ≡ true) × (c ≡ true) × (d ≡ true) × (e ≡ true) × (f ≡ true) × (g ≡ true)
 seven a b c d e f g h =
-    let p = both_are a (list_all (λ x. x) (b ∷ c ∷ d ∷ e ∷ f ∷ g ∷ [])) h in
-    let q = both_are b (list_all (λ x. x) (c ∷ d ∷ e ∷ f ∷ g ∷ [])) p.1 in
-    let r = both_are c (list_all (λ x. x) (d ∷ e ∷ f ∷ g ∷ [])) q.1 in
-    let s = both_are d (list_all (λ x. x) (e ∷ f ∷ g ∷ [])) r.1 in
-    let t = both_are e (list_all (λ x. x) (f ∷ g ∷ [])) s.1 in
-    let u = both_are f (list_all (λ x. x) (g ∷ [])) t.1 in
-    let v = both_are g (list_all (λ x. x) []) u.1 in
+    let p = and_parts a (list_all (λ x. x) (b ∷ c ∷ d ∷ e ∷ f ∷ g ∷ [])) h in
+    let q = and_parts b (list_all (λ x. x) (c ∷ d ∷ e ∷ f ∷ g ∷ [])) p.1 in
+    let r = and_parts c (list_all (λ x. x) (d ∷ e ∷ f ∷ g ∷ [])) q.1 in
+    let s = and_parts d (list_all (λ x. x) (e ∷ f ∷ g ∷ [])) r.1 in
+    let t = and_parts e (list_all (λ x. x) (f ∷ g ∷ [])) s.1 in
+    let u = and_parts f (list_all (λ x. x) (g ∷ [])) t.1 in
+    let v = and_parts g (list_all (λ x. x) []) u.1 in
     (p.0, q.0, r.0, s.0, t.0, u.0, v.0)
 
 pub stand_fine : (all : List Stand) (at : Stand) → all_true (stand_rules all at) ≡ true → StandFine all at
@@ -36,7 +36,7 @@ stand_fine all at h =
 pub list_all-append : {A : Type 0} (p : A → Bool) (xs ys : List A) → list_all p (xs ++ ys) ≡ true → (list_all p xs ≡ true) × (list_all p ys ≡ true)
 list_all-append p [] ys h = (refl, h)
 list_all-append p (x ∷ xs) ys h =
-    let a = both_are (p x) (list_all p (xs ++ ys)) h in
+    let a = and_parts (p x) (list_all p (xs ++ ys)) h in
     let b = list_all-append p xs ys a.1 in
     (rw (a.0, b.0), b.1)
 
@@ -52,7 +52,7 @@ module _ (all : List Stand) where
     fine_node : (g : Grammar) (role : Role) (path around : List ℕ) → list_all passes (nodes role path around g) ≡ true → Fine g
     fine_node (node align form) role path around h =
         let here : Stand = record { path = path; around = around; role = role; align = align; form = form } in
-        let p = both_are (passes here) (list_all passes (form_nodes path around form)) h in
+        let p = and_parts (passes here) (list_all passes (form_nodes path around form)) h in
         let s = stand_fine all here p.0 in
         (some_align align s.align, fine_form form path around s.form p.1)
 
@@ -85,6 +85,6 @@ module _ (all : List Stand) where
 pub tree_fine : (root : Grammar) → IsTree root → Fine root
 tree_fine root h =
     let all = nodes_of root in
-    let a = both_are (nat_le (length all) 65536) (same_numbers (slots_of all) (range_with_len 0 (length (slots_of all))) && list_all (λ at. all_true (stand_rules all at)) all) h in
-    let b = both_are (same_numbers (slots_of all) (range_with_len 0 (length (slots_of all)))) (list_all (λ at. all_true (stand_rules all at)) all) a.1 in
+    let a = and_parts (nat_le (length all) 65536) (same_numbers (slots_of all) (range_with_len 0 (length (slots_of all))) && list_all (λ at. all_true (stand_rules all at)) all) h in
+    let b = and_parts (same_numbers (slots_of all) (range_with_len 0 (length (slots_of all)))) (list_all (λ at. all_true (stand_rules all at)) all) a.1 in
     fine_node all root root_node [] [] b.1

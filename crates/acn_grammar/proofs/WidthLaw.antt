@@ -10,15 +10,15 @@ use Rattle.acn_grammar.specs.Leaves.{num_fine}
 use Rattle.acn_grammar.specs.Length.{coding_length}
 use Rattle.acn_grammar.specs.declared.bounds.Bounds.{Bounds}
 use Rattle.acn_grammar.specs.declared.node.NumLeaf.{NumLeaf}
-use Rattle.acn_grammar.proofs.Codings.{equal_numbers}
 use Rattle.acn_grammar.proofs.FineLeaves.{rules_of}
 use Rattle.acn_grammar.proofs.LeafLengths.{coding-length, limits_of}
 use Rattle.acn_grammar.proofs.Monotone.{Has, lengths_have}
 use Rattle.acn_grammar.proofs.SpanLaw.{fixed_is, varies_if}
 use Rattle.acn_grammar.proofs.Within.{image_has}
+use Rattle.std.proofs.lemmas.Bool.{eqb-true}
 
 one_is : (b : Bounds) (n w : ℕ) → one_length b ≡ Some w → Has b n → n ≡ w
-one_is b n w e h = by (nat_eq b.least b.greatest) (equal_numbers b.least b.greatest) e
+one_is b n w e h = by (nat_eq b.least b.greatest) (eqb-true b.least b.greatest) e
   where
     by : (t : Bool) → (t ≡ true → b.least ≡ b.greatest) → (if t then Some b.least else None) ≡ Some w → n ≡ w
     by true f e =

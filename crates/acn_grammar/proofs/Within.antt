@@ -11,20 +11,13 @@ use Rattle.acn_grammar.specs.Images.{clipped, images_by, images_of, ends_from, e
 use Rattle.acn_grammar.specs.declared.node.Items.{Items}
 use Rattle.acn_grammar.specs.declared.node.NumLeaf.{NumLeaf}
 use Rattle.acn_grammar.specs.declared.node.Table.{Table}
-use Rattle.acn_grammar.proofs.Codings.{both_are}
+use Rattle.std.proofs.lemmas.Bool.{or_right, or_left, and_parts}
 
 has_range : (r : ℤ × ℤ) (x : ℤ) (rs : List (ℤ × ℤ)) → r.0 ≤ℤ x → x ≤ℤ r.1 → has (r ∷ rs) x ≡ true
 has_range r x rs h k = rw (le_test r.0 x h, le_test x r.1 k)
   where
     le_test : (a b : ℤ) → a ≤ℤ b → int_le a b ≡ true
     le_test a b h = grind (arith, ints, nat_tests)
-
-or_right : (a b : Bool) → b ≡ true → (a || b) ≡ true
-or_right true b h = refl
-or_right false b h = h
-
-or_left : (a b : Bool) → a ≡ true → (a || b) ≡ true
-or_left a b h = rw h
 
 has_front : (rs ss : List (ℤ × ℤ)) (x : ℤ) → has rs x ≡ true → has (rs ++ ss) x ≡ true
 has_front [] ss x h = cc
@@ -62,7 +55,7 @@ le_fact : (x y : ℤ) → int_le x y ≡ true → x ≤ℤ y
 le_fact x y h = grind (arith, ints, nat_tests)
 
 pub between : (a b x : ℤ) → (int_le a x && int_le x b) ≡ true → (a ≤ℤ x) × (x ≤ℤ b)
-between a b x h = let f = both_are (int_le a x) (int_le x b) h in (le_fact a x f.0, le_fact x b f.1)
+between a b x h = let f = and_parts (int_le a x) (int_le x b) h in (le_fact a x f.0, le_fact x b f.1)
 
 lines_have : (r : ℤ × ℤ) (lines : List (ℤ × ℤ × ℤ)) (x y : ℤ) → r.0 ≤ℤ x → x ≤ℤ r.1 → image_in lines x ≡ Some y → has (flat_map (clipped r) lines) y ≡ true
 lines_have r [] x y a b e = cc

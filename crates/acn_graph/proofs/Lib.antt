@@ -1,3 +1,3 @@
-pub mod Lists
-pub mod Ways
-pub mod Searches
+mod Lists
+mod Ways
+mod Searches

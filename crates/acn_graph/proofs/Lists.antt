@@ -1,6 +1,6 @@
 -- Lists of nodes and of flags.
 use Rattle.std.proofs.Common.{◌≡◌, ℕ, zero, suc, ◌<◌, ◌≤◌, Bool, true, false, List, [], ◌∷◌, ◌++◌, length, get_or, refl, ap, subst, arith, nat_eq, nat_lt, inl, inr, ◌⊎◌, set, replicate, ◌||◌, ◌&&◌}
-use Rattle.std.proofs.lemmas.Bool.{eqb-true, eq-eqb, ltb-true}
+use Rattle.std.proofs.lemmas.Bool.{eqb-true, eq-eqb, ltb-true, or_right, and_parts}
 use Rattle.std.specs.List.{list_any}
 use Rattle.acn_graph.specs.Graph.{Among, here, there, are_below}
 
@@ -39,14 +39,6 @@ or_case : (b c : Bool) → (b || c) ≡ true → (b ≡ true) ⊎ (c ≡ true)
 or_case true c e = inl refl
 or_case false c e = inr e
 
-or_right : (b c : Bool) → c ≡ true → (b || c) ≡ true
-or_right true c e = refl
-or_right false c e = e
-
-and_case : (b c : Bool) → (b && c) ≡ true → (b ≡ true) × (c ≡ true)
-and_case true c e = (refl, e)
-and_case false c e = absurd (cc e)
-
 pub any_among : (x : ℕ) (xs : List ℕ) → list_any (nat_eq x) xs ≡ true → Among x xs
 any_among x [] e = absurd (cc e)
 any_among x (y ∷ xs) e = elim (or_case (nat_eq x y) (list_any (nat_eq x) xs) e) [ inl h ↦ subst (λ (z : ℕ). Among x (z ∷ xs)) (eqb-true x y h) here | inr t ↦ there (any_among x xs t) ]
@@ -59,11 +51,11 @@ pub none_among : {x : ℕ} {xs : List ℕ} → list_any (nat_eq x) xs ≡ false 
 none_among e i = let h = among_any i in absurd (cc (e, h))
 
 pub each_below : (ranks : List ℕ) (rank : ℕ) {t : ℕ} {nodes : List ℕ} → are_below ranks rank nodes ≡ true → Among t nodes → get_or ranks t 0 < rank
-each_below ranks rank e (here {x} {xs}) = ltb-true (get_or ranks x 0) rank (and_case (nat_lt (get_or ranks x 0) rank) (are_below ranks rank xs) e).0
-each_below ranks rank e (there {x} {y} {xs} i) = each_below ranks rank (and_case (nat_lt (get_or ranks y 0) rank) (are_below ranks rank xs) e).1 i
+each_below ranks rank e (here {x} {xs}) = ltb-true (get_or ranks x 0) rank (and_parts (nat_lt (get_or ranks x 0) rank) (are_below ranks rank xs) e).0
+each_below ranks rank e (there {x} {y} {xs} i) = each_below ranks rank (and_parts (nat_lt (get_or ranks y 0) rank) (are_below ranks rank xs) e).1 i
 
 pub both_true : (b c : Bool) → (b && c) ≡ true → (b ≡ true) × (c ≡ true)
-both_true = and_case
+both_true = and_parts
 
 -- ---- one item more
 

@@ -9,9 +9,8 @@ use Rattle.acn_num.specs.Ranges.{has, count, size_of}
 use Rattle.acn_grammar.specs.Code.{image_in, on_line}
 use Rattle.acn_grammar.specs.Images.{clipped}
 use Rattle.acn_grammar.specs.Leaves.{line_fine, all_differ, share, is_number}
-use Rattle.acn_grammar.proofs.Codings.{both_are, not_is}
 use Rattle.acn_grammar.proofs.LeafLengths.{le_fact}
-use Rattle.std.proofs.lemmas.Bool.{or_parts}
+use Rattle.std.proofs.lemmas.Bool.{or_parts, and_parts, not-true}
 
 abbrev Line : Type 0
 Line = ℤ × ℤ × ℤ
@@ -121,7 +120,7 @@ apart a b h = go (int_le a.0 b.1) (int_le b.0 a.1) refl refl (or_parts (int_le a
     go true true e f h = cc
 
 line_order : (a : Line) → line_fine a ≡ true → a.0 ≤ℤ a.1
-line_order a h = le_fact a.0 a.1 (both_are (int_le a.0 a.1) (is_number a.0 && (is_number a.1 && (is_number a.2 && is_number (a.2 +ℤ (a.1 -ℤ a.0))))) h).0
+line_order a h = le_fact a.0 a.1 (and_parts (int_le a.0 a.1) (is_number a.0 && (is_number a.1 && (is_number a.2 && is_number (a.2 +ℤ (a.1 -ℤ a.0))))) h).0
 
 -- the numbers before a line, and behind it
 abbrev before : ℤ → Line → ℤ
@@ -166,9 +165,9 @@ parts a low high o =
 covered_le : (ls : List Line) → list_all line_fine ls ≡ true → all_differ share ls ≡ true → (low high : ℤ) → covered low high ls ≤ width low high
 covered_le [] f d low high = omega arith
 covered_le (a ∷ ls) f d low high =
-    let g = both_are (line_fine a) (list_all line_fine ls) f in
-    let e = both_are (not (list_any (share a) ls)) (all_differ share ls) d in
-    let s = split_lines a ls low high (not_is (list_any (share a) ls) e.0) in
+    let g = and_parts (line_fine a) (list_all line_fine ls) f in
+    let e = and_parts (not (list_any (share a) ls)) (all_differ share ls) d in
+    let s = split_lines a ls low high (not-true (list_any (share a) ls) e.0) in
     let one = covered_le ls g.1 e.1 low (before high a) in
     let two = covered_le ls g.1 e.1 (behind low a) high in
     let p = parts a low high (line_order a g.0) in
@@ -197,10 +196,10 @@ covered_lt [] f d low high x h k none = go (width_of low high)
     go (inl y) = let p = y.1 in let q = y.0 in omega (arith, ints, p, q)
     go (inr y) = let p = y.0 in absurd (omega (arith, ints, p, h, k))
 covered_lt (a ∷ ls) f d low high x h k none =
-    let g = both_are (line_fine a) (list_all line_fine ls) f in
-    let e = both_are (not (list_any (share a) ls)) (all_differ share ls) d in
+    let g = and_parts (line_fine a) (list_all line_fine ls) f in
+    let e = and_parts (not (list_any (share a) ls)) (all_differ share ls) d in
     let n = no_image (on_line a x) (a.2 +ℤ (x -ℤ a.0)) (image_in ls x) none in
-    let s = split_lines a ls low high (not_is (list_any (share a) ls) e.0) in
+    let s = split_lines a ls low high (not-true (list_any (share a) ls) e.0) in
     let p = parts a low high (line_order a g.0) in
     go g.1 e.1 (λ lo hi l m. covered_lt ls g.1 e.1 lo hi x l m n.1) s p (off a x n.0)
   where
@@ -244,7 +243,7 @@ images_lt (r ∷ rs) ls x f d h none = go (λ later. images_lt rs ls x f d later
 
     go : (has rs x ≡ true → count (flat_map (λ r. flat_map (clipped r) ls) rs) < count rs) → (t : Bool) → (int_le r.0 x && int_le x r.1) ≡ t → (t || has rs x) ≡ true → count (flat_map (λ r. flat_map (clipped r) ls) (r ∷ rs)) < count (r ∷ rs)
     go less true e h =
-        let g = both_are (int_le r.0 x) (int_le x r.1) e in
+        let g = and_parts (int_le r.0 x) (int_le x r.1) e in
         let a = covered_count r ls in
         let b = covered_lt ls f d r.0 r.1 x (le_fact r.0 x g.0) (le_fact x r.1 g.1) none in
         let c = width_size r in

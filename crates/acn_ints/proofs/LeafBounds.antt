@@ -19,15 +19,15 @@ use Rattle.acn_grammar.specs.declared.node.NumKind.{NumKind}
 use Rattle.acn_grammar.specs.declared.node.NumKind.TheVariants.{Integer, Boolean, Enumerated, Null}
 use Rattle.acn_grammar.specs.declared.node.NumLeaf.{NumLeaf}
 use Rattle.acn_grammar.specs.declared.node.Table.{Table}
-use Rattle.acn_grammar.proofs.Codings.{both_are, not_is, equal_numbers}
 use Rattle.acn_grammar.proofs.FineLeaves.{rules_of}
 use Rattle.acn_grammar.proofs.Within.{ends-has}
 use Rattle.acn_grammar.proofs.LeafLengths.{some_ends, int_ends, le_fact, lt_fact, eq_fact, is_plain, counted_kind}
 use Rattle.acn_ints.specs.Limits.{IsNear, IsEnd, AreNear, IsNearTable, ArePairsNear, PlainEnded, OrderFits, DigitsFit, SignedDigitsFit, EndFits, PatternsFit, CodingFits, LeafFits}
+use Rattle.std.proofs.lemmas.Bool.{and_parts, not-true, eqb-true}
 
 from_to_is : (low high n : ℕ) → from_to low high n ≡ true → (low ≤ n) × (n ≤ high)
 from_to_is low high n h =
-    let f = both_are (nat_le low n) (nat_le n high) h in
+    let f = and_parts (nat_le low n) (nat_le n high) h in
     (le_is low n f.0, le_is n high f.1)
   where
     le_is : (a b : ℕ) → nat_le a b ≡ true → a ≤ b
@@ -42,13 +42,13 @@ implied false b h e = cc
 order_fits : (n : ℕ) (little : Bool) → from_to 1 64 n ≡ true → implies little (nat_eq (n % 8) 0) ≡ true → OrderFits little n
 order_fits n little h k =
     let r = from_to_is 1 64 n h in
-    (r.0, r.1, λ e. equal_numbers (n % 8) 0 (implied little (nat_eq (n % 8) 0) k e))
+    (r.0, r.1, λ e. eqb-true (n % 8) 0 (implied little (nat_eq (n % 8) 0) k e))
 
 digits_fit : (size low high n : ℕ) → (from_to low high n && nat_eq (n % size) 0) ≡ true → 0 < size → size ≤ low → high ≤ size * 19 → DigitsFit size n
 digits_fit size low high n h p l m =
-    let f = both_are (from_to low high n) (nat_eq (n % size) 0) h in
+    let f = and_parts (from_to low high n) (nat_eq (n % size) 0) h in
     let r = from_to_is low high n f.0 in
-    let zero_rest = equal_numbers (n % size) 0 f.1 in
+    let zero_rest = eqb-true (n % size) 0 f.1 in
     (n / size, whole size n p zero_rest, few size n p zero_rest (omega (arith, r.1, m)), some (n / size) (whole size n p zero_rest) (omega (arith, r.0, l)))
   where
     whole : (size n : ℕ) → 0 < size → n % size ≡ 0 → n ≡ size * (n / size)
@@ -69,15 +69,15 @@ digits_fit size low high n h p l m =
 
 signed_fit : (n : ℕ) → (from_to 16 152 n && nat_eq (n % 8) 0) ≡ true → SignedDigitsFit n
 signed_fit n h =
-    let f = both_are (from_to 16 152 n) (nat_eq (n % 8) 0) h in
+    let f = and_parts (from_to 16 152 n) (nat_eq (n % 8) 0) h in
     let r = from_to_is 16 152 n f.0 in
-    (r.0, r.1, equal_numbers (n % 8) 0 f.1)
+    (r.0, r.1, eqb-true (n % 8) 0 f.1)
 
 end_fits : (end : List Bool) → is_terminator end ≡ true → EndFits end
 end_fits end h =
-    let f = both_are (is_pattern end) (nat_eq (length end % 8) 0) h in
+    let f = and_parts (is_pattern end) (nat_eq (length end % 8) 0) h in
     let r = from_to_is 1 64 (length end) f.0 in
-    let e = equal_numbers (length end % 8) 0 f.1 in
+    let e = eqb-true (length end % 8) 0 f.1 in
     let some = r.0 in
     (omega (arith, e, some), r.1, e)
 
@@ -86,8 +86,8 @@ patterns_fit None None h = tt
 patterns_fit (Some p) None h = tt
 patterns_fit None (Some q) h = tt
 patterns_fit (Some p) (Some q) h =
-    let a = both_are (is_pattern p) (nat_eq (length p) (length q) && not (same_bits p q)) h in
-    equal_numbers (length p) (length q) (both_are (nat_eq (length p) (length q)) (not (same_bits p q)) a.1).0
+    let a = and_parts (is_pattern p) (nat_eq (length p) (length q) && not (same_bits p q)) h in
+    eqb-true (length p) (length q) (and_parts (nat_eq (length p) (length q)) (not (same_bits p q)) a.1).0
 
 -- The ends of a range.
 
@@ -97,7 +97,7 @@ pub record Ends (e : ℤ × ℤ) : Type 0 where
   pub near : distance e.0 e.1 < 2 ^ 64
 
 number_ends : (x : ℤ) → is_number x ≡ true → (neg_ℤ (pos (2 ^ 63)) ≤ℤ x) × (x <ℤ pos (2 ^ 64))
-number_ends x h = let f = both_are (int_le (neg_ℤ (pos (2 ^ 63))) x) (int_lt x (pos (2 ^ 64))) h in (le_fact _ _ f.0, lt_fact _ _ f.1)
+number_ends x h = let f = and_parts (int_le (neg_ℤ (pos (2 ^ 63))) x) (int_lt x (pos (2 ^ 64))) h in (le_fact _ _ f.0, lt_fact _ _ f.1)
 
 or_cases : {F : Type 0} (a b : Bool) → (a || b) ≡ true → (a ≡ true → F) → (b ≡ true → F) → F
 or_cases true b h f g = f refl
@@ -105,7 +105,7 @@ or_cases false b h f g = g h
 
 one_range : (low high : ℤ) (set : List (ℤ × ℤ)) → is_range low high set ≡ true → ends set ≡ Some (low, high)
 one_range low high (r ∷ []) h =
-    let f = both_are (int_eq r.0 low) (int_eq r.1 high) h in
+    let f = and_parts (int_eq r.0 low) (int_eq r.1 high) h in
     ap Some (pair_is r.0 r.1 low high (eq_fact r.0 low f.0) (eq_fact r.1 high f.1))
   where
     pair_is : (a b c d : ℤ) → a ≡ c → b ≡ d → ◌≡◌ {A = ℤ × ℤ} (a, b) (c, d)
@@ -119,7 +119,7 @@ same_ends o a b h k = cc
 ends_order : (set : List (ℤ × ℤ)) (e : ℤ × ℤ) → are_ranges set ≡ true → ends set ≡ Some e → e.0 ≤ℤ e.1
 ends_order [] e h is = cc
 ends_order (r ∷ rs) e h is =
-    let f = both_are (int_le r.0 r.1) (are_ranges_above (r.1 +ℤ pos 1) rs) h in
+    let f = and_parts (int_le r.0 r.1) (are_ranges_above (r.1 +ℤ pos 1) rs) h in
     let b = ends-has (r ∷ rs) r.0 e (here r.0 r.1 (has rs r.0) f.0) is in
     let low = b.0 in
     let high = b.1 in
@@ -131,14 +131,14 @@ ends_order (r ∷ rs) e h is =
 -- the ends of a set whose numbers are written as they are
 plain_ends : (kind : NumKind) (low : ℤ) (width : ℕ) (items : Items) (table : Option Table) (set : List (ℤ × ℤ)) (e : ℤ × ℤ) → takes kind (Range low width) ≡ true → set_fine kind (Range low width) items table set ≡ true → length items.items < 2 ^ 64 → ends set ≡ Some e → Ends e
 plain_ends Integer low width items table set e t s few is =
-    let a = both_are (are_ranges set) (integer_set_fine (Range low width) (ends set) && no_items items) s in
-    let b = both_are (integer_set_fine (Range low width) (ends set)) (no_items items) a.1 in
+    let a = and_parts (are_ranges set) (integer_set_fine (Range low width) (ends set) && no_items items) s in
+    let b = and_parts (integer_set_fine (Range low width) (ends set)) (no_items items) a.1 in
     let f = int_ends (Range low width) (ends set) b.0 in
     let same : f.0 ≡ e = same_ends (ends set) f.0 e f.1 is in
     let order = ends_order set e a.0 is in
     subst Ends same (or_cases {F = Ends f.0} (int_lt f.0.1 (pos (2 ^ 63))) (int_le (pos 0) f.0.0 && int_lt f.0.1 (pos (2 ^ 64))) f.3
     (λ h. let low' = le_fact _ _ f.2 in let high = lt_fact _ _ h in let o = ordered f.0 same order in record { low = low'; top = omega (arith, ints, high, o); near = far f.0.0 f.0.1 low' high o })
-    (λ h. let k = both_are (int_le (pos 0) f.0.0) (int_lt f.0.1 (pos (2 ^ 64))) h in let zero_low = le_fact _ _ k.0 in let high = lt_fact _ _ k.1 in let o = ordered f.0 same order in record { low = omega (arith, ints, zero_low); top = omega (arith, ints, high, o); near = close f.0.0 f.0.1 zero_low high o }))
+    (λ h. let k = and_parts (int_le (pos 0) f.0.0) (int_lt f.0.1 (pos (2 ^ 64))) h in let zero_low = le_fact _ _ k.0 in let high = lt_fact _ _ k.1 in let o = ordered f.0 same order in record { low = omega (arith, ints, zero_low); top = omega (arith, ints, high, o); near = close f.0.0 f.0.1 zero_low high o }))
   where
     ordered : (f : ℤ × ℤ) → f ≡ e → e.0 ≤ℤ e.1 → f.0 ≤ℤ f.1
     ordered f same order = subst (λ (z : ℤ × ℤ). z.0 ≤ℤ z.1) (sym same) order
@@ -150,23 +150,23 @@ plain_ends Integer low width items table set e t s few is =
     close a b h k o = omega (arith, ints)
 plain_ends Boolean low width items table set e t s few is = cc
 plain_ends Enumerated low width items table set e t s few is =
-    let a = both_are (nat_lt 0 (length items.items)) (is_range (pos 0) (pos (length items.items - 1)) set && items_fine (Range low width) items) s in
-    let b = both_are (is_range (pos 0) (pos (length items.items - 1)) set) (items_fine (Range low width) items) a.1 in
+    let a = and_parts (nat_lt 0 (length items.items)) (is_range (pos 0) (pos (length items.items - 1)) set && items_fine (Range low width) items) s in
+    let b = and_parts (is_range (pos 0) (pos (length items.items - 1)) set) (items_fine (Range low width) items) a.1 in
     let same = same_ends (ends set) (pos 0, pos (length items.items - 1)) e (one_range (pos 0) (pos (length items.items - 1)) set b.0) is in
     subst Ends same (record { low = omega (arith, ints); top = omega (arith, ints); near = span (length items.items) few })
   where
     span : (n : ℕ) → n < 2 ^ 64 → distance (pos 0) (pos (n - 1)) < 2 ^ 64
     span n h = omega (arith, ints)
 plain_ends Null low width items table set e t s few is =
-    let b = both_are (is_range (pos 0) (pos 0) set) (no_items items) s in
+    let b = and_parts (is_range (pos 0) (pos 0) set) (no_items items) s in
     let same = same_ends (ends set) (pos 0, pos 0) e (one_range (pos 0) (pos 0) set b.0) is in
     subst Ends same (record { low = omega (arith, ints); top = omega (arith, ints); near = omega (arith, ints) })
 
 width_small : (d width : ℕ) → is_least_width d width ≡ true → d < 2 ^ 64 → width ≤ 64
 width_small d width h few =
-    let f = both_are (nat_lt d (2 ^ width)) (nat_eq width 0 || nat_le (2 ^ (width - 1)) d) h in
+    let f = and_parts (nat_lt d (2 ^ width)) (nat_eq width 0 || nat_le (2 ^ (width - 1)) d) h in
     or_cases {F = width ≤ 64} (nat_eq width 0) (nat_le (2 ^ (width - 1)) d) f.1
-    (λ z. let e = equal_numbers width 0 z in omega arith)
+    (λ z. let e = eqb-true width 0 z in omega arith)
     (λ l. elim (dec_lt 64 width) [ yes more ↦ let low = le_is (2 ^ (width - 1)) d l in let m = pow-le-pow_right {n = 2} (omega arith) {i = 64} {j = width - 1} (omega arith) in absurd (omega (arith, low, m, few)) | no fine ↦ omega arith ])
   where
     le_is : (a b : ℕ) → nat_le a b ≡ true → a ≤ b
@@ -175,8 +175,8 @@ width_small d width h few =
 ends_by : (b : Bool) (low : ℤ) (width : ℕ) (items images : List (ℤ × ℤ)) (e : ℤ × ℤ) → values_fine b (Range low width) (ends (if b then items else images)) ≡ true → ends (if b then items else images) ≡ Some e → (b ≡ false → ends images ≡ Some e → Ends e) → Ends e
 ends_by true low width items images e h is f =
     let v : values_fine true (Range low width) (Some e) ≡ true = subst (λ (o : Option (ℤ × ℤ)). values_fine true (Range low width) o ≡ true) is h in
-    let a = both_are (is_number e.0) (is_number e.1 && nat_lt (distance e.0 e.1) (2 ^ 64)) v in
-    let b = both_are (is_number e.1) (nat_lt (distance e.0 e.1) (2 ^ 64)) a.1 in
+    let a = and_parts (is_number e.0) (is_number e.1 && nat_lt (distance e.0 e.1) (2 ^ 64)) v in
+    let b = and_parts (is_number e.1) (nat_lt (distance e.0 e.1) (2 ^ 64)) a.1 in
     let n = number_ends e.0 a.0 in
     record { low = n.0; top = n.1; near = lt_is (distance e.0 e.1) (2 ^ 64) b.1 }
   where
@@ -187,7 +187,7 @@ ends_by false low width items images e h is f = f refl is
 plain_images : (low : ℤ) (width : ℕ) (table : Option Table) (set : List (ℤ × ℤ)) → table_fine (Range low width) set table ≡ true → images_by table set ≡ set
 plain_images low width None set h = refl
 plain_images low width (Some table) set h =
-    let a = both_are (has_size (Range low width)) (list_all line_fine table.lines && (all_differ share table.lines && nat_eq (count (images_by (Some table) set)) (count set))) h in
+    let a = and_parts (has_size (Range low width)) (list_all line_fine table.lines && (all_differ share table.lines && nat_eq (count (images_by (Some table) set)) (count set))) h in
     let w = a.0 in
     cc
 
@@ -204,7 +204,7 @@ range_fits : (kind : NumKind) (low : ℤ) (width : ℕ) (items : Items) (table :
 range_fits kind low width items table set t s f v w few =
     let g = some_ends (Range low width) (ends (if items.values then map (λ named. (named.1, named.1)) items.items else images_by table set)) w in
     let e = range_ends kind low width items table set g.0 t s f v g.1 few in
-    let c = both_are (int_eq low g.0.0) (is_least_width (distance g.0.0 g.0.1) width) g.2 in
+    let c = and_parts (int_eq low g.0.0) (is_least_width (distance g.0.0 g.0.1) width) g.2 in
     let same = eq_fact low g.0.0 c.0 in
     let a = e.low in
     let b = e.top in
@@ -225,7 +225,7 @@ counted_fits kind low items table set t s f w =
     (omega (arith, ints, first, a), omega (arith, ints, first, b))
   where
     ends_of_plain : (coding : NumCoding) (kind : NumKind) (items : Items) (table : Option Table) (set : List (ℤ × ℤ)) (e : ℤ × ℤ) → set_fine kind coding items table set ≡ true → kind ≡ Integer → ends set ≡ Some e → e.0 ≤ℤ e.1
-    ends_of_plain coding Integer items table set e s k is = ends_order set e (both_are (are_ranges set) (integer_set_fine coding (ends set) && no_items items) s).0 is
+    ends_of_plain coding Integer items table set e s k is = ends_order set e (and_parts (are_ranges set) (integer_set_fine coding (ends set) && no_items items) s).0 is
     ends_of_plain coding Boolean items table set e s k is = cc
     ends_of_plain coding Enumerated items table set e s k is = cc
     ends_of_plain coding Null items table set e s k is = cc
@@ -233,16 +233,16 @@ counted_fits kind low items table set t s f w =
     below_end : (e : ℤ × ℤ) → (int_lt e.1 (pos (2 ^ 63)) || (int_le (pos 0) e.0 && int_lt e.1 (pos (2 ^ 64)))) ≡ true → e.0 ≤ℤ e.1 → e.0 <ℤ pos (2 ^ 64)
     below_end e h o = or_cases {F = e.0 <ℤ pos (2 ^ 64)} (int_lt e.1 (pos (2 ^ 63))) (int_le (pos 0) e.0 && int_lt e.1 (pos (2 ^ 64))) h
         (λ x. let y = lt_fact e.1 (pos (2 ^ 63)) x in omega (arith, ints, y, o))
-        (λ x. let y = lt_fact e.1 (pos (2 ^ 64)) (both_are (int_le (pos 0) e.0) (int_lt e.1 (pos (2 ^ 64))) x).1 in omega (arith, ints, y, o))
+        (λ x. let y = lt_fact e.1 (pos (2 ^ 64)) (and_parts (int_le (pos 0) e.0) (int_lt e.1 (pos (2 ^ 64))) x).1 in omega (arith, ints, y, o))
 
 -- Tables.
 
 line_near : (line : ℤ × ℤ × ℤ) → line_fine line ≡ true → IsNear line.0 × IsNear line.1 × IsNear line.2
 line_near line h =
-    let a = both_are (int_le line.0 line.1) (is_number line.0 && (is_number line.1 && (is_number line.2 && is_number (line.2 +ℤ (line.1 -ℤ line.0))))) h in
-    let b = both_are (is_number line.0) (is_number line.1 && (is_number line.2 && is_number (line.2 +ℤ (line.1 -ℤ line.0)))) a.1 in
-    let c = both_are (is_number line.1) (is_number line.2 && is_number (line.2 +ℤ (line.1 -ℤ line.0))) b.1 in
-    let d = both_are (is_number line.2) (is_number (line.2 +ℤ (line.1 -ℤ line.0))) c.1 in
+    let a = and_parts (int_le line.0 line.1) (is_number line.0 && (is_number line.1 && (is_number line.2 && is_number (line.2 +ℤ (line.1 -ℤ line.0))))) h in
+    let b = and_parts (is_number line.0) (is_number line.1 && (is_number line.2 && is_number (line.2 +ℤ (line.1 -ℤ line.0)))) a.1 in
+    let c = and_parts (is_number line.1) (is_number line.2 && is_number (line.2 +ℤ (line.1 -ℤ line.0))) b.1 in
+    let d = and_parts (is_number line.2) (is_number (line.2 +ℤ (line.1 -ℤ line.0))) c.1 in
     (near line.0 b.0, near line.1 c.0, near line.2 d.0)
   where
     near : (x : ℤ) → is_number x ≡ true → IsNear x
@@ -250,14 +250,14 @@ line_near line h =
 
 lines_near : (lines : List (ℤ × ℤ × ℤ)) → list_all line_fine lines ≡ true → AreNear lines
 lines_near [] h i d inside = absurd (omega arith)
-lines_near (line ∷ lines) h zero d inside = line_near line (both_are (line_fine line) (list_all line_fine lines) h).0
-lines_near (line ∷ lines) h (suc i) d inside = lines_near lines (both_are (line_fine line) (list_all line_fine lines) h).1 i d (omega arith)
+lines_near (line ∷ lines) h zero d inside = line_near line (and_parts (line_fine line) (list_all line_fine lines) h).0
+lines_near (line ∷ lines) h (suc i) d inside = lines_near lines (and_parts (line_fine line) (list_all line_fine lines) h).1 i d (omega arith)
 
 table_near : (coding : NumCoding) (set : List (ℤ × ℤ)) (table : Option Table) → table_fine coding set table ≡ true → IsNearTable table
 table_near coding set None h = tt
 table_near coding set (Some table) h =
-    let a = both_are (has_size coding) (list_all line_fine table.lines && (all_differ share table.lines && nat_eq (count (images_by (Some table) set)) (count set))) h in
-    lines_near table.lines (both_are (list_all line_fine table.lines) (all_differ share table.lines && nat_eq (count (images_by (Some table) set)) (count set)) a.1).0
+    let a = and_parts (has_size coding) (list_all line_fine table.lines && (all_differ share table.lines && nat_eq (count (images_by (Some table) set)) (count set))) h in
+    lines_near table.lines (and_parts (list_all line_fine table.lines) (all_differ share table.lines && nat_eq (count (images_by (Some table) set)) (count set)) a.1).0
 
 -- A leaf's coding.
 
@@ -273,16 +273,16 @@ coding_fits (Bcd n) little kind items table set t c o s f v w few = digits_fit 4
 coding_fits BcdEnded little kind items table set t c o s f v w few = tt
 coding_fits (Ascii n false) little kind items table set t c o s f v w few = digits_fit 8 8 152 n c (omega arith) (omega arith) (omega arith)
 coding_fits (Ascii n true) little kind items table set t c o s f v w few = signed_fit n c
-coding_fits (AsciiEnded end signed) little kind items table set t c o s f v w few = end_fits end (both_are (is_terminator end) (not (begins_number (octet_numbers end))) c).0
+coding_fits (AsciiEnded end signed) little kind items table set t c o s f v w few = end_fits end (and_parts (is_terminator end) (not (begins_number (octet_numbers end))) c).0
 coding_fits (Flag p q) little kind items table set t c o s f v w few = patterns_fit p q c
 coding_fits (Fixed pattern) little kind items table set t c o s f v w few = tt
 
 -- an ended number is an INTEGER, which has no items
 integer_values : (coding : NumCoding) (kind : NumKind) (items : Items) (table : Option Table) (set : List (ℤ × ℤ)) → kind ≡ Integer → set_fine kind coding items table set ≡ true → items.values ≡ false
 integer_values coding Integer items table set k s =
-    let a = both_are (are_ranges set) (integer_set_fine coding (ends set) && no_items items) s in
-    let b = both_are (integer_set_fine coding (ends set)) (no_items items) a.1 in
-    not_is items.values (both_are (nat_eq (length items.items) 0) (not items.values) b.1).1
+    let a = and_parts (are_ranges set) (integer_set_fine coding (ends set) && no_items items) s in
+    let b = and_parts (integer_set_fine coding (ends set)) (no_items items) a.1 in
+    not-true items.values (and_parts (nat_eq (length items.items) 0) (not items.values) b.1).1
 integer_values coding Boolean items table set k s = cc
 integer_values coding Enumerated items table set k s = cc
 integer_values coding Null items table set k s = cc

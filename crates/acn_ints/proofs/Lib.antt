@@ -1,18 +1,22 @@
-pub mod CountedCodes
-pub mod Covered
-pub mod DigitCodes
-pub mod DigitLemmas
-pub mod DigitPuts
-pub mod EndedCodes
+mod CountedCodes
+mod Covered
+mod DigitCodes
+mod DigitLemmas
+mod DigitPuts
+mod EndedCodes
+-- for acn_text
 pub mod EndedLemmas
+-- for acn_text
 pub mod FixedCodes
-pub mod Keys
-pub mod LeafBounds
-pub mod Lists
-pub mod MostLemmas
-pub mod Orders
-pub mod Permitted
+mod Keys
+mod LeafBounds
+mod Lists
+mod MostLemmas
+mod Orders
+mod Permitted
+-- for acn_text
 pub mod PieceLemmas
-pub mod SaidLemmas
-pub mod SignedCodes
+mod SaidLemmas
+mod SignedCodes
+-- for acn_text
 pub mod Writings

@@ -15,13 +15,13 @@ use Rattle.acn_grammar.specs.Length.{num_length, coding_length, least_octets, le
 use Rattle.acn_grammar.specs.declared.node.NumCoding.{NumCoding}
 use Rattle.acn_grammar.specs.declared.node.NumCoding.TheVariants.{Range, CountedFrom, CountedSigned, PosInt, Twos, Bcd, BcdEnded, Ascii, AsciiEnded, Flag, Fixed}
 use Rattle.acn_grammar.specs.declared.node.NumLeaf.{NumLeaf}
-use Rattle.acn_grammar.proofs.Codings.{both_are}
 use Rattle.acn_grammar.proofs.FineLeaves.{rules_of}
 use Rattle.acn_grammar.proofs.WidthLaw.{by_width}
 use Rattle.acn_grammar.proofs.Within.{image_has}
 use Rattle.acn_ints.specs.Limits.{CodingFits, LeafFits}
 use Rattle.acn_ints.specs.Pieces.{CanCode}
 use Rattle.std.specs.Prelude.{IsTrue}
+use Rattle.std.proofs.lemmas.Bool.{and_parts}
 
 -- the bits that were listed, and those that are left
 pub record Listed (buf : List ℕ) (count i : ℕ) (list : List Bool) (cur : Reading) : Type 0 where
@@ -44,7 +44,7 @@ few_digits : (k : ℕ) → digit_count k ≤ 20
 few_digits k = let h = count_by-le-length (λ e. nat_le (10 ^ e) k) (range_with_len 1 19) in omega (arith, h)
 
 at_most : (low high n : ℕ) → from_to low high n ≡ true → n ≤ high
-at_most low high n h = le_is n high (both_are (nat_le low n) (nat_le n high) h).1
+at_most low high n h = le_is n high (and_parts (nat_le low n) (nat_le n high) h).1
   where
     le_is : (a b : ℕ) → nat_le a b ≡ true → a ≤ b
     le_is a b h = grind (arith, nat_tests)
@@ -53,7 +53,7 @@ short_flag : (p q : Option (List Bool)) → flag_patterns_fine p q ≡ true → 
 short_flag None None h = omega arith
 short_flag (Some p) None h = at_most 1 64 (length p) h
 short_flag None (Some q) h = at_most 1 64 (length q) h
-short_flag (Some p) (Some q) h = at_most 1 64 (length p) (both_are (is_pattern p) (nat_eq (length p) (length q) && not (same_bits p q)) h).0
+short_flag (Some p) (Some q) h = at_most 1 64 (length p) (and_parts (is_pattern p) (nat_eq (length p) (length q) && not (same_bits p q)) h).0
 
 short_sign : (b : Bool) → sign_width b ≤ 8
 short_sign true = omega arith

@@ -5,7 +5,8 @@ use Rattle.std.proofs.lemmas.List.{drop_more}
 use Rattle.std.proofs.Math.Nat.{pow-le-pow_right}
 use Rattle.acn_grammar.specs.LeafFails.{most_digits}
 use Rattle.acn_grammar.specs.Length.{digit_count}
-use Rattle.acn_grammar.proofs.Counts.{counts, le_true, le_false}
+use Rattle.acn_grammar.proofs.Counts.{counts, le_false}
+use Rattle.std.proofs.lemmas.Bool.{le-leb}
 
 pub most-some : (rs : List (ℤ × ℤ)) → 1 ≤ most_digits rs
 most-some [] = omega arith
@@ -38,6 +39,6 @@ most_step_in rs i d g g' inside is before =
 pub digits_are : (k i : ℕ) → 1 ≤ i → i ≤ 20 → (1 < i → 10 ^ (i - 1) ≤ k) → (i < 20 → k < 10 ^ i) → i ≡ digit_count k
 digits_are k i some few low high =
     let m = counts (λ j. nat_le (10 ^ j) k) 1 19 (i - 1) (omega arith)
-    (λ j u v. le_true (10 ^ j) k (omega (arith, low (omega arith), pow-le-pow_right {n = 10} (omega arith) {i = j} {j = i - 1} (omega arith))))
+    (λ j u v. le-leb (10 ^ j) k (omega (arith, low (omega arith), pow-le-pow_right {n = 10} (omega arith) {i = j} {j = i - 1} (omega arith))))
     (λ j u v. le_false (10 ^ j) k (omega (arith, high (omega arith), pow-le-pow_right {n = 10} (omega arith) {i = i} {j = j} (omega arith)))) in
     omega arith

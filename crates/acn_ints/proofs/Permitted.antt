@@ -17,7 +17,6 @@ use Rattle.acn_grammar.specs.declared.node.NumKind.{NumKind}
 use Rattle.acn_grammar.specs.declared.node.NumKind.TheVariants.{Integer, Boolean, Enumerated, Null}
 use Rattle.acn_grammar.specs.declared.node.NumLeaf.{NumLeaf}
 use Rattle.acn_grammar.specs.declared.node.Table.{Table}
-use Rattle.acn_grammar.proofs.Codings.{both_are, not_is, equal_numbers}
 use Rattle.acn_grammar.proofs.Counts.{fits_is}
 use Rattle.acn_grammar.proofs.FineLeaves.{rules_of}
 use Rattle.acn_grammar.proofs.LeafLengths.{some_ends, le_fact, lt_fact, eq_fact, limits_of, Limits}
@@ -25,6 +24,7 @@ use Rattle.acn_grammar.proofs.Within.{image_has, ends-has}
 use Rattle.acn_ints.specs.Limits.{IsNear, CanWrite}
 use Rattle.acn_ints.specs.Pieces.{CanCode}
 use Rattle.acn_ints.proofs.Covered.{image_there}
+use Rattle.std.proofs.lemmas.Bool.{and_parts, not-true, eqb-true}
 
 -- What the ends of the written numbers allow.
 
@@ -40,7 +40,7 @@ below_nat y n h k = omega (arith, ints)
 
 unsigned_can : (n : ℕ) (e : ℤ × ℤ) (y : ℤ) → (int_le (pos 0) e.0 && int_lt e.1 (pos n)) ≡ true → e.0 ≤ℤ y → y ≤ℤ e.1 → (k : ℕ) × (y ≡ pos k) × (k < n)
 unsigned_can n e y h a b =
-    let f = both_are (int_le (pos 0) e.0) (int_lt e.1 (pos n)) h in
+    let f = and_parts (int_le (pos 0) e.0) (int_lt e.1 (pos n)) h in
     let low = le_fact (pos 0) e.0 f.0 in
     let high = lt_fact e.1 (pos n) f.1 in
     let some : pos 0 ≤ℤ y = omega (arith, ints, low, a) in
@@ -48,23 +48,23 @@ unsigned_can n e y h a b =
 
 signed_can : (a b : ℤ) (e : ℤ × ℤ) (y : ℤ) → (int_le a e.0 && int_lt e.1 b) ≡ true → e.0 ≤ℤ y → y ≤ℤ e.1 → (a ≤ℤ y) × (y <ℤ b)
 signed_can a b e y h l m =
-    let f = both_are (int_le a e.0) (int_lt e.1 b) h in
+    let f = and_parts (int_le a e.0) (int_lt e.1 b) h in
     let low = le_fact a e.0 f.0 in
     let high = lt_fact e.1 b f.1 in
     (omega (arith, ints, low, l), omega (arith, ints, high, m))
 
 strict_can : (a b : ℤ) (e : ℤ × ℤ) (y : ℤ) → (int_lt a e.0 && int_lt e.1 b) ≡ true → e.0 ≤ℤ y → y ≤ℤ e.1 → (a <ℤ y) × (y <ℤ b)
 strict_can a b e y h l m =
-    let f = both_are (int_lt a e.0) (int_lt e.1 b) h in
+    let f = and_parts (int_lt a e.0) (int_lt e.1 b) h in
     let low = lt_fact a e.0 f.0 in
     let high = lt_fact e.1 b f.1 in
     (omega (arith, ints, low, l), omega (arith, ints, high, m))
 
 range_can : (low : ℤ) (width : ℕ) (e : ℤ × ℤ) (y : ℤ) → (int_eq low e.0 && is_least_width (distance e.0 e.1) width) ≡ true → e.0 ≤ℤ y → y ≤ℤ e.1 → CanWrite (Range low width) y
 range_can low width e y h a b =
-    let f = both_are (int_eq low e.0) (is_least_width (distance e.0 e.1) width) h in
+    let f = and_parts (int_eq low e.0) (is_least_width (distance e.0 e.1) width) h in
     let same = eq_fact low e.0 f.0 in
-    let g = both_are (nat_lt (distance e.0 e.1) (2 ^ width)) (nat_eq width 0 || nat_le (2 ^ (width - 1)) (distance e.0 e.1)) f.1 in
+    let g = and_parts (nat_lt (distance e.0 e.1) (2 ^ width)) (nat_eq width 0 || nat_le (2 ^ (width - 1)) (distance e.0 e.1)) f.1 in
     let fits = lt_is (distance e.0 e.1) (2 ^ width) g.0 in
     let above : low ≤ℤ y = omega (arith, ints, same, a) in
     (nat_abs (y -ℤ low), offset low y above, near low e.0 e.1 y (2 ^ width) same a b fits)
@@ -78,14 +78,14 @@ range_can low width e y h a b =
 -- A Boolean's number is 0 or 1, and a NULL's 0.
 
 no_values : (items : Items) → no_items items ≡ true → items.values ≡ false
-no_values items h = not_is items.values (both_are (nat_eq (length items.items) 0) (not items.values) h).1
+no_values items h = not-true items.values (and_parts (nat_eq (length items.items) 0) (not items.values) h).1
 
 has_one : (low high x : ℤ) (set : List (ℤ × ℤ)) → is_range low high set ≡ true → has set x ≡ true → (low ≤ℤ x) × (x ≤ℤ high)
 has_one low high x (r ∷ []) h k =
-    let f = both_are (int_eq r.0 low) (int_eq r.1 high) h in
+    let f = and_parts (int_eq r.0 low) (int_eq r.1 high) h in
     let a = eq_fact r.0 low f.0 in
     let b = eq_fact r.1 high f.1 in
-    let g = both_are (int_le r.0 x) (int_le x r.1) (only (int_le r.0 x && int_le x r.1) k) in
+    let g = and_parts (int_le r.0 x) (int_le x r.1) (only (int_le r.0 x && int_le x r.1) k) in
     let c = le_fact r.0 x g.0 in
     let d = le_fact x r.1 g.1 in
     (omega (arith, ints, a, c), omega (arith, ints, b, d))
@@ -105,14 +105,14 @@ plain_number values items table x y p q e = some_one x y (sym (rw (p, q)) ∙ e)
 no_table : (coding : NumCoding) (set : List (ℤ × ℤ)) (table : Option Table) → has_size coding ≡ false → table_fine coding set table ≡ true → table ≡ None
 no_table coding set None n h = refl
 no_table coding set (Some table) n h =
-    let a = both_are (has_size coding) (list_all line_fine table.lines && (all_differ share table.lines && nat_eq (count (images_by (Some table) set)) (count set))) h in
+    let a = and_parts (has_size coding) (list_all line_fine table.lines && (all_differ share table.lines && nat_eq (count (images_by (Some table) set)) (count set))) h in
     let w = a.0 in
     cc
 
 flag_number : (kind : NumKind) (p q : Option (List Bool)) (items : Items) (table : Option Table) (set : List (ℤ × ℤ)) (x y : ℤ) → takes kind (Flag p q) ≡ true → set_fine kind (Flag p q) items table set ≡ true → table_fine (Flag p q) set table ≡ true → has set x ≡ true
     → (if items.values then item_number items.items x else image_by table x) ≡ Some y → (y ≡ pos 0) ⊎ (y ≡ pos 1)
 flag_number Boolean p q items table set x y t s f h i =
-    let a = both_are (is_range (pos 0) (pos 1) set) (no_items items) s in
+    let a = and_parts (is_range (pos 0) (pos 1) set) (no_items items) s in
     let same = plain_number items.values items table x y (no_values items a.1) (no_table (Flag p q) set table refl f) i in
     let r = has_one (pos 0) (pos 1) x set a.0 h in
     let low = r.0 in
@@ -131,7 +131,7 @@ flag_number Null p q items table set x y t s f h i = cc
 fixed_number : (kind : NumKind) (pattern : List Bool) (items : Items) (table : Option Table) (set : List (ℤ × ℤ)) (x y : ℤ) → takes kind (Fixed pattern) ≡ true → set_fine kind (Fixed pattern) items table set ≡ true → table_fine (Fixed pattern) set table ≡ true → has set x ≡ true
     → (if items.values then item_number items.items x else image_by table x) ≡ Some y → y ≡ pos 0
 fixed_number Null pattern items table set x y t s f h i =
-    let a = both_are (is_range (pos 0) (pos 0) set) (no_items items) s in
+    let a = and_parts (is_range (pos 0) (pos 0) set) (no_items items) s in
     let same = plain_number items.values items table x y (no_values items a.1) (no_table (Fixed pattern) set table refl f) i in
     let r = has_one (pos 0) (pos 0) x set a.0 h in
     let low = r.0 in
@@ -172,10 +172,10 @@ can_write_image leaf x y h p i =
 table_image : (coding : NumCoding) (set : List (ℤ × ℤ)) (table : Option Table) (x : ℤ) → table_fine coding set table ≡ true → has set x ≡ true → (y : ℤ) × (image_by table x ≡ Some y)
 table_image coding set None x f h = (x, refl)
 table_image coding set (Some table) x f h =
-    let a = both_are (has_size coding) (list_all line_fine table.lines && (all_differ share table.lines && nat_eq (count (images_by (Some table) set)) (count set))) f in
-    let b = both_are (list_all line_fine table.lines) (all_differ share table.lines && nat_eq (count (images_by (Some table) set)) (count set)) a.1 in
-    let c = both_are (all_differ share table.lines) (nat_eq (count (images_by (Some table) set)) (count set)) b.1 in
-    image_there set table.lines x b.0 c.0 (equal_numbers (count (images_by (Some table) set)) (count set) c.1) h
+    let a = and_parts (has_size coding) (list_all line_fine table.lines && (all_differ share table.lines && nat_eq (count (images_by (Some table) set)) (count set))) f in
+    let b = and_parts (list_all line_fine table.lines) (all_differ share table.lines && nat_eq (count (images_by (Some table) set)) (count set)) a.1 in
+    let c = and_parts (all_differ share table.lines) (nat_eq (count (images_by (Some table) set)) (count set)) b.1 in
+    image_there set table.lines x b.0 c.0 (eqb-true (count (images_by (Some table) set)) (count set) c.1) h
 
 item_there : (items : List (List ℕ × ℤ)) (i : ℕ) → i < length items → (y : ℤ) × (option_map (λ named. named.1) (slice_get items i) ≡ Some y)
 item_there [] i h = absurd (omega arith)
@@ -188,8 +188,8 @@ number_there items (negsuc i) low high = absurd (omega (arith, ints))
 
 item_image : (kind : NumKind) (coding : NumCoding) (items : Items) (table : Option Table) (set : List (ℤ × ℤ)) (x : ℤ) → set_fine kind coding items table set ≡ true → items.values ≡ true → has set x ≡ true → (y : ℤ) × (item_number items.items x ≡ Some y)
 item_image Enumerated coding items table set x s v h =
-    let a = both_are (nat_lt 0 (length items.items)) (is_range (pos 0) (pos (length items.items - 1)) set && items_fine coding items) s in
-    let b = both_are (is_range (pos 0) (pos (length items.items - 1)) set) (items_fine coding items) a.1 in
+    let a = and_parts (nat_lt 0 (length items.items)) (is_range (pos 0) (pos (length items.items - 1)) set && items_fine coding items) s in
+    let b = and_parts (is_range (pos 0) (pos (length items.items - 1)) set) (items_fine coding items) a.1 in
     let r = has_one (pos 0) (pos (length items.items - 1)) x set b.0 h in
     let some = lt_is 0 (length items.items) a.0 in
     let high = r.1 in
@@ -198,12 +198,12 @@ item_image Enumerated coding items table set x s v h =
     lt_is : (a b : ℕ) → nat_lt a b ≡ true → a < b
     lt_is a b h = grind (arith, nat_tests)
 item_image Integer coding items table set x s v h =
-    let a = both_are (are_ranges set) (integer_set_fine coding (ends set) && no_items items) s in
-    let b = both_are (integer_set_fine coding (ends set)) (no_items items) a.1 in
+    let a = and_parts (are_ranges set) (integer_set_fine coding (ends set) && no_items items) s in
+    let b = and_parts (integer_set_fine coding (ends set)) (no_items items) a.1 in
     let n = no_values items b.1 in
     cc
-item_image Boolean coding items table set x s v h = let n = no_values items (both_are (is_range (pos 0) (pos 1) set) (no_items items) s).1 in cc
-item_image Null coding items table set x s v h = let n = no_values items (both_are (is_range (pos 0) (pos 0) set) (no_items items) s).1 in cc
+item_image Boolean coding items table set x s v h = let n = no_values items (and_parts (is_range (pos 0) (pos 1) set) (no_items items) s).1 in cc
+item_image Null coding items table set x s v h = let n = no_values items (and_parts (is_range (pos 0) (pos 0) set) (no_items items) s).1 in cc
 
 image_by_values : (v : Bool) (items : Items) (table : Option Table) (x : ℤ) → (v ≡ true → (y : ℤ) × (item_number items.items x ≡ Some y)) → (y : ℤ) × (image_by table x ≡ Some y) → (y : ℤ) × ((if v then item_number items.items x else image_by table x) ≡ Some y)
 image_by_values true items table x f g = f refl
@@ -222,7 +222,7 @@ in_ends b (r ∷ rs) x a h = go (λ later. in_ends (r.1 +ℤ pos 1) rs x a.3 lat
   where
     go : (has rs x ≡ true → ((r.1 +ℤ pos 1) <ℤ x) × (x ≤ℤ top)) → (t : Bool) → (int_le r.0 x && int_le x r.1) ≡ t → (t || has rs x) ≡ true → (b <ℤ x) × (x ≤ℤ top)
     go less true e h =
-        let f = both_are (int_le r.0 x) (int_le x r.1) e in
+        let f = and_parts (int_le r.0 x) (int_le x r.1) e in
         let low = le_fact r.0 x f.0 in
         let high = le_fact x r.1 f.1 in
         let first = a.0 in

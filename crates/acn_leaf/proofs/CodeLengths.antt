@@ -16,8 +16,8 @@ use Rattle.std.proofs.Math.Nat.{pow-le-pow_right}
 use Rattle.acn_grammar.specs.Interval.{hull, lengths_of, no_bounds, range_lengths}
 use Rattle.acn_grammar.specs.declared.bounds.Bounds.{Bounds}
 use Rattle.acn_grammar.specs.declared.node.NumCoding.{NumCoding}
-use Rattle.acn_grammar.proofs.Codings.{both_are}
 use Rattle.acn_grammar.proofs.Intervals.{same_bounds, hull_assoc}
+use Rattle.std.proofs.lemmas.Bool.{and_parts}
 
 counts-front : (p : ℕ → Bool) (i m : ℕ) → count_by p (range_with_len i (suc m)) ≡ cond (p i) 1 0 + count_by p (range_with_len (i + 1) m)
 counts-front p i m = sum_by-cons (λ x. cond (p x) 1 0) i (range_with_len (i + 1) m)
@@ -89,10 +89,10 @@ lt_yes : (x y : ℤ) → x <ℤ y → int_lt x y ≡ true
 lt_yes x y h = grind (arith, ints, nat_tests)
 
 pub number-low : (x : ℤ) → is_number x ≡ true → neg_ℤ (pos (2 ^ 63)) ≤ℤ x
-number-low x h = le_true _ x (both_are (int_le (neg_ℤ (pos (2 ^ 63))) x) (int_lt x (pos (2 ^ 64))) h).0
+number-low x h = le_true _ x (and_parts (int_le (neg_ℤ (pos (2 ^ 63))) x) (int_lt x (pos (2 ^ 64))) h).0
 
 pub number-high : (x : ℤ) → is_number x ≡ true → x <ℤ pos (2 ^ 64)
-number-high x h = lt_true x _ (both_are (int_le (neg_ℤ (pos (2 ^ 63))) x) (int_lt x (pos (2 ^ 64))) h).1
+number-high x h = lt_true x _ (and_parts (int_le (neg_ℤ (pos (2 ^ 63))) x) (int_lt x (pos (2 ^ 64))) h).1
 
 is-number : (x : ℤ) → neg_ℤ (pos (2 ^ 63)) ≤ℤ x → x <ℤ pos (2 ^ 64) → is_number x ≡ true
 is-number x low high = rw (le_yes (neg_ℤ (pos (2 ^ 63))) x low, lt_yes x (pos (2 ^ 64)) high)
@@ -104,10 +104,10 @@ pub record LineNumbers (line : ℤ × ℤ × ℤ) : Type 0 where
 
 pub line-numbers : (line : ℤ × ℤ × ℤ) → line_fine line ≡ true → LineNumbers line
 line-numbers line h =
-    let a = both_are (int_le line.0 line.1) (is_number line.0 && (is_number line.1 && (is_number line.2 && is_number (line.2 +ℤ (line.1 -ℤ line.0))))) h in
-    let b = both_are (is_number line.0) (is_number line.1 && (is_number line.2 && is_number (line.2 +ℤ (line.1 -ℤ line.0)))) a.1 in
-    let c = both_are (is_number line.1) (is_number line.2 && is_number (line.2 +ℤ (line.1 -ℤ line.0))) b.1 in
-    let d = both_are (is_number line.2) (is_number (line.2 +ℤ (line.1 -ℤ line.0))) c.1 in
+    let a = and_parts (int_le line.0 line.1) (is_number line.0 && (is_number line.1 && (is_number line.2 && is_number (line.2 +ℤ (line.1 -ℤ line.0))))) h in
+    let b = and_parts (is_number line.0) (is_number line.1 && (is_number line.2 && is_number (line.2 +ℤ (line.1 -ℤ line.0)))) a.1 in
+    let c = and_parts (is_number line.1) (is_number line.2 && is_number (line.2 +ℤ (line.1 -ℤ line.0))) b.1 in
+    let d = and_parts (is_number line.2) (is_number (line.2 +ℤ (line.1 -ℤ line.0))) c.1 in
     record { first = b.0; last = c.0; to = d.0 }
 
 pub key-number : (line : ℤ × ℤ × ℤ) (key : ℤ) → line_fine line ≡ true → line.0 ≤ℤ key → key ≤ℤ line.1 → is_number key ≡ true
@@ -121,8 +121,8 @@ key-number line key h low high =
 table-lines : (coding : NumCoding) (set : List (ℤ × ℤ)) (table : Option Table) (t : Table) → table ≡ Some t → table_fine coding set table ≡ true → list_all line_fine t.lines ≡ true
 table-lines coding set None t e h = cc
 table-lines coding set (Some table) t e h =
-    let a = both_are (has_size coding) (list_all line_fine table.lines && (all_differ share table.lines && nat_eq (count (images_by (Some table) set)) (count set))) h in
-    let b = both_are (list_all line_fine table.lines) (all_differ share table.lines && nat_eq (count (images_by (Some table) set)) (count set)) a.1 in
+    let a = and_parts (has_size coding) (list_all line_fine table.lines && (all_differ share table.lines && nat_eq (count (images_by (Some table) set)) (count set))) h in
+    let b = and_parts (list_all line_fine table.lines) (all_differ share table.lines && nat_eq (count (images_by (Some table) set)) (count set)) a.1 in
     let is : table ≡ t = cc in
     ap (λ (x : Table). list_all line_fine x.lines) (sym is) ∙ b.0
 

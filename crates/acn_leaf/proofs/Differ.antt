@@ -138,7 +138,7 @@ module _ {K : Type 0} (R : K → K → Ordering) (same : K → K → Bool) (tell
   pub block_fails : (front done block more : List K) → all_differ same (front ++ block) ≡ false → all_differ same (front ++ (done ++ (block ++ more))) ≡ false
   block_fails front done block more h = false_from_ne_true _ (λ t.
       let all = part_differs (front ++ block) (front ++ (done ++ (block ++ more)))
-                  (λ x. (let a = sum_by-append (one_if x) front block in let b = sum_by-append (one_if x) front (done ++ (block ++ more)) in let c = sum_by-append (one_if x) done (block ++ more) in let d = sum_by-append (one_if x) block more in omega (arith, a, b, c, d))) t in
+      (λ x. (let a = sum_by-append (one_if x) front block in let b = sum_by-append (one_if x) front (done ++ (block ++ more)) in let c = sum_by-append (one_if x) done (block ++ more) in let d = sum_by-append (one_if x) block more in omega (arith, a, b, c, d))) t in
       true≢false (sym all ∙ h))
 
   -- Neighbours.

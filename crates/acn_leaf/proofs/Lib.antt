@@ -1,7 +1,9 @@
-pub mod CodeLengths
+mod CodeLengths
+-- for acn_well_formed and acn_check
 pub mod Differ
-pub mod NumParts
+mod NumParts
+-- for acn_check
 pub mod Patterns
-pub mod Sizes
-pub mod Spelled
-pub mod TableRules
+mod Sizes
+mod Spelled
+mod TableRules

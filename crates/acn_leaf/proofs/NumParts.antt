@@ -3,8 +3,8 @@ use Rattle.std.proofs.Common.{◌≡◌, Bool, true, false, ◌&&◌, refl, sym,
 use Rattle.acn_grammar.specs.Images.{written_ends}
 use Rattle.acn_grammar.specs.Leaves.{takes, coding_fine, implies, can_be_little, is_signed_text, begins_below_zero, set_fine, only_integer, table_fine, values_fine, can_write_all, num_fine}
 use Rattle.acn_grammar.specs.declared.node.NumLeaf.{NumLeaf}
-use Rattle.acn_grammar.proofs.Codings.{both_are}
 use Rattle.acn_leaf.proofs.TableRules.{grouped}
+use Rattle.std.proofs.lemmas.Bool.{and_parts}
 
 abbrev pub coded : NumLeaf → Bool
 coded leaf = takes leaf.kind leaf.coding && (coding_fine leaf.coding && (implies leaf.little (can_be_little leaf.coding) && implies (is_signed_text leaf.coding) (begins_below_zero leaf.set)))
@@ -41,10 +41,10 @@ as_written leaf r g h e = three_last (coded leaf) (numbers leaf) (written leaf) 
 
 pub coding_part : (leaf : NumLeaf) → coded leaf ≡ true → coding_fine leaf.coding ≡ true
 coding_part leaf h =
-    let a = both_are (takes leaf.kind leaf.coding) (coding_fine leaf.coding && (implies leaf.little (can_be_little leaf.coding) && implies (is_signed_text leaf.coding) (begins_below_zero leaf.set))) h in
-    (both_are (coding_fine leaf.coding) (implies leaf.little (can_be_little leaf.coding) && implies (is_signed_text leaf.coding) (begins_below_zero leaf.set)) a.1).0
+    let a = and_parts (takes leaf.kind leaf.coding) (coding_fine leaf.coding && (implies leaf.little (can_be_little leaf.coding) && implies (is_signed_text leaf.coding) (begins_below_zero leaf.set))) h in
+    (and_parts (coding_fine leaf.coding) (implies leaf.little (can_be_little leaf.coding) && implies (is_signed_text leaf.coding) (begins_below_zero leaf.set)) a.1).0
 
 pub table_part : (leaf : NumLeaf) → numbers leaf ≡ true → table_fine leaf.coding leaf.set leaf.table ≡ true
 table_part leaf h =
-    let a = both_are (set_fine leaf.kind leaf.coding leaf.items leaf.table leaf.set) (only_integer leaf.kind leaf.table && table_fine leaf.coding leaf.set leaf.table) h in
-    (both_are (only_integer leaf.kind leaf.table) (table_fine leaf.coding leaf.set leaf.table) a.1).1
+    let a = and_parts (set_fine leaf.kind leaf.coding leaf.items leaf.table leaf.set) (only_integer leaf.kind leaf.table && table_fine leaf.coding leaf.set leaf.table) h in
+    (and_parts (only_integer leaf.kind leaf.table) (table_fine leaf.coding leaf.set leaf.table) a.1).1

@@ -11,7 +11,7 @@ use Rattle.acn_leaf.specs.Ends.{ends_behind}
 use Rattle.acn_grammar.specs.Images.{ends, ends_from, clipped}
 use Rattle.acn_grammar.specs.Leaves.{all_differ, line_fine, is_number}
 use Rattle.acn_leaf.specs.Taken.{left_of}
-use Rattle.acn_grammar.proofs.Codings.{both_are}
+use Rattle.std.proofs.lemmas.Bool.{and_parts}
 
 -- Numbers of a line.
 
@@ -41,17 +41,17 @@ pub le_no : (x y : ℤ) → y <ℤ x → int_le x y ≡ false
 le_no x y h = grind (arith, ints)
 
 pub number_low : (x : ℤ) → is_number x ≡ true → neg_ℤ (pos (2 ^ 63)) ≤ℤ x
-number_low x h = le_true _ x (both_are (int_le (neg_ℤ (pos (2 ^ 63))) x) (int_lt x (pos (2 ^ 64))) h).0
+number_low x h = le_true _ x (and_parts (int_le (neg_ℤ (pos (2 ^ 63))) x) (int_lt x (pos (2 ^ 64))) h).0
 
 pub number_high : (x : ℤ) → is_number x ≡ true → x <ℤ pos (2 ^ 64)
-number_high x h = lt_true x _ (both_are (int_le (neg_ℤ (pos (2 ^ 63))) x) (int_lt x (pos (2 ^ 64))) h).1
+number_high x h = lt_true x _ (and_parts (int_le (neg_ℤ (pos (2 ^ 63))) x) (int_lt x (pos (2 ^ 64))) h).1
 
 pub line_facts : (line : ℤ × ℤ × ℤ) → line_fine line ≡ true → LineFacts line
 line_facts line h =
-    let a = both_are (int_le line.0 line.1) (is_number line.0 && (is_number line.1 && (is_number line.2 && is_number (line.2 +ℤ (line.1 -ℤ line.0))))) h in
-    let b = both_are (is_number line.0) (is_number line.1 && (is_number line.2 && is_number (line.2 +ℤ (line.1 -ℤ line.0)))) a.1 in
-    let c = both_are (is_number line.1) (is_number line.2 && is_number (line.2 +ℤ (line.1 -ℤ line.0))) b.1 in
-    let d = both_are (is_number line.2) (is_number (line.2 +ℤ (line.1 -ℤ line.0))) c.1 in
+    let a = and_parts (int_le line.0 line.1) (is_number line.0 && (is_number line.1 && (is_number line.2 && is_number (line.2 +ℤ (line.1 -ℤ line.0))))) h in
+    let b = and_parts (is_number line.0) (is_number line.1 && (is_number line.2 && is_number (line.2 +ℤ (line.1 -ℤ line.0)))) a.1 in
+    let c = and_parts (is_number line.1) (is_number line.2 && is_number (line.2 +ℤ (line.1 -ℤ line.0))) b.1 in
+    let d = and_parts (is_number line.2) (is_number (line.2 +ℤ (line.1 -ℤ line.0))) c.1 in
     record { order = le_true line.0 line.1 a.0; low = number_low line.0 b.0; high = number_high line.1 c.0; image_low = number_low line.2 d.0; image_high = number_high line.2 d.0 }
 
 pub is_number_from : (x : ℤ) → neg_ℤ (pos (2 ^ 63)) ≤ℤ x → x <ℤ pos (2 ^ 64) → is_number x ≡ true
@@ -134,13 +134,13 @@ ends_last (Some e) = refl
 
 pub all_get : {A : Type 0} (p : A → Bool) (xs : List A) (i : ℕ) (d : A) → list_all p xs ≡ true → i < length xs → p (get_or xs i d) ≡ true
 all_get p [] i d h k = absurd (omega arith)
-all_get p (x ∷ xs) zero d h k = (both_are (p x) (list_all p xs) h).0
-all_get p (x ∷ xs) (suc i) d h k = all_get p xs i d (both_are (p x) (list_all p xs) h).1 (omega arith)
+all_get p (x ∷ xs) zero d h k = (and_parts (p x) (list_all p xs) h).0
+all_get p (x ∷ xs) (suc i) d h k = all_get p xs i d (and_parts (p x) (list_all p xs) h).1 (omega arith)
 
 pub all_drop : {A : Type 0} (p : A → Bool) (xs : List A) (i : ℕ) → list_all p xs ≡ true → list_all p (drop i xs) ≡ true
 all_drop p xs zero h = h
 all_drop p [] (suc i) h = refl
-all_drop p (x ∷ xs) (suc i) h = all_drop p xs i (both_are (p x) (list_all p xs) h).1
+all_drop p (x ∷ xs) (suc i) h = all_drop p xs i (and_parts (p x) (list_all p xs) h).1
 
 pub differ_turn : {A : Type 0} (same : A → A → Bool) (xs : List A) (i : ℕ) (d : A) → i < length xs → all_differ same (drop i xs) ≡ (not (list_any (same (get_or xs i d)) (drop (i + 1) xs)) && all_differ same (drop (i + 1) xs))
 differ_turn same xs i d h = rw (drop_more xs i d h) refl
@@ -148,7 +148,7 @@ differ_turn same xs i d h = rw (drop_more xs i d h) refl
 pub all_take : {A : Type 0} (p : A → Bool) (n : ℕ) (xs : List A) → list_all p xs ≡ true → list_all p (take n xs) ≡ true
 all_take p zero xs h = refl
 all_take p (suc n) [] h = refl
-all_take p (suc n) (x ∷ xs) h = (let b = both_are (p x) (list_all p xs) h in rw (b.0, all_take p n xs b.1) refl)
+all_take p (suc n) (x ∷ xs) h = (let b = and_parts (p x) (list_all p xs) h in rw (b.0, all_take p n xs b.1) refl)
 
 pub small_distance : (r : ℤ × ℤ) (line : ℤ × ℤ × ℤ) → line_fine line ≡ true → int_max r.0 line.0 ≤ℤ int_min r.1 line.1 → distance (int_max r.0 line.0) (int_min r.1 line.1) < 2 ^ 66
 small_distance r line h some =

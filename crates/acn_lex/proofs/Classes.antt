@@ -1,6 +1,6 @@
 -- Which classes of bytes have no byte in common, and what a step is by the first byte.
 use Rattle.std.proofs.Common.{◌≡◌, ℕ, ◌+◌, Bool, true, false, not, ◌&&◌, ◌==◌, List, [], ◌∷◌, take, codes, refl, subst, arith, inl, inr}
-use Rattle.std.proofs.lemmas.Bool.{and_parts, or_cases, eqb-true, false_from_ne_true}
+use Rattle.std.proofs.lemmas.Bool.{and_parts, or_cases, eqb-true, false_from_ne_true, not-true}
 use Rattle.std.proofs.lemmas.Bool.Decides.{nat_tests}
 use Rattle.std.specs.List.{list_any, list_all}
 use Rattle.std.specs.Char.{is_ascii_digit, is_ascii_alphabetic}
@@ -35,13 +35,9 @@ one_of q b (x ∷ xs) e h =
       | inr k ↦ one_of q b xs k t.1
     ]
 
-not_true : (b : Bool) → not b ≡ true → b ≡ false
-not_true true e = absurd cc
-not_true false e = refl
-
 -- no mark of one byte passes a test
 pub single_not : (q : ℕ → Bool) (b : ℕ) → list_all (λ c. not (q c)) (codes ".,;:{}()[]<>|^-=@!&") ≡ true → is_single b ≡ true → q b ≡ false
-single_not q b h e = not_true (q b) (one_of (λ c. not (q c)) b (codes ".,;:{}()[]<>|^-=@!&") e h)
+single_not q b h e = not-true (q b) (one_of (λ c. not (q c)) b (codes ".,;:{}()[]<>|^-=@!&") e h)
 
 and_left : (a b : Bool) → a ≡ false → a && b ≡ false
 and_left a b e = rw e refl

@@ -8,7 +8,7 @@ use Rattle.std.proofs.lemmas.Fmt.{digits_decimal, digits_value-decimal, decimal-
 use Rattle.std.proofs.lemmas.Str.Parse.{IsNumeralModel, numerals_by_fold}
 use Rattle.std.proofs.lemmas.Option.{cond_some}
 use Rattle.std.specs.Cmp.Derive.{both_true}
-use Rattle.std.proofs.lemmas.Bool.{lt-ltb, ltb-true, cases_lt}
+use Rattle.std.proofs.lemmas.Bool.{lt-ltb, ltb-true, cases_lt, and_parts}
 use Rattle.std.proofs.lemmas.Bool.Decides.{nat_tests}
 use Rattle.acn_lex.specs.Lexes.{spelled}
 use Rattle.acn_lex.specs.Number.{with_digit, read_from, is_unwritten, number_in}
@@ -19,10 +19,6 @@ own = numerals_by_fold _ (search rules) spelled (search rules)
 read_on-le : (n : ℕ) (cs : List ℕ) → n ≤ spelled n cs
 read_on-le n [] = omega arith
 read_on-le n (c ∷ cs) = omega (arith, read_on-le (10 * n + (c - 48)) cs)
-
-both : (a b : Bool) → a && b ≡ true → (a ≡ true) × (b ≡ true)
-both true b e = (refl, e)
-both false b e = absurd cc
 
 guard : {A : Type 0} (b : Bool) (o : Option A) (y : A) → cond b None o ≡ Some y → (b ≡ false) × (o ≡ Some y)
 guard true o y e = absurd cc
@@ -38,7 +34,7 @@ then_some (Some x) f y e = (x, refl, e)
 with_digit_found : (n b m : ℕ) → with_digit n b ≡ Some m → (is_ascii_digit b ≡ true) × (10 * n + (b - 48) ≡ m) × (m < 2 ^ 64)
 with_digit_found n b m e =
     let c = cond_some (is_ascii_digit b && ltb (10 * n + (b - 48)) (2 ^ 64)) (10 * n + (b - 48)) m e in
-    let t = both (is_ascii_digit b) (ltb (10 * n + (b - 48)) (2 ^ 64)) c.0 in
+    let t = and_parts (is_ascii_digit b) (ltb (10 * n + (b - 48)) (2 ^ 64)) c.0 in
     (t.0, c.1, subst (λ k. k < 2 ^ 64) c.1 (ltb-true _ _ t.1))
 
 pub read_from_found : (n : ℕ) (bs : List ℕ) (m : ℕ) → n < 2 ^ 64 → read_from n bs ≡ Some m → (all_ascii_digits bs ≡ true) × (spelled n bs ≡ m) × (m < 2 ^ 64)
@@ -52,7 +48,7 @@ read_from_found n (b ∷ bs) m h e =
 pub read_from_again : (n : ℕ) (bs : List ℕ) → all_ascii_digits bs ≡ true → spelled n bs < 2 ^ 64 → read_from n bs ≡ Some (spelled n bs)
 read_from_again n [] d h = refl
 read_from_again n (b ∷ bs) d h =
-    let t = both (is_ascii_digit b) (all_ascii_digits bs) d in
+    let t = and_parts (is_ascii_digit b) (all_ascii_digits bs) d in
     let fits : 10 * n + (b - 48) < 2 ^ 64 = omega (arith, read_on-le (10 * n + (b - 48)) bs) in
     let e : ltb (10 * n + (b - 48)) (2 ^ 64) ≡ true = lt-ltb _ _ fits in
     rw (t.0, e) (read_from_again (10 * n + (b - 48)) bs t.1 h)

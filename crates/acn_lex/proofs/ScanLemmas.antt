@@ -4,6 +4,7 @@ use Rattle.std.specs.Cmp.Derive.{both_true}
 use Rattle.std.specs.Char.{is_ascii_alphanumeric}
 use Rattle.acn_lex.specs.Scan.{word_len}
 use Rattle.acn_lex.specs.Bytes.{starts_alnum, continues}
+use Rattle.std.proofs.lemmas.Bool.{and_parts, false_from_ne_true}
 
 -- the form of a word behind its first letter: letters, digits and single hyphens, each before a letter or digit
 abbrev pub is_tail : List ℕ → Bool
@@ -14,17 +15,9 @@ split : (a b : Bool) → (a || b) ≡ true → ((a ≡ true) ⊎ (b ≡ true))
 split true b e = inl refl
 split false b e = inr e
 
-both : (a b : Bool) → a && b ≡ true → (a ≡ true) × (b ≡ true)
-both true b e = (refl, e)
-both false b e = absurd cc
-
 and_false : (a b : Bool) → b ≡ false → a && b ≡ false
 and_false true b e = e
 and_false false b e = refl
-
-never : (b : Bool) → (b ≡ true → ⊥) → b ≡ false
-never true h = absurd (h refl)
-never false h = refl
 
 -- a letter or digit in front makes a word go on
 starts_kept : (bs : List ℕ) → starts_alnum bs ≡ true → starts_alnum (take (word_len bs) bs) ≡ true
@@ -40,7 +33,7 @@ pub continues_if : (b : ℕ) (bs cs : List ℕ) → (starts_alnum bs ≡ true �
 continues_if b bs cs f e =
     elim (split (is_ascii_alphanumeric b) (b == 45 && starts_alnum bs) e) [
       | inl p ↦ rw p refl
-      | inr p ↦ let q = both (b == 45) (starts_alnum bs) p in rw (q.0, f q.1) (or_true (is_ascii_alphanumeric b))
+      | inr p ↦ let q = and_parts (b == 45) (starts_alnum bs) p in rw (q.0, f q.1) (or_true (is_ascii_alphanumeric b))
     ]
   where
     or_true : (a : Bool) → (a || true) ≡ true
@@ -62,4 +55,4 @@ word_longest (b ∷ bs) (suc m) h k = turn (continues b bs) refl h (λ lt. word_
   where
     turn : (c : Bool) → continues b bs ≡ c → cond c (suc (word_len bs)) 0 < suc m → (word_len bs < m → is_tail (take m bs) ≡ false) → continues b (take m bs) && is_tail (take m bs) ≡ false
     turn true e h f = and_false (continues b (take m bs)) (is_tail (take m bs)) (f (omega arith))
-    turn false e h f = never (continues b (take m bs) && is_tail (take m bs)) (λ t. let g : continues b bs ≡ true = continues_if b (take m bs) bs (starts_back m bs) (both (continues b (take m bs)) (is_tail (take m bs)) t).0 in absurd cc)
+    turn false e h f = false_from_ne_true (continues b (take m bs) && is_tail (take m bs)) (λ t. let g : continues b bs ≡ true = continues_if b (take m bs) bs (starts_back m bs) (and_parts (continues b (take m bs)) (is_tail (take m bs)) t).0 in absurd cc)

@@ -1,3 +1,3 @@
--- for the crates above that write lists part by part
+-- for acn_repeated and acn_constraint
 pub mod Joined
 mod TypeMentions

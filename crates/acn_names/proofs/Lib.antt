@@ -1,6 +1,6 @@
-pub mod Faulty
-pub mod Named
-pub mod Weights
-pub mod Valued
-pub mod Known
-pub mod Ended
+mod Faulty
+mod Named
+mod Weights
+mod Valued
+mod Known
+mod Ended

@@ -1,8 +1,10 @@
+-- for acn_run
 pub mod Members
-pub mod Order
-pub mod Turns
-pub mod Meeting
-pub mod Unions
+mod Order
+mod Turns
+mod Meeting
+mod Unions
+-- for acn_text
 pub mod Nth
-pub mod Halves
-pub mod Octets
+mod Halves
+mod Octets

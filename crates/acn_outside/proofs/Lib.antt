@@ -1,3 +1,4 @@
+-- for acn_run
 pub mod Joined
-pub mod Named
-pub mod Counting
+mod Named
+mod Counting

@@ -1,6 +1,6 @@
 -- A tree without a fault is scoped: the prefix law holds of each node in it.
 use Rattle.std.proofs.Common.{◌≡◌, ℕ, zero, suc, Bool, false, List, [], ◌∷◌, ◌++◌, length, map, Option, Some, None, refl, sym, subst, ap, ◌∙◌, nat_eq, ◌&&◌}
-use Rattle.std.proofs.lemmas.Bool.{or_left}
+use Rattle.std.proofs.lemmas.Bool.{or_left, and_parts}
 use Rattle.std.specs.Prelude.{slice_get, nat_lt}
 use Rattle.std.specs.List.{list_any}
 use Rattle.acn_grammar.specs.Asks.{same_name}
@@ -13,7 +13,6 @@ use Rattle.acn_grammar.specs.Scoped.{Known, with_slot, TestsIn, choose_known, wi
 use Rattle.acn_grammar.specs.Tree.{IsTree, has_tests, choice_rule_fine}
 use Rattle.acn_grammar.specs.Walk.{Stand, Role, a_component, an_inserted, an_alternative, an_element, a_content, root_node, nodes, nodes_of, form_nodes, field_nodes, alternative_nodes, conditions_of}
 use Rattle.acn_grammar.specs.declared.node.ChoiceRule.TheVariants.{Index, Tests, Item}
-use Rattle.acn_grammar.proofs.Codings.{both_are}
 use Rattle.acn_packet_laws.proofs.Overlaps.{no_overlap}
 use Rattle.acn_packet_laws.proofs.Placed.{here_at, place_fine, to_fields, to_one, to_cases, first_component, next_component, first_inserted, next_inserted, first_case, next_case, any_left, field_is, root_place}
 use Rattle.acn_packet_laws.proofs.Scoping.{At, FieldsAt, CasesAt, numbers, rules, Knows, own_known, form_known, step_in, fields_in, knows_left, knows_right, component_behind, inserted_behind, inserted_is, only_slot, not_home, tests_in, presence_in, rule_in, names_are, get_here, same_eq}
@@ -38,7 +37,7 @@ module _ (root : Grammar) (tree : IsTree root) (sound : (f : CheckFault) → Und
       let here = here_at role path around align (list sizing g) in
       let fine = (place_fine (nodes_of root) (numbers root tree sound) (rules root tree sound) pre role path around align (list sizing g) post p).form in
       record {
-        fine = (both_are (sizes_fine sizing.sizes) (list_rule_fine (ending sizing.rule) sizing) fine).0;
+        fine = (and_parts (sizes_fine sizing.sizes) (list_rule_fine (ending sizing.rule) sizing) fine).0;
         told = λ ambiguous. sound (terminator_ambiguous path) (
           length pre,
           0,
@@ -73,8 +72,8 @@ module _ (root : Grammar) (tree : IsTree root) (sound : (f : CheckFault) → Und
         let inner = to_cases (nodes_of root) (numbers root tree sound) (rules root tree sound) pre role path around align cases Tests post p in
         let more = step_in root tree sound pre role path around align (choice cases Tests) post p refl ks knows in
         let fine = (place_fine (nodes_of root) (numbers root tree sound) (rules root tree sound) pre role path around align (choice cases Tests) post p).form in
-        let f = both_are (nat_lt 0 (length (conditions_of cases))) (all_differ same_name (map (λ c. c.0) (conditions_of cases)) && choice_rule_fine (conditions_of cases) Tests) fine in
-        let g = both_are (all_differ same_name (map (λ c. c.0) (conditions_of cases))) (list_any has_tests (conditions_of cases)) f.1 in (
+        let f = and_parts (nat_lt 0 (length (conditions_of cases))) (all_differ same_name (map (λ c. c.0) (conditions_of cases)) && choice_rule_fine (conditions_of cases) Tests) fine in
+        let g = and_parts (all_differ same_name (map (λ c. c.0) (conditions_of cases))) (list_any has_tests (conditions_of cases)) f.1 in (
           scoped_cases cases (pre ++ here ∷ []) path around 0 post inner ks more,
           tests_known cases (pre ++ here ∷ []) path around 0 post inner ks more,
           no_overlap root sound (length pre) here cases (ap (λ l. slice_get l (length pre)) p.whole ∙ get_here pre here (form_nodes path around (choice cases Tests) ++ post)) (refl, refl) g.1,
@@ -82,8 +81,8 @@ module _ (root : Grammar) (tree : IsTree root) (sound : (f : CheckFault) → Und
     scoped (node align (choice cases (Item s))) pre role path around post p ks knows =
         let here = here_at role path around align (choice cases (Item s)) in
         let fine = (place_fine (nodes_of root) (numbers root tree sound) (rules root tree sound) pre role path around align (choice cases (Item s)) post p).form in
-        let f = both_are (nat_lt 0 (length (conditions_of cases))) (all_differ same_name (map (λ c. c.0) (conditions_of cases)) && choice_rule_fine (conditions_of cases) (Item s)) fine in
-        let g = both_are (all_differ same_name (map (λ c. c.0) (conditions_of cases))) (choice_rule_fine (conditions_of cases) (Item s)) f.1 in (
+        let f = and_parts (nat_lt 0 (length (conditions_of cases))) (all_differ same_name (map (λ c. c.0) (conditions_of cases)) && choice_rule_fine (conditions_of cases) (Item s)) fine in
+        let g = and_parts (all_differ same_name (map (λ c. c.0) (conditions_of cases))) (choice_rule_fine (conditions_of cases) (Item s)) f.1 in (
           scoped_cases cases (pre ++ here ∷ []) path around 0 post (to_cases (nodes_of root) (numbers root tree sound) (rules root tree sound) pre role path around align cases (Item s) post p) ks (step_in root tree sound pre role path around align (choice cases (Item s)) post p refl ks knows),
           form_known root tree sound pre role path around align (choice cases (Item s)) post p ks knows s (or_left (nat_eq s s) false (same_eq s)),
           ap (all_differ same_name) (names_are cases) ∙ g.0,

@@ -23,7 +23,6 @@ use Rattle.acn_grammar.specs.declared.node.SizeRule.TheVariants.{Prefix, Slot, E
 use Rattle.acn_grammar.specs.declared.node.Test.{Test}
 use Rattle.acn_grammar.specs.declared.node.Test.TheVariants.{Flag, Equals}
 use Rattle.acn_grammar.specs.declared.node.TextLeaf.{TextLeaf}
-use Rattle.acn_grammar.proofs.Codings.{equal_numbers}
 use Rattle.acn_grammar.proofs.SpellLength.{Steady, SteadyForm, SteadyFields, SteadyAlternatives}
 use Rattle.acn_packet_laws.proofs.Homes.{truth}
 use Rattle.acn_packet_laws.proofs.AskHomes.{FormNot, NodeNot, FieldsNot, CasesNot, if_yes, if_no, some_is}
@@ -32,6 +31,7 @@ use Rattle.acn_packet_laws.proofs.Items.{item_place}
 use Rattle.acn_packet_laws.proofs.SoundLaws.{first_three, second_three, second_four, third_four}
 use Rattle.acn_packet_laws.proofs.Sounding.{last_two, last_three, last_four}
 use Rattle.acn_packet_laws.proofs.Used.{each_both, TestFits, PresenceFits, CaseFits, EndFits, NodeUsed, FormUsed, FieldsUsed, CasesUsed}
+use Rattle.std.proofs.lemmas.Bool.{eqb-true}
 
 pub not_at_home : (home : List ℕ) (xs : List ℤ) (env : Env) (s : ℕ) → holds home s ≡ false → at_slot (with_home home xs env) s ≡ at_slot env s
 not_at_home [] xs env s h = refl
@@ -48,7 +48,7 @@ at_home P [] xs env s l h m = cc
 at_home P (t ∷ home) [] env s l h m = absurd (omega arith)
 at_home P (t ∷ home) (x ∷ xs) env s l h m =
     truth {F = (y : ℤ) × (at_slot (with_home (t ∷ home) (x ∷ xs) env) s ≡ Some y) × P s y} (nat_eq t s)
-    (λ e. (x, if_yes (nat_eq t s) (Some x) (at_slot (with_home home xs env) s) e, subst (λ n. P n x) (equal_numbers t s e) h.0))
+    (λ e. (x, if_yes (nat_eq t s) (Some x) (at_slot (with_home home xs env) s) e, subst (λ n. P n x) (eqb-true t s e) h.0))
     (λ e.
     let r = at_home P home xs env s (omega arith) h.1 (sym (ap (λ b. b || holds home s) e) ∙ m) in
     (r.0, if_no (nat_eq t s) (Some x) (at_slot (with_home home xs env) s) e ∙ r.1, r.2))
@@ -59,7 +59,7 @@ module _ (root : Grammar) (tree : IsTree root) (mode : Mode) (s : ℕ) (x : ℤ)
 
   -- an ask of a slot that has a number
   one : (t : ℕ) (a : Ask) → (t ≡ s → MeetsAsk x a) → Met (on s t a)
-  one t a h = by (nat_eq t s) (λ e. h (equal_numbers t s e))
+  one t a h = by (nat_eq t s) (λ e. h (eqb-true t s e))
     where
       by : (b : Bool) → (b ≡ true → MeetsAsk x a) → Met (if b then a ∷ [] else [])
       by true f = (f refl, tt)

@@ -1,6 +1,6 @@
 -- In a tree the slots at home in a SEQUENCE have their fields near in it, and are at home in no SEQUENCE inside it.
 use Rattle.std.proofs.Common.{◌≡◌, ℕ, suc, ◌≤◌, Bool, true, false, not, List, [], ◌∷◌, ◌++◌, length, Option, Some, None, refl, sym, ap, ◌∙◌, arith, nat_eq}
-use Rattle.std.proofs.lemmas.Bool.{false_from_ne_true, or_parts}
+use Rattle.std.proofs.lemmas.Bool.{false_from_ne_true, or_parts, and_parts, not-true, eqb-true}
 use Rattle.std.specs.List.{list_any, list_all, range_with_len}
 use Rattle.std.proofs.lemmas.Bool.Decides.{nat_tests}
 use Rattle.std.specs.Prelude.{option_map, if◌then◌else◌}
@@ -9,7 +9,6 @@ use Rattle.acn_grammar.specs.Grammar.{Grammar, Form, Fields, Alternatives, node,
 use Rattle.acn_grammar.specs.Tree.{IsTree, holds, same_numbers, slots_of, is_slot, encloses, near, near_node, all_true, stand_rules}
 use Rattle.acn_grammar.specs.Walk.{Stand, Role, a_component, an_inserted, an_alternative, an_element, a_content, root_node, nodes, nodes_of, form_nodes, field_nodes, alternative_nodes}
 use Rattle.acn_grammar.specs.declared.node.Presence.{Presence}
-use Rattle.acn_grammar.proofs.Codings.{both_are, not_is, equal_numbers}
 use Rattle.acn_grammar.proofs.Texts.{either}
 use Rattle.acn_grammar.proofs.TreeRules.{stand_fine, list_all-append}
 use Rattle.acn_packet_laws.proofs.Homes.{truth}
@@ -64,7 +63,7 @@ if_no b x y e = rw e refl
 own_case : {F : Type 0} (own : Option ℕ) (s k : ℕ) (y : Option (List ℕ)) (steps : List ℕ) → at_slot own s (k ∷ []) y ≡ Some steps → (own ≡ Some s → steps ≡ k ∷ [] → F) → (y ≡ Some steps → F) → F
 own_case None s k y steps e f g = g e
 own_case {F} (Some t) s k y steps e f g = truth {F = F} (nat_eq t s)
-    (λ q. f (ap Some (equal_numbers t s q)) (sym (some_is (k ∷ []) steps (sym (if_yes (nat_eq t s) (Some (k ∷ [])) y q) ∙ e))))
+    (λ q. f (ap Some (eqb-true t s q)) (sym (some_is (k ∷ []) steps (sym (if_yes (nat_eq t s) (Some (k ∷ [])) y q) ∙ e))))
     (λ q. g (sym (if_no (nat_eq t s) (Some (k ∷ [])) y q) ∙ e))
 
 behind_component : (name : List ℕ) (g : Grammar) (presence : Presence) (default : Option (List ℕ)) (own : Option ℕ) (fs : Fields) (k s : ℕ) (steps : List ℕ) → Leads fs (suc k) s steps → Leads (component name g presence default own fs) k s steps
@@ -212,7 +211,7 @@ module _ (all : List Stand) (numbered : same_numbers (slots_of all) (range_with_
     not_form t (seq fields home) role path around align h i n m =
         let here = here_at role path around align (seq fields home) in
         let fine = stand_fine all here h in (
-          false_from_ne_true (holds home t) (λ q. let e = (both_are (encloses all t here) (not (list_any (encloses all t) (field_nodes path (home ++ around) 0 fields))) (home_is all numbered rules here fields home fine.home t q)).0 in cc),
+          false_from_ne_true (holds home t) (λ q. let e = (and_parts (encloses all t here) (not (list_any (encloses all t) (field_nodes path (home ++ around) 0 fields))) (home_is all numbered rules here fields home fine.home t q)).0 in cc),
           not_fields t fields path (home ++ around) 0 i m,
         )
     not_form t (list sizing g) role path around align h i n m = not_node t g an_element (path ++ 0 ∷ []) around i m
@@ -226,7 +225,7 @@ module _ (all : List Stand) (numbered : same_numbers (slots_of all) (range_with_
     not_node : (t : ℕ) (g : Grammar) (role : Role) (path around : List ℕ) → list_all passes (nodes role path around g) ≡ true → list_any (encloses all t) (nodes role path around g) ≡ false → NodeNot t g
     not_node t (node align form) role path around h n =
         let here = here_at role path around align form in
-        let a = both_are (passes here) (list_all passes (form_nodes path around form)) h in
+        let a = and_parts (passes here) (list_all passes (form_nodes path around form)) h in
         let b = or_parts (encloses all t here) (list_any (encloses all t) (form_nodes path around form)) n in
         not_form t form role path around align a.0 a.1 b.0 b.1
 
@@ -257,7 +256,7 @@ module _ (all : List Stand) (numbered : same_numbers (slots_of all) (range_with_
   mutual
     pub node_homes : (g : Grammar) (role : Role) (path around : List ℕ) → list_all passes (nodes role path around g) ≡ true → NodeHomes g
     node_homes (node align form) role path around h =
-        let a = both_are (passes (here_at role path around align form)) (list_all passes (form_nodes path around form)) h in
+        let a = and_parts (passes (here_at role path around align form)) (list_all passes (form_nodes path around form)) h in
         form_homes form role path around align a.0 a.1
 
     form_homes : (form : Form) (role : Role) (path around : List ℕ) (align : ℕ) → passes (here_at role path around align form) ≡ true → list_all passes (form_nodes path around form) ≡ true → FormHomes form
@@ -265,7 +264,7 @@ module _ (all : List Stand) (numbered : same_numbers (slots_of all) (range_with_
         let here = here_at role path around align (seq fields home) in
         let fine = stand_fine all here h in
         let inner = field_nodes path (home ++ around) 0 fields in (
-          (λ t q. (home_near all numbered rules here fields home fine.home t q, not_fields t fields path (home ++ around) 0 i (not_is (list_any (encloses all t) inner) (both_are (encloses all t here) (not (list_any (encloses all t) inner)) (home_is all numbered rules here fields home fine.home t q)).1))),
+          (λ t q. (home_near all numbered rules here fields home fine.home t q, not_fields t fields path (home ++ around) 0 i (not-true (list_any (encloses all t) inner) (and_parts (encloses all t here) (not (list_any (encloses all t) inner)) (home_is all numbered rules here fields home fine.home t q)).1))),
           fields_homes fields path (home ++ around) 0 i,
         )
     form_homes (list sizing g) role path around align h i = node_homes g an_element (path ++ 0 ∷ []) around i

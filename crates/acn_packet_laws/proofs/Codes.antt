@@ -16,42 +16,39 @@ use Rattle.acn_grammar.specs.declared.node.NumKind.{NumKind}
 use Rattle.acn_grammar.specs.declared.node.NumKind.TheVariants.{Integer, Boolean, Enumerated, Null}
 use Rattle.acn_grammar.specs.declared.node.NumLeaf.{NumLeaf}
 use Rattle.acn_grammar.specs.declared.node.Table.{Table}
-use Rattle.acn_grammar.proofs.Codings.{both_are}
 use Rattle.acn_grammar.proofs.FineLeaves.{rules_of, no_values}
 use Rattle.acn_packet_laws.proofs.HasCode.{Special, has_code}
 use Rattle.acn_packet_laws.proofs.HasImage.{Ordered, ordered_ranges, by_table}
 use Rattle.acn_grammar.proofs.LeafLengths.{limits_of, some_ends, le_fact, eq_fact, plain_image}
 use Rattle.acn_grammar.proofs.Texts.{either}
 use Rattle.acn_grammar.proofs.Within.{image_has, ends-has}
+use Rattle.std.proofs.lemmas.Bool.{ltb-true, and_parts}
 
 pub range_within : (low high : ℤ) (rs : List (ℤ × ℤ)) (x : ℤ) → is_range low high rs ≡ true → has rs x ≡ true → (low ≤ℤ x) × (x ≤ℤ high)
 range_within low high [] x h p = cc
 range_within low high (r ∷ []) x h p =
-    let f = both_are (int_eq r.0 low) (int_eq r.1 high) h in
+    let f = and_parts (int_eq r.0 low) (int_eq r.1 high) h in
     let one = eq_fact r.0 low f.0 in
     let two = eq_fact r.1 high f.1 in
     either {F = (low ≤ℤ x) × (x ≤ℤ high)} (int_le r.0 x && int_le x r.1) false p
-    (λ q. let w = both_are (int_le r.0 x) (int_le x r.1) q in (rw (← one) (le_fact r.0 x w.0), rw (← two) (le_fact x r.1 w.1)))
+    (λ q. let w = and_parts (int_le r.0 x) (int_le x r.1) q in (rw (← one) (le_fact r.0 x w.0), rw (← two) (le_fact x r.1 w.1)))
     (λ q. cc)
 range_within low high (r ∷ s ∷ rs) x h p = cc
 
 range_ordered : (low high : ℤ) (rs : List (ℤ × ℤ)) → low ≤ℤ high → is_range low high rs ≡ true → Ordered rs
 range_ordered low high [] le h = cc
 range_ordered low high (r ∷ []) le h =
-    let f = both_are (int_eq r.0 low) (int_eq r.1 high) h in
+    let f = and_parts (int_eq r.0 low) (int_eq r.1 high) h in
     (rw (eq_fact r.0 low f.0, eq_fact r.1 high f.1) le, tt)
 range_ordered low high (r ∷ s ∷ rs) le h = cc
 
-pub lt_is : (a b : ℕ) → nat_lt a b ≡ true → a < b
-lt_is a b h = grind (arith, nat_tests)
-
 -- the set of a leaf that keeps its rules is in order
 pub set_ordered : (kind : NumKind) (coding : NumCoding) (items : Items) (table : Option Table) (set : List (ℤ × ℤ)) → set_fine kind coding items table set ≡ true → Ordered set
-set_ordered Integer coding items table set h = ordered_ranges set (both_are (are_ranges set) (integer_set_fine coding (ends set) && no_items items) h).0
-set_ordered Boolean coding items table set h = range_ordered (pos 0) (pos 1) set (omega (arith, ints)) (both_are (is_range (pos 0) (pos 1) set) (no_items items) h).0
+set_ordered Integer coding items table set h = ordered_ranges set (and_parts (are_ranges set) (integer_set_fine coding (ends set) && no_items items) h).0
+set_ordered Boolean coding items table set h = range_ordered (pos 0) (pos 1) set (omega (arith, ints)) (and_parts (is_range (pos 0) (pos 1) set) (no_items items) h).0
 set_ordered Enumerated coding items table set h =
-    range_ordered (pos 0) (pos (length items.items - 1)) set (omega (arith, ints)) (both_are (is_range (pos 0) (pos (length items.items - 1)) set) (items_fine coding items) (both_are (nat_lt 0 (length items.items)) (is_range (pos 0) (pos (length items.items - 1)) set && items_fine coding items) h).1).0
-set_ordered Null coding items table set h = range_ordered (pos 0) (pos 0) set (omega (arith, ints)) (both_are (is_range (pos 0) (pos 0) set) (no_items items) h).0
+    range_ordered (pos 0) (pos (length items.items - 1)) set (omega (arith, ints)) (and_parts (is_range (pos 0) (pos (length items.items - 1)) set) (items_fine coding items) (and_parts (nat_lt 0 (length items.items)) (is_range (pos 0) (pos (length items.items - 1)) set && items_fine coding items) h).1).0
+set_ordered Null coding items table set h = range_ordered (pos 0) (pos 0) set (omega (arith, ints)) (and_parts (is_range (pos 0) (pos 0) set) (no_items items) h).0
 
 item_there : (items : List (List ℕ × ℤ)) (i : ℕ) → i < length items → (y : ℤ) × (option_map (λ named. named.1) (slice_get items i) ≡ Some y)
 item_there [] i h = absurd (omega arith)
@@ -65,13 +62,13 @@ item_image items (negsuc n) some a b = absurd (omega (arith, ints))
 -- where the items are written the leaf is an enumeration
 items_image : (kind : NumKind) (coding : NumCoding) (items : Items) (table : Option Table) (set : List (ℤ × ℤ)) (x : ℤ) → set_fine kind coding items table set ≡ true → items.values ≡ true → has set x ≡ true → (y : ℤ) × (item_number items.items x ≡ Some y)
 items_image Integer coding items table set x h v p =
-    let n = no_values items (both_are (integer_set_fine coding (ends set)) (no_items items) (both_are (are_ranges set) (integer_set_fine coding (ends set) && no_items items) h).1).1 in cc
-items_image Boolean coding items table set x h v p = let n = no_values items (both_are (is_range (pos 0) (pos 1) set) (no_items items) h).1 in cc
-items_image Null coding items table set x h v p = let n = no_values items (both_are (is_range (pos 0) (pos 0) set) (no_items items) h).1 in cc
+    let n = no_values items (and_parts (integer_set_fine coding (ends set)) (no_items items) (and_parts (are_ranges set) (integer_set_fine coding (ends set) && no_items items) h).1).1 in cc
+items_image Boolean coding items table set x h v p = let n = no_values items (and_parts (is_range (pos 0) (pos 1) set) (no_items items) h).1 in cc
+items_image Null coding items table set x h v p = let n = no_values items (and_parts (is_range (pos 0) (pos 0) set) (no_items items) h).1 in cc
 items_image Enumerated coding items table set x h v p =
-    let f = both_are (nat_lt 0 (length items.items)) (is_range (pos 0) (pos (length items.items - 1)) set && items_fine coding items) h in
-    let w = range_within (pos 0) (pos (length items.items - 1)) set x (both_are (is_range (pos 0) (pos (length items.items - 1)) set) (items_fine coding items) f.1).0 p in
-    item_image items.items x (lt_is 0 (length items.items) f.0) w.0 w.1
+    let f = and_parts (nat_lt 0 (length items.items)) (is_range (pos 0) (pos (length items.items - 1)) set && items_fine coding items) h in
+    let w = range_within (pos 0) (pos (length items.items - 1)) set x (and_parts (is_range (pos 0) (pos (length items.items - 1)) set) (items_fine coding items) f.1).0 p in
+    item_image items.items x (ltb-true 0 (length items.items) f.0) w.0 w.1
 
 pub has_image : (leaf : NumLeaf) → IsTrue (num_fine leaf) → (x : ℤ) → In leaf.set x → (y : ℤ) × (image_of leaf x ≡ Some y)
 has_image leaf h x p = by leaf.items.values refl
@@ -99,7 +96,7 @@ zero_or_one (negsuc n) a b = absurd (omega (arith, ints))
 
 special_by : (coding : NumCoding) (kind : NumKind) (items : Items) (table : Option Table) (set : List (ℤ × ℤ)) (x y : ℤ) → takes kind coding ≡ true → set_fine kind coding items table set ≡ true → only_integer kind table ≡ true → has set x ≡ true → (if items.values then item_number items.items x else image_by table x) ≡ Some y → Special coding y
 special_by (Flag p q) Boolean items table set x y t s o h i =
-    let f = both_are (is_range (pos 0) (pos 1) set) (no_items items) s in
+    let f = and_parts (is_range (pos 0) (pos 1) set) (no_items items) s in
     let w = range_within (pos 0) (pos 1) set x f.0 h in
     let same = plain_image items.values items table x y (no_values items f.1) (no_table Boolean table o (λ e. cc)) i in
     rw (← same) (zero_or_one x w.0 w.1)
@@ -107,7 +104,7 @@ special_by (Flag p q) Integer items table set x y t s o h i = cc
 special_by (Flag p q) Enumerated items table set x y t s o h i = cc
 special_by (Flag p q) Null items table set x y t s o h i = cc
 special_by (Fixed pattern) Null items table set x y t s o h i =
-    let f = both_are (is_range (pos 0) (pos 0) set) (no_items items) s in
+    let f = and_parts (is_range (pos 0) (pos 0) set) (no_items items) s in
     let w = range_within (pos 0) (pos 0) set x f.0 h in
     let same = plain_image items.values items table x y (no_values items f.1) (no_table Null table o (λ e. cc)) i in
     rw (← same) (none_else x w.0 w.1)

@@ -15,15 +15,13 @@ use Rattle.acn_grammar.specs.LeafFails.{short, too_long, bad_character, size_out
 use Rattle.acn_grammar.specs.Leaves.{sizes_fine, end_fine, width_fine, rule_fine, no_size, is_terminator, is_pattern}
 use Rattle.acn_grammar.specs.Spell.{CharactersPart, EndsFirst, octet_numbers, EndedPart}
 use Rattle.acn_grammar.specs.declared.node.TextLeaf.{TextLeaf}
-use Rattle.acn_grammar.proofs.Codings.{both_are, not_is, equal_numbers}
 use Rattle.acn_packet_laws.proofs.Envs.{FrontOf, Stuck, says, in_or_not, size_total}
 use Rattle.acn_packet_laws.proofs.LeafTotal.{less_or_not, octets_whole}
 use Rattle.acn_packet_laws.proofs.NodeParts.{TextTotal}
-use Rattle.acn_packet_laws.proofs.Placed.{same_name-is}
-use Rattle.acn_packet_laws.proofs.PrefixNodes.{same_name-refl}
 use Rattle.acn_packet_laws.proofs.TextLaws.{characters_octets, whole_octets}
 use Rattle.acn_packet_laws.proofs.TextTotal.{chars_total, one_char, Result, sized_total}
 use Rattle.acn_grammar.proofs.Characters.{same_name-is, same_name-refl}
+use Rattle.std.proofs.lemmas.Bool.{and_parts, not-true, eqb-true}
 
 -- The first place that passes.
 
@@ -192,16 +190,16 @@ pub text_total : TextTotal
 text_total root here leaf fine ks keys known within env good at rest = by leaf.ended refl
   where
     p : (sizes_fine leaf.sized.sizes ≡ true) × ((nat_lt 0 (length leaf.alphabet) && (are_ranges leaf.alphabet && (all_within (pos 0) (pos 127) leaf.alphabet && end_fine leaf.ended leaf))) ≡ true)
-    p = both_are (sizes_fine leaf.sized.sizes) (nat_lt 0 (length leaf.alphabet) && (are_ranges leaf.alphabet && (all_within (pos 0) (pos 127) leaf.alphabet && end_fine leaf.ended leaf))) fine
+    p = and_parts (sizes_fine leaf.sized.sizes) (nat_lt 0 (length leaf.alphabet) && (are_ranges leaf.alphabet && (all_within (pos 0) (pos 127) leaf.alphabet && end_fine leaf.ended leaf))) fine
 
     q : (nat_lt 0 (length leaf.alphabet) ≡ true) × ((are_ranges leaf.alphabet && (all_within (pos 0) (pos 127) leaf.alphabet && end_fine leaf.ended leaf)) ≡ true)
-    q = both_are (nat_lt 0 (length leaf.alphabet)) (are_ranges leaf.alphabet && (all_within (pos 0) (pos 127) leaf.alphabet && end_fine leaf.ended leaf)) p.1
+    q = and_parts (nat_lt 0 (length leaf.alphabet)) (are_ranges leaf.alphabet && (all_within (pos 0) (pos 127) leaf.alphabet && end_fine leaf.ended leaf)) p.1
 
     s : (are_ranges leaf.alphabet ≡ true) × ((all_within (pos 0) (pos 127) leaf.alphabet && end_fine leaf.ended leaf) ≡ true)
-    s = both_are (are_ranges leaf.alphabet) (all_within (pos 0) (pos 127) leaf.alphabet && end_fine leaf.ended leaf) q.1
+    s = and_parts (are_ranges leaf.alphabet) (all_within (pos 0) (pos 127) leaf.alphabet && end_fine leaf.ended leaf) q.1
 
     u : (all_within (pos 0) (pos 127) leaf.alphabet ≡ true) × (end_fine leaf.ended leaf ≡ true)
-    u = both_are (all_within (pos 0) (pos 127) leaf.alphabet) (end_fine leaf.ended leaf) s.1
+    u = and_parts (all_within (pos 0) (pos 127) leaf.alphabet) (end_fine leaf.ended leaf) s.1
 
     two : (a b : Bool) → a ≡ true → b ≡ true → (a && b) ≡ true
     two true b h k = k
@@ -212,13 +210,13 @@ text_total root here leaf fine ks keys known within env good at rest = by leaf.e
 
     by : (end : Option (List Bool)) → leaf.ended ≡ end → ((cs : List ℕ) × FrontOf (EndedPart leaf.ended leaf env cs) at rest) ⊎ Stuck (TextFails here leaf.ended leaf env) at rest
     by None e =
-        let v = both_are (rule_fine leaf.sized.sizes leaf.sized.rule) (width_fine leaf) (ap (λ z. end_fine z leaf) (sym e) ∙ u.1) in
+        let v = and_parts (rule_fine leaf.sized.sizes leaf.sized.rule) (width_fine leaf) (ap (λ z. end_fine z leaf) (sym e) ∙ u.1) in
         subst (λ (z : Option (List Bool)). ((cs : List ℕ) × FrontOf (EndedPart z leaf env cs) at rest) ⊎ Stuck (TextFails here z leaf env) at rest) (sym e)
         (sized_total here leaf u.0 (one_char leaf q.0 s.0 u.0 v.1) env at rest (size_total root here leaf.sized (two (sizes_fine leaf.sized.sizes) (rule_fine leaf.sized.sizes leaf.sized.rule) p.0 v.0) ks keys known within env good at rest))
     by (Some end) e =
-        let v = both_are (no_size leaf.sized.rule) (nat_eq leaf.width 8 && (not leaf.indexed && is_terminator end)) (ap (λ z. end_fine z leaf) (sym e) ∙ u.1) in
-        let w = both_are (nat_eq leaf.width 8) (not leaf.indexed && is_terminator end) v.1 in
-        let x = both_are (not leaf.indexed) (is_terminator end) w.1 in
-        let y = both_are (is_pattern end) (nat_eq (length end % 8) 0) x.1 in
+        let v = and_parts (no_size leaf.sized.rule) (nat_eq leaf.width 8 && (not leaf.indexed && is_terminator end)) (ap (λ z. end_fine z leaf) (sym e) ∙ u.1) in
+        let w = and_parts (nat_eq leaf.width 8) (not leaf.indexed && is_terminator end) v.1 in
+        let x = and_parts (not leaf.indexed) (is_terminator end) w.1 in
+        let y = and_parts (is_pattern end) (nat_eq (length end % 8) 0) x.1 in
         subst (λ (z : Option (List Bool)). ((cs : List ℕ) × FrontOf (EndedPart z leaf env cs) at rest) ⊎ Stuck (TextFails here z leaf env) at rest) (sym e)
-        (ended_total here leaf end (equal_numbers leaf.width 8 w.0) (not_is leaf.indexed x.0) u.0 (some_bits end y.0) (eights (length end) (equal_numbers (length end % 8) 0 y.1)) env at rest)
+        (ended_total here leaf end (eqb-true leaf.width 8 w.0) (not-true leaf.indexed x.0) u.0 (some_bits end y.0) (eights (length end) (eqb-true (length end % 8) 0 y.1)) env at rest)

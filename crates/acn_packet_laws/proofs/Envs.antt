@@ -1,6 +1,6 @@
 -- Envs whose numbers move: the same slots, other permitted numbers.
 use Rattle.std.proofs.Common.{◌≡◌, ℕ, suc, ◌+◌, ◌<◌, ◌≤◌, ℤ, pos, negsuc, Bool, true, false, not, ◌&&◌, ◌||◌, List, [], ◌∷◌, ◌++◌, length, take, drop, Option, Some, None, refl, sym, ap, ◌∙◌, arith, inl, inr, ◌⊎◌, nat_eq, subst, take-append-drop}
-use Rattle.std.proofs.lemmas.Bool.{or_left, or_parts, or_right}
+use Rattle.std.proofs.lemmas.Bool.{or_left, or_parts, or_right, and_parts, eqb-true}
 use Rattle.std.specs.Prelude.{if◌then◌else◌, ◌<ℤ◌, ◌≤ℤ◌, int_le}
 use Rattle.std.specs.List.{zip, AllByRecursion}
 use Rattle.std.proofs.lemmas.Int.{ints}
@@ -19,7 +19,6 @@ use Rattle.acn_grammar.specs.Tree.{holds}
 use Rattle.acn_grammar.specs.declared.node.Sizing.{Sizing}
 use Rattle.acn_grammar.specs.declared.node.SizeRule.{SizeRule}
 use Rattle.acn_grammar.specs.declared.node.SizeRule.TheVariants.{Prefix, Slot, Ended}
-use Rattle.acn_grammar.proofs.Codings.{both_are, equal_numbers}
 use Rattle.acn_packet_laws.proofs.LeafTotal.{less_or_not}
 use Rattle.acn_packet_laws.proofs.Moves.{or_either, self_eq}
 
@@ -191,8 +190,8 @@ module _ (root : Grammar) where
         now = (e.0, y) ∷ env;
         same = (refl, keys_self env);
         is = ap (λ (b : Bool). if b then Some y else at_slot env s) q;
-        rest = λ t n. one (nat_eq e.0 t) (at_slot env t) (at_slot env t) (ap (λ (z : ℕ). nat_eq z t) (equal_numbers e.0 s q) ∙ n) refl (Some e.1) (Some y);
-        permitted = λ p i. (subst (λ (z : ℕ). In (domain_of root z) y) (sym (equal_numbers e.0 s q)) i, p.1);
+        rest = λ t n. one (nat_eq e.0 t) (at_slot env t) (at_slot env t) (ap (λ (z : ℕ). nat_eq z t) (eqb-true e.0 s q) ∙ n) refl (Some e.1) (Some y);
+        permitted = λ p i. (subst (λ (z : ℕ). In (domain_of root z) y) (sym (eqb-true e.0 s q)) i, p.1);
       }
       by false q f =
           let u = f refl in
@@ -272,19 +271,19 @@ pub record ASize (sizing : Sizing) (env : Env) (at : ℕ) (rest : List Bool) : T
 below_zero : (rs : List (ℤ × ℤ)) (k : ℕ) → all_within (pos 0) (pos 65536) rs ≡ true → has rs (negsuc k) ≡ true → ⊥
 below_zero [] k h p = cc
 below_zero (r ∷ rs) k h p =
-    let f = both_are (int_le (pos 0) r.0) (int_le r.1 (pos 65536) && all_within (pos 0) (pos 65536) rs) h in
-    each f.0 (or_either (int_le r.0 (negsuc k) && int_le (negsuc k) r.1) (has rs (negsuc k)) p) (λ q. below_zero rs k (both_are (int_le r.1 (pos 65536)) (all_within (pos 0) (pos 65536) rs) f.1).1 q)
+    let f = and_parts (int_le (pos 0) r.0) (int_le r.1 (pos 65536) && all_within (pos 0) (pos 65536) rs) h in
+    each f.0 (or_either (int_le r.0 (negsuc k) && int_le (negsuc k) r.1) (has rs (negsuc k)) p) (λ q. below_zero rs k (and_parts (int_le r.1 (pos 65536)) (all_within (pos 0) (pos 65536) rs) f.1).1 q)
   where
     clash : (a : ℤ) → int_le (pos 0) a ≡ true → int_le a (negsuc k) ≡ true → ⊥
     clash a h g = absurd (grind (arith, ints, Rattle.std.proofs.lemmas.Bool.Decides.nat_tests))
 
     each : int_le (pos 0) r.0 ≡ true → ((int_le r.0 (negsuc k) && int_le (negsuc k) r.1) ≡ true) ⊎ (has rs (negsuc k) ≡ true) → (has rs (negsuc k) ≡ true → ⊥) → ⊥
-    each low (inl q) f = clash r.0 low (both_are (int_le r.0 (negsuc k)) (int_le (negsuc k) r.1) q).0
+    each low (inl q) f = clash r.0 low (and_parts (int_le r.0 (negsuc k)) (int_le (negsuc k) r.1) q).0
     each low (inr q) f = f q
 
 module _ (root : Grammar) where
   pub size_total : (here : Here) (sizing : Sizing) → sizing_fine sizing ≡ true → (ks keys : Known) → RuleIn ks sizing.rule → ((s : ℕ) → ks s ≡ true → keys s ≡ true) → (env : Env) → Good root keys env → (at : ℕ) (rest : List Bool) → ASize sizing env at rest ⊎ Stuck (SizeFails here sizing env) at rest
-  size_total here sizing fine ks keys known within env g at rest = by sizing.rule refl known (both_are (sizes_fine sizing.sizes) (rule_fine sizing.sizes sizing.rule) fine)
+  size_total here sizing fine ks keys known within env g at rest = by sizing.rule refl known (and_parts (sizes_fine sizing.sizes) (rule_fine sizing.sizes sizing.rule) fine)
     where
       Goal : Type 0
       Goal = ASize sizing env at rest ⊎ Stuck (RuleFails here sizing sizing.rule env) at rest
@@ -305,7 +304,7 @@ module _ (root : Grammar) where
       slot : (s : ℕ) → sizing.rule ≡ Slot s → (x : ℤ) → at_slot env s ≡ Some x → In sizing.sizes x ⊎ (In sizing.sizes x → ⊥) → sizes_fine sizing.sizes ≡ true → Goal
       slot s e (pos n) h (inl i) f = given (Slot s) e n [] rest refl i (h, refl)
       slot s e (negsuc n) h (inl i) f =
-          absurd (below_zero sizing.sizes n (both_are (are_ranges sizing.sizes) (all_within (pos 0) (pos 65536) sizing.sizes) (both_are (Rattle.std.specs.Prelude.nat_lt 0 (length sizing.sizes)) (are_ranges sizing.sizes && all_within (pos 0) (pos 65536) sizing.sizes) f).1).1 i)
+          absurd (below_zero sizing.sizes n (and_parts (are_ranges sizing.sizes) (all_within (pos 0) (pos 65536) sizing.sizes) (and_parts (Rattle.std.specs.Prelude.nat_lt 0 (length sizing.sizes)) (are_ranges sizing.sizes && all_within (pos 0) (pos 65536) sizing.sizes) f).1).1 i)
       slot s e x h (inr i) f = failed (Slot s) e (says here (size_out_of_range (kept x))) 0 (x, h, i, refl, refl)
 
       by : (rule : SizeRule) → sizing.rule ≡ rule → RuleIn ks sizing.rule → (sizes_fine sizing.sizes ≡ true) × (rule_fine sizing.sizes sizing.rule ≡ true) → Goal

@@ -16,16 +16,10 @@ use Rattle.acn_grammar.specs.Leaves.{coding_fine, can_write, can_be_little, impl
 use Rattle.acn_grammar.specs.Length.{fits_octets}
 use Rattle.acn_grammar.specs.declared.node.NumCoding.{NumCoding}
 use Rattle.acn_grammar.specs.declared.node.NumCoding.TheVariants.{Range, CountedFrom, CountedSigned, PosInt, Twos, Bcd, BcdEnded, Ascii, AsciiEnded, Flag, Fixed}
-use Rattle.acn_grammar.proofs.Codings.{both_are, equal_numbers}
-use Rattle.acn_grammar.proofs.Counts.{number_bits, signed_bits, signed_of_octets, code_fits, le_is}
+use Rattle.acn_grammar.proofs.Counts.{number_bits, signed_bits, signed_of_octets, code_fits}
 use Rattle.acn_grammar.proofs.LeafLengths.{Limits, le_fact, lt_fact, eq_fact, nibbles-length, digit_octets-length}
 use Rattle.acn_grammar.proofs.Numbers.{number-below}
-
-lt_is : (a b : ℕ) → nat_lt a b ≡ true → a < b
-lt_is a b h = grind (arith, nat_tests)
-
-lt_true : (a b : ℕ) → a < b → nat_lt a b ≡ true
-lt_true a b h = grind (arith, nat_tests)
+use Rattle.std.proofs.lemmas.Bool.{ltb-true, lt-ltb, and_parts, eqb-true, leb-true}
 
 -- The least positive number that passes.
 
@@ -67,8 +61,8 @@ least_of p n h = search_from p n 1 (λ m q r. absurd (omega arith)) (omega arith
 
 pub counted_code : (k : ℕ) → k < 2 ^ 64 → (bs : List Bool) × Counted (λ c body. IsNumber (8 * c) k body) bs
 counted_code k h =
-    let l = least_of (λ c. nat_lt k (2 ^ (8 * c))) 7 (lt_true k (2 ^ 64) h) in
-    let few = l.least 8 (omega arith) (lt_true k (2 ^ 64) h) in
+    let l = least_of (λ c. nat_lt k (2 ^ (8 * c))) 7 (lt-ltb k (2 ^ 64) h) in
+    let few = l.least 8 (omega arith) (lt-ltb k (2 ^ 64) h) in
     let body = low_bits (8 * l.count) k in (
       low_bits 8 l.count ++ body,
       record {
@@ -77,9 +71,9 @@ counted_code k h =
         body = body;
         whole = refl;
         counts = number_bits 8 l.count (omega arith);
-        spells = number_bits (8 * l.count) k (lt_is k (2 ^ (8 * l.count)) l.passes);
+        spells = number_bits (8 * l.count) k (ltb-true k (2 ^ (8 * l.count)) l.passes);
         positive = l.positive;
-        least = λ c other p s. l.least c p (lt_true k (2 ^ (8 * c)) (below c other s));
+        least = λ c other p s. l.least c p (lt-ltb k (2 ^ (8 * c)) (below c other s));
       },
     )
   where
@@ -151,7 +145,7 @@ swapped k bs l =
     (omega arith, ap (λ os. flat_map (λ x. x) (reverse os)) (in_flat (reverse (in_octets bs)) back) ∙ (ap (flat_map (λ x. x)) (reverse-back (in_octets bs)) ∙ o.0))
 
 pub eight_of : (n : ℕ) → nat_eq (n % 8) 0 ≡ true → n ≡ 8 * (n / 8)
-eight_of n h = let e = equal_numbers (n % 8) 0 h in omega arith
+eight_of n h = let e = eqb-true (n % 8) 0 h in omega arith
 
 -- bits that stand for these in either order
 ordered : (little : Bool) (n : ℕ) (bs : List Bool) → length bs ≡ n → (little ≡ true → nat_eq (n % 8) 0 ≡ true) → (cs : List Bool) × (length cs ≡ n) × (in_order little cs ≡ bs)
@@ -207,11 +201,11 @@ minimal_digits (suc (suc n)) k p h = positive (k / 10 ^ suc n) refl
 
 minimal_of : (k : ℕ) → k < 10 ^ 20 → (ds : List ℕ) × AreDigits k ds × IsMinimal ds
 minimal_of k h =
-    let l = least_of (λ m. nat_lt k (10 ^ m)) 19 (lt_true k (10 ^ 20) h) in (
+    let l = least_of (λ m. nat_lt k (10 ^ m)) 19 (lt-ltb k (10 ^ 20) h) in (
       digits_of l.count k,
-      digits_of-are l.count k (lt_is k (10 ^ l.count) l.passes),
+      digits_of-are l.count k (ltb-true k (10 ^ l.count) l.passes),
       minimal_digits l.count k l.positive (λ more. elim (dec_lt k (10 ^ (l.count - 1))) [
-        | yes q ↦ (let e = l.least (l.count - 1) (omega arith) (lt_true k (10 ^ (l.count - 1)) q) in absurd (omega arith))
+        | yes q ↦ (let e = l.least (l.count - 1) (omega arith) (lt-ltb k (10 ^ (l.count - 1)) q) in absurd (omega arith))
         | no q ↦ omega arith
       ]),
     )
@@ -239,7 +233,7 @@ opposite-other (false ∷ p) h e = cc
 
 other_pattern : (mode : Mode) (p : List Bool) → is_pattern p ≡ true → OtherPattern mode p (opposite p)
 other_pattern Written p h = refl
-other_pattern Any p h = (opposite-long p, opposite-other p (le_is 1 (length p) (both_are (nat_le 1 (length p)) (nat_le (length p) 64) h).0))
+other_pattern Any p h = (opposite-long p, opposite-other p (leb-true 1 (length p) (and_parts (nat_le 1 (length p)) (nat_le (length p) 64) h).0))
 
 flag_code : (mode : Mode) (p q : Option (List Bool)) (y : ℤ) → flag_patterns_fine p q ≡ true → (y ≡ pos 0) ⊎ (y ≡ pos 1) → (bs : List Bool) × FlagCode mode p q y bs
 flag_code mode None None y f (inl e) = (false ∷ [], (0, e, record { width = refl; value = refl }))
@@ -258,12 +252,12 @@ Special (Fixed pattern) y = y ≡ pos 0
 Special _ y = Unit {0}
 
 whole_width : (n : ℕ) (t : Bool) → (t && nat_eq (n % 8) 0) ≡ true → n ≡ 8 * (n / 8)
-whole_width n t h = eight_of n (both_are t (nat_eq (n % 8) 0) h).1
+whole_width n t h = eight_of n (and_parts t (nat_eq (n % 8) 0) h).1
 
 pub has_code : (mode : Mode) (coding : NumCoding) (little : Bool) (e : ℤ × ℤ) (y : ℤ) → coding_fine coding ≡ true → implies little (can_be_little coding) ≡ true → can_write coding e ≡ true → e.0 ≤ℤ y → y ≤ℤ e.1 → Limits coding y → Special coding y
     → (bs : List Bool) × CodingCode mode coding little y bs
 has_code mode (Range low width) little e y f o w a b l s =
-    let g = both_are (int_eq low e.0) (is_least_width (distance e.0 e.1) width) w in
+    let g = and_parts (int_eq low e.0) (is_least_width (distance e.0 e.1) width) w in
     let same = eq_fact low e.0 g.0 in
     let k = nat_abs (y -ℤ low) in
     let far : nat_abs (y -ℤ low) ≤ distance e.0 e.1 = omega (arith, ints) in
@@ -272,7 +266,7 @@ has_code mode (Range low width) little e y f o w a b l s =
     (low_bits width k, (k, is, number_bits width k (omega arith)))
   where
     least_wide : (n w : ℕ) → is_least_width n w ≡ true → n < 2 ^ w
-    least_wide n w h = lt_is n (2 ^ w) (both_are (nat_lt n (2 ^ w)) (Rattle.std.proofs.Common.◌||◌ (nat_eq w 0) (nat_le (2 ^ (w - 1)) n)) h).0
+    least_wide n w h = ltb-true n (2 ^ w) (and_parts (nat_lt n (2 ^ w)) (Rattle.std.proofs.Common.◌||◌ (nat_eq w 0) (nat_le (2 ^ (w - 1)) n)) h).0
 has_code mode (CountedFrom low) little e y f o w a b l s =
     let same = eq_fact low e.0 w in
     let is : y ≡ low +ℤ pos (nat_abs (y -ℤ low)) = omega (arith, ints) in
@@ -280,7 +274,7 @@ has_code mode (CountedFrom low) little e y f o w a b l s =
     (c.0, (nat_abs (y -ℤ low), is, c.1))
 has_code mode CountedSigned little e y f o w a b l s = counted_signed_code y l
 has_code mode (PosInt n) little e y f o w a b l s =
-    let g = both_are (int_le (pos 0) e.0) (int_lt e.1 (pos (2 ^ n))) w in
+    let g = and_parts (int_le (pos 0) e.0) (int_lt e.1 (pos (2 ^ n))) w in
     let low = le_fact (pos 0) e.0 g.0 in
     let high = lt_fact e.1 (pos (2 ^ n)) g.1 in
     let is = natural y (omega (arith, ints)) in
@@ -289,11 +283,11 @@ has_code mode (PosInt n) little e y f o w a b l s =
     let d = ordered little n (low_bits n (nat_abs y)) c.width (implied little (nat_eq (n % 8) 0) o) in
     (d.0, (d.1, is ∙ ap (λ k. pos k) (sym c.value ∙ ap number (sym d.2))))
 has_code mode (Twos n) little e y f o w a b l s =
-    let g = both_are (int_le (neg_ℤ (pos (2 ^ (n - 1)))) e.0) (int_lt e.1 (pos (2 ^ (n - 1)))) w in
+    let g = and_parts (int_le (neg_ℤ (pos (2 ^ (n - 1)))) e.0) (int_lt e.1 (pos (2 ^ (n - 1)))) w in
     let low = le_fact (neg_ℤ (pos (2 ^ (n - 1)))) e.0 g.0 in
     let high = lt_fact e.1 (pos (2 ^ (n - 1))) g.1 in
     let c = signed_bits (n - 1) y (trans_le _ _ _ low a) (trans_lt _ _ _ b high) in
-    let some = le_is 1 n (both_are (nat_le 1 n) (nat_le n 64) f).0 in
+    let some = leb-true 1 n (and_parts (nat_le 1 n) (nat_le n 64) f).0 in
     let long : suc (n - 1) ≡ n = omega arith in
     let d = ordered little n c.0 (c.1.width ∙ long) (implied little (nat_eq (n % 8) 0) o) in
     (d.0, (d.1, sym c.1.value ∙ ap signed_number (sym d.2)))
@@ -304,23 +298,23 @@ has_code mode (Twos n) little e y f o w a b l s =
     trans_lt : (a b c : ℤ) → a ≤ℤ b → b <ℤ c → a <ℤ c
     trans_lt a b c h k = omega (arith, ints)
 has_code mode (Bcd n) little e y f o w a b l s =
-    let g = both_are (int_le (pos 0) e.0) (int_lt e.1 (pos (10 ^ (n / 4)))) w in
+    let g = and_parts (int_le (pos 0) e.0) (int_lt e.1 (pos (10 ^ (n / 4)))) w in
     let low = le_fact (pos 0) e.0 g.0 in
     let high = lt_fact e.1 (pos (10 ^ (n / 4))) g.1 in
     let is = natural y (omega (arith, ints)) in
     let small : nat_abs y < 10 ^ (n / 4) = omega (arith, ints) in
-    let whole = equal_numbers (n % 4) 0 (both_are (nat_le 4 n && nat_le n 76) (nat_eq (n % 4) 0) f).1 in
+    let whole = eqb-true (n % 4) 0 (and_parts (nat_le 4 n && nat_le n 76) (nat_eq (n % 4) 0) f).1 in
     let ds = digits_of (n / 4) (nat_abs y) in
     let long = nibbles-length (digits_of (n / 4) (nat_abs y)) in
     let many = digits_of-length (n / 4) (nat_abs y) in
     (nibbles ds, (nat_abs y, is, omega arith, record { digits = ds; spell = digits_of-are (n / 4) (nat_abs y) small; whole = sym (append-nil (nibbles ds)) }))
 has_code mode BcdEnded little e y f o w a b l s =
-    let g = both_are (int_le (pos 0) e.0) (int_lt e.1 (pos (2 ^ 64))) w in
+    let g = and_parts (int_le (pos 0) e.0) (int_lt e.1 (pos (2 ^ 64))) w in
     let low = le_fact (pos 0) e.0 g.0 in
     let m = minimal_of (nat_abs y) l in
     (nibbles m.0 ++ low_bits 4 15, (nat_abs y, natural y (omega (arith, ints)), record { digits = m.0; spell = m.1; minimal = m.2; whole = refl }))
 has_code mode (Ascii n false) little e y f o w a b l s =
-    let g = both_are (int_le (pos 0) e.0) (int_lt e.1 (pos (10 ^ (n / 8)))) w in
+    let g = and_parts (int_le (pos 0) e.0) (int_lt e.1 (pos (10 ^ (n / 8)))) w in
     let low = le_fact (pos 0) e.0 g.0 in
     let high = lt_fact e.1 (pos (10 ^ (n / 8))) g.1 in
     let is = natural y (omega (arith, ints)) in
@@ -331,12 +325,12 @@ has_code mode (Ascii n false) little e y f o w a b l s =
     let many = digits_of-length (n / 8) (nat_abs y) in
     (digit_octets ds, (nat_abs y, [], (is, refl), omega arith, record { digits = ds; spell = digits_of-are (n / 8) (nat_abs y) small; whole = sym (append-nil (digit_octets ds)) }))
 has_code mode (Ascii n true) little e y f o w a b l s =
-    let g = both_are (int_lt (neg_ℤ (pos (10 ^ (n / 8 - 1)))) e.0) (int_lt e.1 (pos (10 ^ (n / 8 - 1)))) w in
+    let g = and_parts (int_lt (neg_ℤ (pos (10 ^ (n / 8 - 1)))) e.0) (int_lt e.1 (pos (10 ^ (n / 8 - 1)))) w in
     let low = lt_fact (neg_ℤ (pos (10 ^ (n / 8 - 1)))) e.0 g.0 in
     let high = lt_fact e.1 (pos (10 ^ (n / 8 - 1))) g.1 in
     let small = magnitude_below (10 ^ (n / 8 - 1)) e.0 e.1 y low high a b in
     let whole = whole_width n (nat_le 16 n && nat_le n 152) f in
-    let wide = le_is 16 n (both_are (nat_le 16 n) (nat_le n 152) (both_are (nat_le 16 n && nat_le n 152) (nat_eq (n % 8) 0) f).0).0 in
+    let wide = leb-true 16 n (and_parts (nat_le 16 n) (nat_le n 152) (and_parts (nat_le 16 n && nat_le n 152) (nat_eq (n % 8) 0) f).0).0 in
     let sign = sign_of true y (λ q. cc) in
     let ds = digits_of (n / 8 - 1) (nat_abs y) in
     let long = digit_octets-length (digits_of (n / 8 - 1) (nat_abs y)) in
@@ -358,6 +352,6 @@ has_code mode (AsciiEnded end signed) little e y f o w a b l s =
   where
     never_negative : (end : List Bool) (signed : Bool) (e : ℤ × ℤ) (y : ℤ) → signed ≡ false → can_write (AsciiEnded end signed) e ≡ true → e.0 ≤ℤ y → pos 0 ≤ℤ y
     never_negative end true e y q w a = cc
-    never_negative end false e y q w a = let low = le_fact (pos 0) e.0 (both_are (int_le (pos 0) e.0) (int_lt e.1 (pos (2 ^ 64))) w).0 in omega (arith, ints)
+    never_negative end false e y q w a = let low = le_fact (pos 0) e.0 (and_parts (int_le (pos 0) e.0) (int_lt e.1 (pos (2 ^ 64))) w).0 in omega (arith, ints)
 has_code mode (Flag p q) little e y f o w a b l s = flag_code mode p q y f s
 has_code mode (Fixed pattern) little e y f o w a b l s = (pattern, (s, refl))

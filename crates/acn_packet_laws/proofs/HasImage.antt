@@ -1,6 +1,6 @@
 -- Every permitted number of a leaf that keeps its rules has an image.
 use Rattle.std.proofs.Common.{◌≡◌, ℕ, suc, ◌+◌, ◌<◌, ◌≤◌, ℤ, pos, ◌+ℤ◌, Bool, true, false, not, List, [], ◌∷◌, ◌++◌, Option, Some, None, refl, sym, ap, ◌∙◌, arith, inl, inr, ◌⊎◌, nat_eq, ◌&&◌}
-use Rattle.std.proofs.lemmas.Bool.{or_parts}
+use Rattle.std.proofs.lemmas.Bool.{or_parts, and_parts, not-true, eqb-true}
 use Rattle.std.specs.Prelude.{◌-ℤ◌, ◌≤ℤ◌, ◌<ℤ◌, int_le, int_lt, nat_abs, if◌then◌else◌}
 use Rattle.std.specs.Int.{int_max, int_min}
 use Rattle.std.specs.List.{list_all, list_any, flat_map}
@@ -12,7 +12,6 @@ use Rattle.acn_grammar.specs.Images.{clipped, images_by}
 use Rattle.acn_grammar.specs.Leaves.{line_fine, share, all_differ, table_fine, has_size}
 use Rattle.acn_grammar.specs.declared.node.NumCoding.{NumCoding}
 use Rattle.acn_grammar.specs.declared.node.Table.{Table}
-use Rattle.acn_grammar.proofs.Codings.{both_are, not_is, equal_numbers}
 use Rattle.acn_grammar.proofs.LeafLengths.{le_fact}
 use Rattle.acn_grammar.proofs.Texts.{either}
 
@@ -141,13 +140,13 @@ keys_few (l ∷ ls) a b h =
     by (int_le (int_max a l.0) (int_min b l.1)) refl (keys_few ls a b f.1) (keys_few ls a (int_max a l.0 -ℤ pos 1) f.1) (keys_few ls (int_min b l.1 +ℤ pos 1) b f.1)
   where
     f : (not (list_any (share l) ls) ≡ true) × (all_differ share ls ≡ true)
-    f = both_are (not (list_any (share l) ls)) (all_differ share ls) h
+    f = and_parts (not (list_any (share l) ls)) (all_differ share ls) h
 
     by : (t : Bool) → int_le (int_max a l.0) (int_min b l.1) ≡ t → total a b ls ≤ span_of a b → total a (int_max a l.0 -ℤ pos 1) ls ≤ span_of a (int_max a l.0 -ℤ pos 1) → total (int_min b l.1 +ℤ pos 1) b ls ≤ span_of (int_min b l.1 +ℤ pos 1) b
         → total a b (l ∷ ls) ≤ span_of a b
     by true e whole low high =
         let inside = le_fact (int_max a l.0) (int_min b l.1) e in
-        let two = split_all a b (int_max a l.0) (int_min b l.1) l ls (max_left a l.0) (max_right a l.0) (min_left b l.1) (min_right b l.1) inside (not_is (list_any (share l) ls) f.0) in
+        let two = split_all a b (int_max a l.0) (int_min b l.1) l ls (max_left a l.0) (max_right a l.0) (min_left b l.1) (min_right b l.1) inside (not-true (list_any (share l) ls) f.0) in
         let sum = parts_sum a b (int_max a l.0) (int_min b l.1) _ _ _ _ (max_left a l.0) (min_left b l.1) inside refl refl refl refl in
         omega arith
     by false e whole low high = let none = span-none (int_max a l.0) (int_min b l.1) (le_not (int_max a l.0) (int_min b l.1) e) in omega arith
@@ -178,7 +177,7 @@ keys_fewer (l ∷ ls) a b x h n p q =
     (keys_few ls a (int_max a l.0 -ℤ pos 1) f.1) (keys_few ls (int_min b l.1 +ℤ pos 1) b f.1)
   where
     f : (not (list_any (share l) ls) ≡ true) × (all_differ share ls ≡ true)
-    f = both_are (not (list_any (share l) ls)) (all_differ share ls) h
+    f = and_parts (not (list_any (share l) ls)) (all_differ share ls) h
 
     m : (on_line l x ≡ false) × (image_in ls x ≡ None)
     m = no_line (on_line l x) (l.2 +ℤ (x -ℤ l.0)) (image_in ls x) n
@@ -191,13 +190,13 @@ keys_fewer (l ∷ ls) a b x h n p q =
     by false e side whole low high few many = let none = span-none (int_max a l.0) (int_min b l.1) (le_not (int_max a l.0) (int_min b l.1) e) in omega arith
     by true e (inl s) whole low high few many =
         let inside = le_fact (int_max a l.0) (int_min b l.1) e in
-        let two = split_all a b (int_max a l.0) (int_min b l.1) l ls (max_left a l.0) (max_right a l.0) (min_left b l.1) (min_right b l.1) inside (not_is (list_any (share l) ls) f.0) in
+        let two = split_all a b (int_max a l.0) (int_min b l.1) l ls (max_left a l.0) (max_right a l.0) (min_left b l.1) (min_right b l.1) inside (not-true (list_any (share l) ls) f.0) in
         let sum = parts_sum a b (int_max a l.0) (int_min b l.1) _ _ _ _ (max_left a l.0) (min_left b l.1) inside refl refl refl refl in
         let k = low (before (int_max a l.0) l.0 x (max_right a l.0) s) in
         omega arith
     by true e (inr s) whole low high few many =
         let inside = le_fact (int_max a l.0) (int_min b l.1) e in
-        let two = split_all a b (int_max a l.0) (int_min b l.1) l ls (max_left a l.0) (max_right a l.0) (min_left b l.1) (min_right b l.1) inside (not_is (list_any (share l) ls) f.0) in
+        let two = split_all a b (int_max a l.0) (int_min b l.1) l ls (max_left a l.0) (max_right a l.0) (min_left b l.1) (min_right b l.1) inside (not-true (list_any (share l) ls) f.0) in
         let sum = parts_sum a b (int_max a l.0) (int_min b l.1) _ _ _ _ (max_left a l.0) (min_left b l.1) inside refl refl refl refl in
         let k = high (behind (int_min b l.1) l.1 x (min_right b l.1) s) in
         omega arith
@@ -234,13 +233,13 @@ Ordered (r ∷ rs) = (r.0 ≤ℤ r.1) × Ordered rs
 ordered_above : (b : ℤ) (rs : List (ℤ × ℤ)) → are_ranges_above b rs ≡ true → Ordered rs
 ordered_above b [] h = tt
 ordered_above b (r ∷ rs) h =
-    let f = both_are (int_lt b r.0) (int_le r.0 r.1 && are_ranges_above (r.1 +ℤ pos 1) rs) h in
-    let g = both_are (int_le r.0 r.1) (are_ranges_above (r.1 +ℤ pos 1) rs) f.1 in
+    let f = and_parts (int_lt b r.0) (int_le r.0 r.1 && are_ranges_above (r.1 +ℤ pos 1) rs) h in
+    let g = and_parts (int_le r.0 r.1) (are_ranges_above (r.1 +ℤ pos 1) rs) f.1 in
     (le_fact r.0 r.1 g.0, ordered_above (r.1 +ℤ pos 1) rs g.1)
 
 pub ordered_ranges : (rs : List (ℤ × ℤ)) → are_ranges rs ≡ true → Ordered rs
 ordered_ranges [] h = tt
-ordered_ranges (r ∷ rs) h = let g = both_are (int_le r.0 r.1) (are_ranges_above (r.1 +ℤ pos 1) rs) h in (le_fact r.0 r.1 g.0, ordered_above (r.1 +ℤ pos 1) rs g.1)
+ordered_ranges (r ∷ rs) h = let g = and_parts (int_le r.0 r.1) (are_ranges_above (r.1 +ℤ pos 1) rs) h in (le_fact r.0 r.1 g.0, ordered_above (r.1 +ℤ pos 1) rs g.1)
 
 images_few : (ls : List Line) (rs : List (ℤ × ℤ)) → all_differ share ls ≡ true → Ordered rs → count (flat_map (λ r. flat_map (clipped r) ls) rs) ≤ count rs
 images_few ls [] h o = omega arith
@@ -261,7 +260,7 @@ images_fewer ls (r ∷ rs) x h o p n =
     let four = images_few ls rs h o.1 in
     let five = size-span r o.0 in
     either {F = count (flat_map (λ z. flat_map (clipped z) ls) (r ∷ rs)) < count (r ∷ rs)} (int_le r.0 x && int_le x r.1) (has rs x) p
-    (λ q. let w = both_are (int_le r.0 x) (int_le x r.1) q in let six = keys_fewer ls r.0 r.1 x h n (le_fact r.0 x w.0) (le_fact x r.1 w.1) in omega arith)
+    (λ q. let w = and_parts (int_le r.0 x) (int_le x r.1) q in let six = keys_fewer ls r.0 r.1 x h n (le_fact r.0 x w.0) (le_fact x r.1 w.1) in omega arith)
     (λ q. let six = images_fewer ls rs x h o.1 q n in omega arith)
 
 in_table : (ls : List Line) (rs : List (ℤ × ℤ)) (x : ℤ) → all_differ share ls ≡ true → Ordered rs → has rs x ≡ true → count (flat_map (λ r. flat_map (clipped r) ls) rs) ≡ count rs → (y : ℤ) × (image_in ls x ≡ Some y)
@@ -274,7 +273,7 @@ in_table ls rs x h o p e = by (image_in ls x) refl
 pub by_table : (coding : NumCoding) (set : List (ℤ × ℤ)) (table : Option Table) (x : ℤ) → table_fine coding set table ≡ true → Ordered set → has set x ≡ true → (y : ℤ) × (image_by table x ≡ Some y)
 by_table coding set None x h o p = (x, refl)
 by_table coding set (Some table) x h o p =
-    let a = both_are (has_size coding) (list_all line_fine table.lines && (all_differ share table.lines && nat_eq (count (images_by (Some table) set)) (count set))) h in
-    let b = both_are (list_all line_fine table.lines) (all_differ share table.lines && nat_eq (count (images_by (Some table) set)) (count set)) a.1 in
-    let c = both_are (all_differ share table.lines) (nat_eq (count (images_by (Some table) set)) (count set)) b.1 in
-    in_table table.lines set x c.0 o p (equal_numbers (count (images_by (Some table) set)) (count set) c.1)
+    let a = and_parts (has_size coding) (list_all line_fine table.lines && (all_differ share table.lines && nat_eq (count (images_by (Some table) set)) (count set))) h in
+    let b = and_parts (list_all line_fine table.lines) (all_differ share table.lines && nat_eq (count (images_by (Some table) set)) (count set)) a.1 in
+    let c = and_parts (all_differ share table.lines) (nat_eq (count (images_by (Some table) set)) (count set)) b.1 in
+    in_table table.lines set x c.0 o p (eqb-true (count (images_by (Some table) set)) (count set) c.1)

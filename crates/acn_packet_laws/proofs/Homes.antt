@@ -1,6 +1,6 @@
 -- Each slot of an accepted tree is at home round its field.
 use Rattle.std.proofs.Common.{◌≡◌, ℕ, suc, ◌+◌, ◌≤◌, Bool, true, false, not, List, [], ◌∷◌, ◌++◌, map, refl, ap, ◌∙◌, arith, inl, inr, ◌⊎◌, nat_eq}
-use Rattle.std.proofs.lemmas.Bool.{and_from, or_left, or_right}
+use Rattle.std.proofs.lemmas.Bool.{and_from, or_left, or_right, and_parts, eqb-true}
 use Rattle.std.specs.Prelude.{cond, filter, count_by}
 use Rattle.std.specs.List.{list_any, list_all, flat_map}
 use Rattle.std.proofs.lemmas.List.Sums.{sum_by-append, sum_by-cons}
@@ -8,7 +8,6 @@ use Rattle.acn_grammar.specs.Check.{CheckFault, unused, Undecodable}
 use Rattle.acn_grammar.specs.Grammar.{Grammar, Form, Fields, Alternatives, node, num, octets, bits, text, seq, list, choice, contained, no_fields, component, inserted, no_alternatives, alternative}
 use Rattle.acn_grammar.specs.Tree.{IsTree, holds, same_numbers, slots_of, is_slot, is_about, is_seq, encloses, is_home, near}
 use Rattle.acn_grammar.specs.Walk.{Stand, Role, a_component, an_inserted, an_alternative, an_element, a_content, root_node, nodes, nodes_of, form_nodes, field_nodes, alternative_nodes, slot_here, Use, slot_of, uses, inside}
-use Rattle.acn_grammar.proofs.Codings.{both_are, equal_numbers}
 use Rattle.acn_grammar.proofs.Texts.{either}
 use Rattle.acn_packet_laws.proofs.Overlaps.{contains_holds}
 use Rattle.acn_packet_laws.proofs.Placed.{any_left, any_right, any_either, holds_left, holds_right, holds_either, slots-field, list_all-holds, field_is, has_field, here_at, home_is, place_fine, to_fields, to_one, to_cases, first_component, next_component, first_inserted, next_inserted, first_case, next_case, root_place, is_number}
@@ -34,7 +33,7 @@ cond_rest false x s rest h = h
 filter_holds : (p : ℕ → Bool) (xs : List ℕ) (s : ℕ) → p s ≡ true → holds xs s ≡ true → holds (filter p xs) s ≡ true
 filter_holds p [] s k h = cc
 filter_holds p (x ∷ xs) s k h = either {F = holds (filter p (x ∷ xs)) s ≡ true} (nat_eq x s) (holds xs s) h
-    (λ q. cond_first (p x) x s (filter p xs) (ap p (equal_numbers x s q) ∙ k) q)
+    (λ q. cond_first (p x) x s (filter p xs) (ap p (eqb-true x s q) ∙ k) q)
     (λ q. cond_rest (p x) x s (filter p xs) (filter_holds p xs s k q))
 
 -- Uses in a list of nodes.
@@ -84,7 +83,7 @@ module _ (all : List Stand) (s : ℕ) where
         let c = sum_by-cons (λ y. cond (is_about s y) 1 0) here (form_nodes path around form) in
         either {F = count_by (is_about s) all ≤ count_by (is_about s) (nodes role path around (node align form))} (encloses all s here) (list_any (encloses all s) (form_nodes path around form)) h
         (λ q.
-        let e : count_by (is_about s) (form_nodes path around form) ≡ count_by (is_about s) all = equal_numbers (count_by (is_about s) (form_nodes path around form)) (count_by (is_about s) all) (both_are (is_seq form) (nat_eq (count_by (is_about s) (form_nodes path around form)) (count_by (is_about s) all)) q).1 in
+        let e : count_by (is_about s) (form_nodes path around form) ≡ count_by (is_about s) all = eqb-true (count_by (is_about s) (form_nodes path around form)) (count_by (is_about s) all) (and_parts (is_seq form) (nat_eq (count_by (is_about s) (form_nodes path around form)) (count_by (is_about s) all)) q).1 in
         omega arith)
         (λ q. let r = whole_form form path around q in omega arith)
 
@@ -126,7 +125,7 @@ module _ (root : Grammar) (tree : IsTree root) (sound : (f : CheckFault) → Und
       let fine = place_fine (nodes_of root) (numbers root tree sound) (rules root tree sound) pre role path around align (seq fields home) post p in
       out {F = IsHomed around (nodes role path around (node align (seq fields home))) s} h
       (λ o. holds_either {F = IsHomed around (nodes role path around (node align (seq fields home))) s} home around s o
-      (λ q. inr (or_left (encloses all s here) (list_any (encloses all s) inner) (both_are (encloses all s here) (not (list_any (encloses all s) inner)) (home_is (nodes_of root) (numbers root tree sound) (rules root tree sound) here fields home fine.home s q)).0))
+      (λ q. inr (or_left (encloses all s here) (list_any (encloses all s) inner) (and_parts (encloses all s here) (not (list_any (encloses all s) inner)) (home_is (nodes_of root) (numbers root tree sound) (rules root tree sound) here fields home fine.home s q)).0))
       (λ q. inl q))
       (λ q. inr (or_right (encloses all s here) (list_any (encloses all s) inner) q))
 
@@ -208,7 +207,7 @@ module _ (root : Grammar) (tree : IsTree root) (sound : (f : CheckFault) → Und
       (λ e. either {F = IsHomed (home ++ around) (field_nodes path (home ++ around) 0 fields) s} (encloses all s here) (list_any (encloses all s) inner) e
       (λ q. truth {F = IsHomed (home ++ around) (field_nodes path (home ++ around) 0 fields) s} (list_any (encloses all s) inner) (λ t. inr t) (λ t.
       let is = and_from (encloses all s here) (not (list_any (encloses all s) inner)) q (not_true (list_any (encloses all s) inner) t) in
-      let same = same_name-is home (filter (λ r. is_home all r here) (slots_of all)) (both_are (same_numbers home (filter (λ r. is_home all r here) (slots_of all))) (list_all (holds (near fields)) home) fine.home).0 in
+      let same = same_name-is home (filter (λ r. is_home all r here) (slots_of all)) (and_parts (same_numbers home (filter (λ r. is_home all r here) (slots_of all))) (list_all (holds (near fields)) home) fine.home).0 in
       inl (holds_left home around s (ap (λ l. holds l s) same ∙ filter_holds (λ r. is_home all r here) (slots_of all) s is (slots-field s all ∙ there)))))
       (λ q. inr q))
 
@@ -219,7 +218,7 @@ module _ (root : Grammar) (tree : IsTree root) (sound : (f : CheckFault) → Und
       out {F = IsHomed around (form_nodes path around form) s} (hm s (or_right (field_is s here) (has_field s (form_nodes path around form)) h))
       (λ o. inl o)
       (λ e. either {F = IsHomed around (form_nodes path around form) s} (encloses all s here) (list_any (encloses all s) (form_nodes path around form)) e
-      (λ q. let f = (both_are (is_seq form) (nat_eq (count_by (is_about s) (inside here)) (count_by (is_about s) all)) q).0 in cc)
+      (λ q. let f = (and_parts (is_seq form) (nat_eq (count_by (is_about s) (inside here)) (count_by (is_about s) all)) q).0 in cc)
       (λ q. inr q))
 
   total : (pre a b post : List Stand) → all ≡ pre ++ ((a ++ b) ++ post) → (s : ℕ) → count_by (is_about s) a + count_by (is_about s) b ≤ count_by (is_about s) all

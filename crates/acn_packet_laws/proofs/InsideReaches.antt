@@ -21,7 +21,6 @@ use Rattle.acn_grammar.specs.declared.node.Sizing.{Sizing}
 use Rattle.acn_grammar.specs.declared.node.SizeRule.{SizeRule}
 use Rattle.acn_grammar.specs.declared.node.SizeRule.TheVariants.{Prefix, Slot, Ended}
 use Rattle.acn_grammar.specs.declared.node.TextLeaf.{TextLeaf}
-use Rattle.acn_grammar.proofs.Codings.{both_are, equal_numbers}
 use Rattle.acn_packet_laws.specs.Laws.{ReachesLieInside}
 use Rattle.acn_packet_laws.proofs.LeadFails.{node_far, field_scoped}
 use Rattle.acn_packet_laws.proofs.LeafReaches.{leaf_steady}
@@ -31,6 +30,7 @@ use Rattle.acn_packet_laws.proofs.SoundLaws.{first_two, first_three, second_thre
 use Rattle.acn_packet_laws.proofs.Sounding.{last_two, last_three}
 use Rattle.acn_packet_laws.proofs.TextReaches.{find_from, same_names, octets-short, octets-whole}
 use Rattle.acn_packet_laws.proofs.WrittenSizes.{text_rules}
+use Rattle.std.proofs.lemmas.Bool.{and_parts, eqb-true}
 
 abbrev Inside : Failing → Type 0
 Inside F = (at : ℕ) (rest : List Bool) (fault : Fault) (reach : ℕ) → F at rest fault reach → (fault.reason ≡ short → ⊥) → reach ≤ length rest
@@ -127,11 +127,11 @@ text_by None leaf f path place env at rest fault reach t r =
     either_inside (SizeFails (out path place) leaf.sized env) (Sized leaf.sized env (CharactersFail (out path place) leaf)) (rule_inside path place leaf.sized leaf.sized.rule env)
     (sized_inside leaf.sized env (CharactersFail (out path place) leaf) (characters_inside path place leaf)) at rest fault reach t r
 text_by (Some end) leaf f path place env at rest fault reach t r =
-    let a = both_are (no_size leaf.sized.rule) (nat_eq leaf.width 8 && (not leaf.indexed && is_terminator end)) f in
-    let b = both_are (nat_eq leaf.width 8) (not leaf.indexed && is_terminator end) a.1 in
-    let c = both_are (not leaf.indexed) (is_terminator end) b.1 in
-    let d = both_are (is_pattern end) (nat_eq (length end % 8) 0) c.1 in
-    found_inside path place leaf end (octets-whole end (equal_numbers (length end % 8) 0 d.1)) (size_of (greatest leaf.sized.sizes) + length (octet_numbers end)) rest _ refl fault reach t r
+    let a = and_parts (no_size leaf.sized.rule) (nat_eq leaf.width 8 && (not leaf.indexed && is_terminator end)) f in
+    let b = and_parts (nat_eq leaf.width 8) (not leaf.indexed && is_terminator end) a.1 in
+    let c = and_parts (not leaf.indexed) (is_terminator end) b.1 in
+    let d = and_parts (is_pattern end) (nat_eq (length end % 8) 0) c.1 in
+    found_inside path place leaf end (octets-whole end (eqb-true (length end % 8) 0 d.1)) (size_of (greatest leaf.sized.sizes) + length (octet_numbers end)) rest _ refl fault reach t r
 
 -- Nodes.
 

@@ -1,6 +1,6 @@
 -- An item of a slot by its name is the one by its place, since the names differ.
 use Rattle.std.proofs.Common.{◌≡◌, ℕ, zero, suc, ◌-◌, ℤ, pos, Bool, true, false, not, List, [], ◌∷◌, length, Option, Some, None, refl, sym, ap, ◌∙◌, arith, ◌&&◌, nat_eq, nat_lt, int_eq}
-use Rattle.std.proofs.lemmas.Bool.{false_from_ne_true, or_left, or_right}
+use Rattle.std.proofs.lemmas.Bool.{false_from_ne_true, or_left, or_right, and_parts, not-true, eqb-true}
 use Rattle.std.specs.Prelude.{slice_get, unwrap_or, option_map}
 use Rattle.std.specs.List.{list_any}
 use Rattle.acn_num.specs.Ranges.{are_ranges}
@@ -16,7 +16,6 @@ use Rattle.acn_grammar.specs.declared.node.NumKind.{NumKind}
 use Rattle.acn_grammar.specs.declared.node.NumKind.TheVariants.{Integer, Boolean, Enumerated, Null}
 use Rattle.acn_grammar.specs.declared.node.NumLeaf.{NumLeaf}
 use Rattle.acn_grammar.specs.declared.node.Table.{Table}
-use Rattle.acn_grammar.proofs.Codings.{both_are, not_is, equal_numbers}
 use Rattle.acn_grammar.proofs.FineLeaves.{rules_of}
 use Rattle.acn_packet_laws.proofs.AskHomes.{if_yes, if_no}
 use Rattle.acn_packet_laws.proofs.OneFault.{some_same}
@@ -41,16 +40,16 @@ index_at name (n ∷ items) zero x d e =
     let is : same_name name n.0 ≡ true = ap (λ (m : Named). same_name name m.0) same ∙ same_name-refl name in
     if_yes (same_name name n.0) 0 (suc (index_of (same_name name) items)) is
 index_at name (n ∷ items) (suc i) x d e =
-    let f = both_are (not (list_any (same_named n) items)) (all_differ same_named items) d in
+    let f = and_parts (not (list_any (same_named n) items)) (all_differ same_named items) d in
     let other : same_name name n.0 ≡ false = false_from_ne_true (same_name name n.0) (λ q.
     let same : n.0 ≡ name = sym (same_name-is name n.0 q) in
     let there = is_there n items i (name, x) e (ap (λ y. same_name y name) same ∙ same_name-refl name) in
-    let not_there = not_is (list_any (same_named n) items) f.0 in
+    let not_there = not-true (list_any (same_named n) items) f.0 in
     cc) in
     if_no (same_name name n.0) 0 (suc (index_of (same_name name) items)) other ∙ ap suc (index_at name items i x f.1 e)
 
 none_differ : (items : Items) → no_items items ≡ true → all_differ same_named items.items ≡ true
-none_differ items h = by items.items (equal_numbers (length items.items) 0 (both_are (nat_eq (length items.items) 0) (not items.values) h).0)
+none_differ items h = by items.items (eqb-true (length items.items) 0 (and_parts (nat_eq (length items.items) 0) (not items.values) h).0)
   where
     by : (names : List Named) → length names ≡ 0 → all_differ same_named names ≡ true
     by [] e = refl
@@ -58,13 +57,13 @@ none_differ items h = by items.items (equal_numbers (length items.items) 0 (both
 
 names_differ : (kind : NumKind) (coding : NumCoding) (items : Items) (table : Option Table) (set : List (ℤ × ℤ)) → set_fine kind coding items table set ≡ true → all_differ same_named items.items ≡ true
 names_differ Integer coding items table set h =
-    none_differ items (both_are (integer_set_fine coding (ends set)) (no_items items) (both_are (are_ranges set) (integer_set_fine coding (ends set) && no_items items) h).1).1
-names_differ Boolean coding items table set h = none_differ items (both_are (is_range (pos 0) (pos 1) set) (no_items items) h).1
-names_differ Null coding items table set h = none_differ items (both_are (is_range (pos 0) (pos 0) set) (no_items items) h).1
+    none_differ items (and_parts (integer_set_fine coding (ends set)) (no_items items) (and_parts (are_ranges set) (integer_set_fine coding (ends set) && no_items items) h).1).1
+names_differ Boolean coding items table set h = none_differ items (and_parts (is_range (pos 0) (pos 1) set) (no_items items) h).1
+names_differ Null coding items table set h = none_differ items (and_parts (is_range (pos 0) (pos 0) set) (no_items items) h).1
 names_differ Enumerated coding items table set h =
-    let a = both_are (nat_lt 0 (length items.items)) (is_range (pos 0) (pos (length items.items - 1)) set && items_fine coding items) h in
-    let b = both_are (is_range (pos 0) (pos (length items.items - 1)) set) (items_fine coding items) a.1 in
-    (both_are (all_differ same_named items.items) (all_differ (λ x y. int_eq x.1 y.1) items.items) b.1).0
+    let a = and_parts (nat_lt 0 (length items.items)) (is_range (pos 0) (pos (length items.items - 1)) set && items_fine coding items) h in
+    let b = and_parts (is_range (pos 0) (pos (length items.items - 1)) set) (items_fine coding items) a.1 in
+    (and_parts (all_differ same_named items.items) (all_differ (λ x y. int_eq x.1 y.1) items.items) b.1).0
 
 -- the names of the items of a slot differ
 items_differ : (root : Grammar) → IsTree root → (t : ℕ) → all_differ same_named (items_of root t) ≡ true

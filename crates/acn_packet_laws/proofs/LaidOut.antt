@@ -1,6 +1,6 @@
 -- In a tree without a fault each slot's field stands where its home is open, and its numbers are the slot's.
 use Rattle.std.proofs.Common.{◌≡◌, ℕ, suc, ◌-◌, ℤ, pos, true, false, not, ◌&&◌, ◌||◌, List, [], ◌∷◌, ◌++◌, length, Option, Some, None, refl, sym, ap, ◌∙◌, arith, nat_eq, nat_lt, subst, IsTrue, append_assoc}
-use Rattle.std.proofs.lemmas.Bool.{false_from_ne_true, or_left, or_right}
+use Rattle.std.proofs.lemmas.Bool.{false_from_ne_true, or_left, or_right, and_parts, eqb-true}
 use Rattle.std.specs.Prelude.{unwrap_or, option_map, int_le, ◌≤ℤ◌}
 use Rattle.std.proofs.lemmas.Int.{ints}
 use Rattle.std.proofs.lemmas.Bool.Decides.{nat_tests}
@@ -16,7 +16,6 @@ use Rattle.acn_grammar.specs.declared.node.NumKind.{NumKind}
 use Rattle.acn_grammar.specs.declared.node.NumKind.TheVariants.{Integer, Boolean, Enumerated, Null}
 use Rattle.acn_grammar.specs.declared.node.NumLeaf.{NumLeaf}
 use Rattle.acn_grammar.specs.declared.node.Presence.{Presence}
-use Rattle.acn_grammar.proofs.Codings.{both_are, equal_numbers}
 use Rattle.acn_grammar.proofs.FineLeaves.{rules_of}
 use Rattle.acn_grammar.proofs.LeafLengths.{int_ends}
 use Rattle.acn_grammar.proofs.SpanLaw.{Fine, FieldsFine, AlternativesFine}
@@ -39,7 +38,7 @@ mutual
   opens_has (node align form) role path around s h = or_right (is_slot s (slot_here role)) (has_field s (form_nodes path around form)) (form_has form path around s h)
 
   form_has : (form : Form) (path around : List ℕ) (s : ℕ) → form_opens form s ≡ true → has_field s (form_nodes path around form) ≡ true
-  form_has (seq fields home) path around s h = fields_has fields path (home ++ around) 0 s (both_are (fields_opens fields s) (not (holds home s)) h).0
+  form_has (seq fields home) path around s h = fields_has fields path (home ++ around) 0 s (and_parts (fields_opens fields s) (not (holds home s)) h).0
   form_has (num leaf) path around s h = cc
   form_has (octets sizing) path around s h = cc
   form_has (bits sizing) path around s h = cc
@@ -65,7 +64,7 @@ mutual
 
 open_has : (s : ℕ) (l : List Stand) → open_field s l ≡ true → has_field s l ≡ true
 open_has s [] h = cc
-open_has s (at ∷ l) h = either {F = has_field s (at ∷ l) ≡ true} (field_is s at && holds at.around s) (open_field s l) h (λ q. or_left (field_is s at) (has_field s l) (both_are (field_is s at) (holds at.around s) q).0) (λ q. or_right (field_is s at) (has_field s l) (open_has s l q))
+open_has s (at ∷ l) h = either {F = has_field s (at ∷ l) ≡ true} (field_is s at && holds at.around s) (open_field s l) h (λ q. or_left (field_is s at) (has_field s l) (and_parts (field_is s at) (holds at.around s) q).0) (λ q. or_right (field_is s at) (has_field s l) (open_has s l q))
 
 -- A leaf that keeps its rules has some number.
 
@@ -76,10 +75,10 @@ le_true : (a b : ℤ) → a ≤ℤ b → int_le a b ≡ true
 le_true a b h = grind (arith, ints, nat_tests)
 
 no_set : (leaf : NumLeaf) (kind : NumKind) → set_fine kind leaf.coding leaf.items leaf.table [] ≡ true → ⊥
-no_set leaf Integer h = (let e = int_ends leaf.coding None (both_are (integer_set_fine leaf.coding None) (no_items leaf.items) (both_are (are_ranges []) (integer_set_fine leaf.coding None && no_items leaf.items) h).1).0 in let n = e.1 in cc)
+no_set leaf Integer h = (let e = int_ends leaf.coding None (and_parts (integer_set_fine leaf.coding None) (no_items leaf.items) (and_parts (are_ranges []) (integer_set_fine leaf.coding None && no_items leaf.items) h).1).0 in let n = e.1 in cc)
 no_set leaf Boolean h = cc
 no_set leaf Null h = cc
-no_set leaf Enumerated h = (let f = both_are (nat_lt 0 (length leaf.items.items)) (is_range (pos 0) (pos (length leaf.items.items - 1)) [] && items_fine leaf.coding leaf.items) h in cc)
+no_set leaf Enumerated h = (let f = and_parts (nat_lt 0 (length leaf.items.items)) (is_range (pos 0) (pos (length leaf.items.items - 1)) [] && items_fine leaf.coding leaf.items) h in cc)
 
 pub some_number : (leaf : NumLeaf) → IsTrue (num_fine leaf) → (x : ℤ) × In leaf.set x
 some_number leaf fine = by leaf.set refl
@@ -97,7 +96,7 @@ module _ (root : Grammar) where
 
   own_some : (keys : Known) (own : Option ℕ) (s : ℕ) (g : Grammar) → Fine g → OwnLaid root keys own g → is_slot s own ≡ true → (x : ℤ) × In (domain_of root s) x
   own_some keys None s g fine laid h = cc
-  own_some keys (Some t) s g fine laid h = subst (λ (z : ℕ). (x : ℤ) × In (domain_of root z) x) (equal_numbers t s h) (slot_some keys t g fine laid)
+  own_some keys (Some t) s g fine laid h = subst (λ (z : ℕ). (x : ℤ) × In (domain_of root z) x) (eqb-true t s h) (slot_some keys t g fine laid)
 
   -- the slots whose fields are near have numbers
   mutual
@@ -110,7 +109,7 @@ module _ (root : Grammar) where
         (λ q. near_some fs keys fine.1 laid.4 s q)
     near_some (inserted name g (Some t) fs) keys fine laid s h =
         either {F = (x : ℤ) × In (domain_of root s) x} (nat_eq t s) (holds (near fs) s) h
-        (λ q. subst (λ (z : ℕ). (x : ℤ) × In (domain_of root z) x) (equal_numbers t s q) (slot_some keys t g fine.0 laid.0)) (λ q. near_some fs keys fine.1 laid.2 s q)
+        (λ q. subst (λ (z : ℕ). (x : ℤ) × In (domain_of root z) x) (eqb-true t s q) (slot_some keys t g fine.0 laid.0)) (λ q. near_some fs keys fine.1 laid.2 s q)
     near_some (inserted name g None fs) keys fine laid s h = near_some fs keys fine.1 laid.3 s h
 
     node_some : (g : Grammar) (keys : Known) → Fine g → Laid root keys g → (s : ℕ) → holds (near_node g) s ≡ true → (x : ℤ) × In (domain_of root s) x
@@ -135,7 +134,7 @@ module _ (root : Grammar) (tree : IsTree root) (sound : (f : CheckFault) → Und
       by o = any_either {F = holds around s ≡ true} (λ at. field_is s at && holds at.around s) pre (here_at role path around align form ∷ (form_nodes path around form ++ post)) o
           (λ q. absurd (twice (nodes_of root) (numbers root tree sound) (rules root tree sound) pre (here ∷ (form_nodes path around form ++ post)) p.whole s (open_has s pre q) (or_left (is_slot s (slot_here role)) (has_field s (form_nodes path around form ++ post)) h)))
           (λ q. either {F = holds around s ≡ true} (is_slot s (slot_here role) && holds around s) (open_field s (form_nodes path around form ++ post)) q
-          (λ r. (both_are (is_slot s (slot_here role)) (holds around s) r).1)
+          (λ r. (and_parts (is_slot s (slot_here role)) (holds around s) r).1)
           (λ r. absurd (twice (nodes_of root) (numbers root tree sound) (rules root tree sound) (pre ++ here ∷ []) (form_nodes path around form ++ post) (p.whole ∙ sym (append_assoc pre (here ∷ []) (form_nodes path around form ++ post))) s
           (any_right (field_is s) pre (here ∷ []) (or_left (is_slot s (slot_here role)) false h)) (open_has s (form_nodes path around form ++ post) r))))
 
@@ -145,7 +144,7 @@ module _ (root : Grammar) (tree : IsTree root) (sound : (f : CheckFault) → Und
   mutual
     opens_around : (g : Grammar) (pre : List Stand) (role : Role) (path around : List ℕ) (post : List Stand) → At root tree sound pre role path around g post → (s : ℕ) → opens g s ≡ true → holds around s ≡ true
     opens_around (node align (seq fields home)) pre role path around post p s h =
-        let f = both_are (fields_opens fields s) (not (holds home s)) h in
+        let f = and_parts (fields_opens fields s) (not (holds home s)) h in
         holds_either {F = holds around s ≡ true} home around s
         (fields_around fields (pre ++ here_at role path around align (seq fields home) ∷ []) path (home ++ around) 0 post (to_fields (nodes_of root) (numbers root tree sound) (rules root tree sound) pre role path around align fields home post p) s f.0)
         (λ q. (let n = f.1 in cc)) (λ q. q)
@@ -199,7 +198,7 @@ module _ (root : Grammar) (tree : IsTree root) (sound : (f : CheckFault) → Und
   own_is_number pre path around k name (node align form) presence default t fs post p keys has_key e =
       let place = first_component (nodes_of root) (numbers root tree sound) (rules root tree sound) pre path around k name (node align form) presence default (Some t) fs post p in
       let fine = place_fine (nodes_of root) (numbers root tree sound) (rules root tree sound) pre (a_component name presence (Some t)) (path ++ k ∷ []) around align form (field_nodes path around (suc k) fs ++ post) place in
-      own_laid keys t align form (own_number (Some t) presence form t (both_are (presence_fine presence) (own_fine (Some t) presence form) fine.role).1 (same_eq t)).1 has_key e
+      own_laid keys t align form (own_number (Some t) presence form t (and_parts (presence_fine presence) (own_fine (Some t) presence form) fine.role).1 (same_eq t)).1 has_key e
 
   mutual
     laid : (g : Grammar) (pre : List Stand) (role : Role) (path around : List ℕ) (post : List Stand) → At root tree sound pre role path around g post → Finds root tree sound (nodes role path around g) (slot_leaf g) → Fine g → (keys : Known) → ((s : ℕ) → keys s ≡ holds around s) → Laid root keys g

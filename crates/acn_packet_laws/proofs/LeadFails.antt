@@ -14,26 +14,23 @@ use Rattle.acn_grammar.specs.declared.node.NumCoding.{NumCoding}
 use Rattle.acn_grammar.specs.declared.node.NumCoding.TheVariants.{Range, CountedFrom, CountedSigned, PosInt, Twos, Bcd, BcdEnded, Ascii, AsciiEnded, Flag, Fixed}
 use Rattle.acn_grammar.specs.declared.node.NumLeaf.{NumLeaf}
 use Rattle.acn_grammar.specs.declared.node.Presence.TheVariants.{Always, Bit, When}
-use Rattle.acn_grammar.proofs.Codings.{both_are}
 use Rattle.acn_packet_laws.proofs.Leads.{Leads, chosen, slot_leads, node_leads}
 use Rattle.acn_packet_laws.proofs.Reaches.{out}
 use Rattle.acn_packet_laws.proofs.SoundLaws.{first_two, second_three}
 use Rattle.acn_packet_laws.proofs.Sounding.{last_two}
-
-wide_is : (n w : ℕ) → nat_le n w ≡ true → n ≤ w
-wide_is n w h = grind (arith, nat_tests)
+use Rattle.std.proofs.lemmas.Bool.{leb-true, and_parts}
 
 by_coding : (coding : NumCoding) (own : NumLeaf) (n : ℕ) → is_wide n coding ≡ true → (rest : List Bool) (r : Reason) (reach : ℕ) → CodingFails coding own rest r reach → (r ≡ short → ⊥) → n ≤ length rest
 by_coding (Range low width) own n w rest r reach (inl t) s = absurd (s t.1)
-by_coding (Range low width) own n w rest r reach (inr t) s = let a = t.0 in let b = wide_is n width w in omega arith
+by_coding (Range low width) own n w rest r reach (inr t) s = let a = t.0 in let b = leb-true n width w in omega arith
 by_coding (PosInt width) own n w rest r reach (inl t) s = absurd (s t.1)
-by_coding (PosInt width) own n w rest r reach (inr t) s = let a = t.0 in let b = wide_is n width w in omega arith
+by_coding (PosInt width) own n w rest r reach (inr t) s = let a = t.0 in let b = leb-true n width w in omega arith
 by_coding (Twos width) own n w rest r reach (inl t) s = absurd (s t.1)
-by_coding (Twos width) own n w rest r reach (inr t) s = let a = t.0 in let b = wide_is n width w in omega arith
+by_coding (Twos width) own n w rest r reach (inr t) s = let a = t.0 in let b = leb-true n width w in omega arith
 by_coding (Flag p q) own n w rest r reach (inl t) s = absurd (s t.1)
-by_coding (Flag p q) own n w rest r reach (inr t) s = let a = t.0 in let b = wide_is n (flag_width p q) w in omega arith
+by_coding (Flag p q) own n w rest r reach (inr t) s = let a = t.0 in let b = leb-true n (flag_width p q) w in omega arith
 by_coding (Fixed pattern) own n w rest r reach (inl t) s = absurd (s t.1)
-by_coding (Fixed pattern) own n w rest r reach (inr t) s = let a = t.0 in let b = wide_is n (length pattern) w in omega arith
+by_coding (Fixed pattern) own n w rest r reach (inr t) s = let a = t.0 in let b = leb-true n (length pattern) w in omega arith
 by_coding (CountedFrom low) own n w rest r reach t s = cc
 by_coding CountedSigned own n w rest r reach t s = cc
 by_coding (Bcd width) own n w rest r reach t s = cc
@@ -65,7 +62,7 @@ module _ (root : Grammar) (n : ℕ) (leaf : NumLeaf) where
     form_far : (form : Form) (ks : Known) → FormScoped root ks form → form_lead n form ≡ Some leaf → (env : Env) (path : List ℕ) (place origin at : ℕ) (rest : List Bool) (fault : Fault) (reach : ℕ) → FormFails root form env (out path place) origin at rest fault reach → (fault.reason ≡ short → ⊥) → n ≤ length rest
     form_far (num own) ks sc h env path place origin at rest fault reach t r =
         let p = chosen (is_lead n own) leaf (Some own) h in
-        let w = both_are (is_wide n own.coding) (not own.little && has_no_table own.table) p.0 in
+        let w = and_parts (is_wide n own.coding) (not own.little && has_no_table own.table) p.0 in
         by_coding own.coding own n w.0 rest t.0 reach t.1 (λ e. r (ap (λ f. f.reason) t.2 ∙ e))
     form_far (seq fields home) ks sc h env path place origin at rest fault reach (inl t) r = absurd (r (ap (λ f. f.reason) t.1))
     form_far (seq fields home) ks sc h env path place origin at rest fault reach (inr t) r =

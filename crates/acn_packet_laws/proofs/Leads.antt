@@ -15,9 +15,9 @@ use Rattle.acn_grammar.specs.declared.node.NumLeaf.{NumLeaf}
 use Rattle.acn_grammar.specs.declared.node.NumCoding.{NumCoding}
 use Rattle.acn_grammar.specs.declared.node.NumCoding.TheVariants.{Range, CountedFrom, CountedSigned, PosInt, Twos, Bcd, BcdEnded, Ascii, AsciiEnded, Flag, Fixed}
 use Rattle.acn_grammar.specs.declared.node.Presence.TheVariants.{Always, Bit, When}
-use Rattle.acn_grammar.proofs.Codings.{both_are}
 use Rattle.acn_grammar.proofs.FineLeaves.{rules_of}
 use Rattle.acn_grammar.proofs.LeafLengths.{limits_of, coding-length}
+use Rattle.std.proofs.lemmas.Bool.{and_parts}
 
 -- the bits begin with a code of at least n bits
 pub record Leads (n : ℕ) (leaf : NumLeaf) (bs : List Bool) : Type 0 where
@@ -72,7 +72,7 @@ leads_same n leaf bs back e l = rw e l
 code_leads : (n : ℕ) (own leaf : NumLeaf) → IsTrue (num_fine own) → (if is_lead n own then Some own else None) ≡ Some leaf → (x : ℤ) (bs : List Bool) → Code Any own x bs → Leads n leaf bs
 code_leads n own leaf fine h x bs c =
     let p = chosen (is_lead n own) leaf (Some own) h in
-    let w = both_are (is_wide n own.coding) (not own.little && has_no_table own.table) p.0 in
+    let w = and_parts (is_wide n own.coding) (not own.little && has_no_table own.table) p.0 in
     let l = coding-length own.coding own.little Any c.image bs (rules_of own fine).coding (limits_of own x c.image fine c.permitted c.maps) c.spelled in
     let more = wide_long n own.coding c.image w.0 in
     let is : own ≡ leaf = cc in

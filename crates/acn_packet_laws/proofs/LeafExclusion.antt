@@ -11,9 +11,10 @@ use Rattle.acn_grammar.specs.Leaves.{coding_fine, is_pattern, same_bits}
 use Rattle.acn_grammar.specs.declared.node.NumCoding.{NumCoding}
 use Rattle.acn_grammar.specs.declared.node.NumCoding.TheVariants.{Range, CountedFrom, CountedSigned, PosInt, Twos, Bcd, BcdEnded, Ascii, AsciiEnded, Flag, Fixed}
 use Rattle.acn_grammar.specs.declared.node.NumLeaf.{NumLeaf}
-use Rattle.acn_grammar.proofs.Codings.{both_are, not_is, equal_numbers, patterns_differ}
+use Rattle.acn_grammar.proofs.Codings.{patterns_differ}
 use Rattle.acn_packet_laws.proofs.Exclusion.{take_n, drop_n}
 use Rattle.acn_grammar.proofs.Octets.{low_bits-number}
+use Rattle.std.proofs.lemmas.Bool.{lt-ltb, ne_eqb, and_parts, not-true, eqb-true}
 
 -- Digits come back.
 
@@ -181,9 +182,9 @@ flag_says None (Some q) little y bs w f (inr c) (inr h) = (pos 1, h.1 ∙ ap (sa
 flag_says (Some p) (Some q) little y bs w f (inl c) (inl h) = (pos 1, h.1 ∙ ap (says (pos 1)) (sym c.0))
 flag_says (Some p) (Some q) little y bs w f (inl c) (inr h) = absurd (h.0 c.1)
 flag_says (Some p) (Some q) little y bs w f (inr c) (inl h) =
-    let a = both_are (is_pattern p) (nat_eq (length p) (length q) && not (same_bits p q)) f in
-    let b = both_are (nat_eq (length p) (length q)) (not (same_bits p q)) a.1 in
-    absurd (patterns_differ p q (not_is (same_bits p q) b.1) (sym h.0 ∙ c.1))
+    let a = and_parts (is_pattern p) (nat_eq (length p) (length q) && not (same_bits p q)) f in
+    let b = and_parts (nat_eq (length p) (length q)) (not (same_bits p q)) a.1 in
+    absurd (patterns_differ p q (not-true (same_bits p q) b.1) (sym h.0 ∙ c.1))
 flag_says (Some p) (Some q) little y bs w f (inr c) (inr (h0, inl h)) = (pos 0, h.1 ∙ ap (says (pos 0)) (sym c.0))
 flag_says (Some p) (Some q) little y bs w f (inr c) (inr (h0, inr h)) = absurd (h.0 c.1)
 
@@ -216,18 +217,8 @@ code_says (AsciiEnded end signed) little y bs w f c h = absurd h
 
 -- Counted numbers.
 
-lt_true : (a b : ℕ) → a < b → nat_lt a b ≡ true
-lt_true a b h = grind (arith, nat_tests)
-
 lt_false : (a b : ℕ) → b ≤ a → nat_lt a b ≡ false
 lt_false a b h = grind (arith, nat_tests)
-
-eq_false : (a b : ℕ) → (a ≡ b → ⊥) → nat_eq a b ≡ false
-eq_false a b h = by (nat_eq a b) refl
-  where
-    by : (t : Bool) → nat_eq a b ≡ t → t ≡ false
-    by true e = absurd (h (equal_numbers a b e))
-    by false e = refl
 
 eq_true : (a b : ℕ) → a ≡ b → nat_eq a b ≡ true
 eq_true a b e = grind (arith, nat_tests)
@@ -242,23 +233,23 @@ IsFirst len c needed wire r reach = (r ≡ (first_reason len c needed wire).0) �
 
 counted_first : (leaf : NumLeaf) (number_in : List Bool → ℤ) (needs : ℤ → ℕ) (image : ℤ → ℤ) (input : List Bool) (r : Reason) (reach : ℕ) → CountedFails leaf number_in needs image input r reach
     → IsFirst (length input) (number (take 8 input)) (needs (number_in (take (8 * number (take 8 input)) (drop 8 input)))) (number_in (take (8 * number (take 8 input)) (drop 8 input))) r reach
-counted_first leaf number_in needs image input r reach (inl f) = rw (lt_true (length input) 8 f.0) (f.1, f.2)
+counted_first leaf number_in needs image input r reach (inl f) = rw (lt-ltb (length input) 8 f.0) (f.1, f.2)
 counted_first leaf number_in needs image input r reach (inr (inl f)) = rw (lt_false (length input) 8 f.0, eq_true (number (take 8 input)) 0 f.1) (f.2, f.3)
 counted_first leaf number_in needs image input r reach (inr (inr (inl f))) =
     let over = f.1 in
-    rw (lt_false (length input) 8 f.0, eq_false (number (take 8 input)) 0 (λ e. omega arith), lt_true 8 (number (take 8 input)) f.1) (f.2, f.3)
+    rw (lt_false (length input) 8 f.0, ne_eqb (number (take 8 input)) 0 (λ e. omega arith), lt-ltb 8 (number (take 8 input)) f.1) (f.2, f.3)
 counted_first leaf number_in needs image input r reach (inr (inr (inr (inl f)))) =
     let some = f.1 in
-    rw (lt_false (length input) 8 f.0, eq_false (number (take 8 input)) 0 (λ e. omega arith), lt_false 8 (number (take 8 input)) f.2, lt_true (length input) (8 + 8 * number (take 8 input)) f.3) (f.4, f.5)
+    rw (lt_false (length input) 8 f.0, ne_eqb (number (take 8 input)) 0 (λ e. omega arith), lt_false 8 (number (take 8 input)) f.2, lt-ltb (length input) (8 + 8 * number (take 8 input)) f.3) (f.4, f.5)
 counted_first leaf number_in needs image input r reach (inr (inr (inr (inr (inl f))))) =
     let some = f.1 in
     let long = f.0 in
-    rw (lt_false (length input) 8 (omega arith), eq_false (number (take 8 input)) 0 (λ e. omega arith), lt_false 8 (number (take 8 input)) f.2, lt_false (length input) (8 + 8 * number (take 8 input)) f.0, lt_true (needs (number_in (take (8 * number (take 8 input)) (drop 8 input)))) (number (take 8 input)) f.3) (f.4, f.5)
+    rw (lt_false (length input) 8 (omega arith), ne_eqb (number (take 8 input)) 0 (λ e. omega arith), lt_false 8 (number (take 8 input)) f.2, lt_false (length input) (8 + 8 * number (take 8 input)) f.0, lt-ltb (needs (number_in (take (8 * number (take 8 input)) (drop 8 input)))) (number (take 8 input)) f.3) (f.4, f.5)
 counted_first leaf number_in needs image input r reach (inr (inr (inr (inr (inr f))))) =
     let some = f.1 in
     let long = f.0 in
     let is = f.3 in
-    rw (lt_false (length input) 8 (omega arith), eq_false (number (take 8 input)) 0 (λ e. omega arith), lt_false 8 (number (take 8 input)) f.2, lt_false (length input) (8 + 8 * number (take 8 input)) f.0, lt_false (needs (number_in (take (8 * number (take 8 input)) (drop 8 input)))) (number (take 8 input)) (omega arith)) (f.5, f.6)
+    rw (lt_false (length input) 8 (omega arith), ne_eqb (number (take 8 input)) 0 (λ e. omega arith), lt_false 8 (number (take 8 input)) f.2, lt_false (length input) (8 + 8 * number (take 8 input)) f.0, lt_false (needs (number_in (take (8 * number (take 8 input)) (drop 8 input)))) (number (take 8 input)) (omega arith)) (f.5, f.6)
 
 pub counted_same : (leaf : NumLeaf) (number_in : List Bool → ℤ) (needs : ℤ → ℕ) (image : ℤ → ℤ) (input : List Bool) (r r' : Reason) (m n : ℕ) → CountedFails leaf number_in needs image input r m → CountedFails leaf number_in needs image input r' n → (r ≡ r') × (m ≡ n)
 counted_same leaf number_in needs image input r r' m n p q =

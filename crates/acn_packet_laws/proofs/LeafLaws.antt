@@ -13,7 +13,7 @@ use Rattle.acn_grammar.specs.Spell.{octet_numbers}
 use Rattle.acn_grammar.specs.declared.node.NumCoding.{NumCoding}
 use Rattle.acn_grammar.specs.declared.node.NumCoding.TheVariants.{Range, CountedFrom, CountedSigned, PosInt, Twos, Bcd, BcdEnded, Ascii, AsciiEnded, Flag, Fixed}
 use Rattle.acn_grammar.specs.declared.node.NumLeaf.{NumLeaf}
-use Rattle.acn_grammar.proofs.Codings.{both_are, not_is, equal_numbers, nibble_one, digit_octet_one, no_digit}
+use Rattle.acn_grammar.proofs.Codings.{nibble_one, digit_octet_one, no_digit}
 use Rattle.acn_grammar.proofs.Counts.{counted-octets, counted-signed, digits-count}
 use Rattle.acn_packet_laws.proofs.EndedExclusion.{Coded, ended_same, ended_excl}
 use Rattle.acn_packet_laws.proofs.Exclusion.{take_n, drop_n}
@@ -26,9 +26,7 @@ use Rattle.acn_grammar.proofs.Prefix.{same_front}
 use Rattle.acn_grammar.proofs.Texts.{either}
 use Rattle.acn_packet_laws.proofs.WidthBack.{count-most}
 use Rattle.acn_grammar.proofs.Within.{image_has, between}
-
-le_nat : (a b : ℕ) → nat_le a b ≡ true → a ≤ b
-le_nat a b h = grind (arith, nat_tests)
+use Rattle.std.proofs.lemmas.Bool.{leb-true, and_parts, not-true, eqb-true}
 
 pub coded_nibbles : Coded nibbles 4 (low_bits 4 15)
 coded_nibbles = record {
@@ -43,17 +41,17 @@ coded_nibbles = record {
 
 pub coded_octets : (end : List Bool) → (is_terminator end && not (begins_number (octet_numbers end))) ≡ true → Coded digit_octets 8 end
 coded_octets end h =
-    let w = both_are (is_terminator end) (not (begins_number (octet_numbers end))) h in
-    let t = both_are (is_pattern end) (nat_eq (length end % 8) 0) w.0 in
-    let whole = equal_numbers (length end % 8) 0 t.1 in
-    let some = le_nat 1 (length end) (both_are (nat_le 1 (length end)) (nat_le (length end) 64) t.0).0 in
+    let w = and_parts (is_terminator end) (not (begins_number (octet_numbers end))) h in
+    let t = and_parts (is_pattern end) (nat_eq (length end % 8) 0) w.0 in
+    let whole = eqb-true (length end % 8) 0 t.1 in
+    let some = leb-true 1 (length end) (and_parts (nat_le 1 (length end)) (nat_le (length end) 64) t.0).0 in
     record {
       one = λ d. low_bits 8 (48 + d);
       none = refl;
       step = λ d ds. refl;
       long = λ d. refl;
       tell = λ d e p q k. digit_octet_one d e p q k;
-      apart = no_digit end w.0 (not_is (begins_number (octet_numbers end)) w.1);
+      apart = no_digit end w.0 (not-true (begins_number (octet_numbers end)) w.1);
       wide = omega arith;
     }
 

@@ -15,12 +15,13 @@ use Rattle.acn_grammar.specs.Length.{flag_width}
 use Rattle.acn_grammar.specs.declared.node.NumCoding.{NumCoding}
 use Rattle.acn_grammar.specs.declared.node.NumCoding.TheVariants.{Bcd, Ascii, Flag, Fixed}
 use Rattle.acn_grammar.specs.declared.node.NumLeaf.{NumLeaf}
-use Rattle.acn_grammar.proofs.Codings.{equal_numbers, patterns_differ}
+use Rattle.acn_grammar.proofs.Codings.{patterns_differ}
 use Rattle.acn_grammar.proofs.Numbers.{number-below}
 use Rattle.acn_grammar.proofs.Octets.{low_bits-length, low_bits-number}
 use Rattle.acn_grammar.proofs.Within.{image_has}
 use Rattle.acn_packet_laws.specs.Laws.{CodeAtFront}
 use Rattle.acn_packet_laws.proofs.WidthBack.{preimage}
+use Rattle.std.proofs.lemmas.Bool.{eqb-false, eqb-true}
 
 -- Decisions.
 
@@ -41,15 +42,12 @@ same_or_not p q = by (same_bits p q) refl
     by true e = inl (same_is p q e)
     by false e = inr (patterns_differ p q e)
 
-nat_differ : (a b : ℕ) → nat_eq a b ≡ false → a ≡ b → ⊥
-nat_differ a b h e = absurd (grind (arith, nat_tests))
-
 pub is_or_not : (a b : ℕ) → (a ≡ b) ⊎ (a ≡ b → ⊥)
 is_or_not a b = by (nat_eq a b) refl
   where
     by : (t : Bool) → nat_eq a b ≡ t → (a ≡ b) ⊎ (a ≡ b → ⊥)
-    by true e = inl (equal_numbers a b e)
-    by false e = inr (nat_differ a b e)
+    by true e = inl (eqb-true a b e)
+    by false e = inr (eqb-false a b e)
 
 pub less_or_not : (a b : ℕ) → (a < b) ⊎ (b ≤ a)
 less_or_not a b = elim (dec_lt a b) [ yes k ↦ inl k | no k ↦ inr (omega arith) ]

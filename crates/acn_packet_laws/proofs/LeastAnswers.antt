@@ -1,6 +1,6 @@
 -- Whether a number of a set meets all that is asked, and the least that does.
 use Rattle.std.proofs.Common.{◌≡◌, ℕ, zero, suc, ℤ, pos, ◌+ℤ◌, ◌-ℤ◌, nat_abs, Bool, true, false, not, List, [], ◌∷◌, refl, sym, ap, ◌∙◌, arith, inl, inr, ◌⊎◌, ◌&&◌, int_eq}
-use Rattle.std.proofs.lemmas.Bool.{and_from, false_from_ne_true}
+use Rattle.std.proofs.lemmas.Bool.{and_from, false_from_ne_true, and_parts, not-true}
 use Rattle.std.specs.Prelude.{◌≤ℤ◌, int_le}
 use Rattle.std.specs.List.{AllByRecursion, list_all}
 use Rattle.std.proofs.lemmas.Int.{ints}
@@ -8,7 +8,6 @@ use Rattle.std.proofs.lemmas.Bool.Decides.{nat_tests}
 use Rattle.acn_num.specs.Ranges.{has}
 use Rattle.acn_grammar.specs.Asks.{Ask, Equal, Avoid}
 use Rattle.acn_grammar.specs.AsksOn.{MeetsAsk, Answers, Meetable, LeastAnswer}
-use Rattle.acn_grammar.proofs.Codings.{both_are, not_is}
 use Rattle.acn_grammar.proofs.LeafLengths.{eq_fact, le_fact}
 use Rattle.acn_grammar.proofs.Texts.{either}
 use Rattle.acn_packet_laws.proofs.Homes.{truth}
@@ -94,7 +93,7 @@ ends_of (r ∷ rs) =
       low = l.0;
       high = u.0;
       within = λ y h. either {F = (l.0 ≤ℤ y) × (y ≤ℤ u.0)} (int_le r.0 y && int_le y r.1) (has rs y) h
-          (λ q. let f = both_are (int_le r.0 y) (int_le y r.1) q in (further l.0 r.0 y l.1 (le_fact r.0 y f.0), further y r.1 u.0 (le_fact y r.1 f.1) u.1))
+          (λ q. let f = and_parts (int_le r.0 y) (int_le y r.1) q in (further l.0 r.0 y l.1 (le_fact r.0 y f.0), further y r.1 u.0 (le_fact y r.1 f.1) u.1))
           (λ q. let f = e.within y q in (further l.0 e.low y l.2 f.0, further y e.high u.0 f.1 u.2));
     }
 
@@ -112,7 +111,7 @@ eq_same x = grind (arith, ints, nat_tests)
 
 ask_is : (x : ℤ) (a : Ask) → meets_ask x a ≡ true → MeetsAsk x a
 ask_is x (Equal n) h = eq_fact x n h
-ask_is x (Avoid n) h = λ e. (let no = not_is (int_eq x n) h in let yes' = ap (int_eq x) (sym e) ∙ eq_same x in cc)
+ask_is x (Avoid n) h = λ e. (let no = not-true (int_eq x n) h in let yes' = ap (int_eq x) (sym e) ∙ eq_same x in cc)
 
 is_ask : (x : ℤ) (a : Ask) → MeetsAsk x a → meets_ask x a ≡ true
 is_ask x (Equal n) h = ap (int_eq x) (sym h) ∙ eq_same x
@@ -120,14 +119,14 @@ is_ask x (Avoid n) h = not_true (int_eq x n) (false_from_ne_true (int_eq x n) (�
 
 asks_are : (x : ℤ) (wanted : List Ask) → list_all (meets_ask x) wanted ≡ true → AllByRecursion (MeetsAsk x) wanted
 asks_are x [] h = tt
-asks_are x (a ∷ wanted) h = let b = both_are (meets_ask x a) (list_all (meets_ask x) wanted) h in (ask_is x a b.0, asks_are x wanted b.1)
+asks_are x (a ∷ wanted) h = let b = and_parts (meets_ask x a) (list_all (meets_ask x) wanted) h in (ask_is x a b.0, asks_are x wanted b.1)
 
 are_asks : (x : ℤ) (wanted : List Ask) → AllByRecursion (MeetsAsk x) wanted → list_all (meets_ask x) wanted ≡ true
 are_asks x [] h = refl
 are_asks x (a ∷ wanted) h = and_from (meets_ask x a) (list_all (meets_ask x) wanted) (is_ask x a h.0) (are_asks x wanted h.1)
 
 answers_are : (set : List (ℤ × ℤ)) (wanted : List Ask) (x : ℤ) → answers set wanted x ≡ true → Answers set wanted x
-answers_are set wanted x h = let b = both_are (has set x) (list_all (meets_ask x) wanted) h in record { permitted = b.0; meets = asks_are x wanted b.1 }
+answers_are set wanted x h = let b = and_parts (has set x) (list_all (meets_ask x) wanted) h in record { permitted = b.0; meets = asks_are x wanted b.1 }
 
 are_answers : (set : List (ℤ × ℤ)) (wanted : List Ask) (x : ℤ) → Answers set wanted x → answers set wanted x ≡ true
 are_answers set wanted x a = and_from (has set x) (list_all (meets_ask x) wanted) a.permitted (are_asks x wanted a.meets)

@@ -1,6 +1,6 @@
 -- In a tree without a fault every slot's leaf has one width, so a spelling has the length that is told.
 use Rattle.std.proofs.Common.{◌≡◌, ℕ, zero, suc, ◌≤◌, ℤ, pos, Bool, true, false, List, [], ◌∷◌, ◌++◌, length, Option, Some, None, refl, sym, ap, ◌∙◌, arith, nat_eq, ◌&&◌, IsTrue, subst}
-use Rattle.std.proofs.lemmas.Bool.{false_from_ne_true, or_left, or_parts, or_right}
+use Rattle.std.proofs.lemmas.Bool.{false_from_ne_true, or_left, or_parts, or_right, and_parts, eqb-true}
 use Rattle.std.specs.Prelude.{slice_get, ◌≤ℤ◌, int_le}
 use Rattle.std.proofs.lemmas.Int.{ints}
 use Rattle.std.proofs.lemmas.Bool.Decides.{nat_tests}
@@ -19,7 +19,6 @@ use Rattle.acn_grammar.specs.declared.node.NumKind.TheVariants.{Integer, Boolean
 use Rattle.acn_grammar.specs.declared.node.NumLeaf.{NumLeaf}
 use Rattle.acn_grammar.specs.declared.node.Presence.{Presence}
 use Rattle.acn_packet_laws.proofs.Codes.{each_number_has_a_code, set_ordered, range_within}
-use Rattle.acn_grammar.proofs.Codings.{both_are, equal_numbers}
 use Rattle.acn_grammar.proofs.FineLeaves.{rules_of}
 use Rattle.acn_packet_laws.proofs.HasImage.{Ordered}
 use Rattle.acn_grammar.proofs.LeafLengths.{code-length}
@@ -110,7 +109,7 @@ one_width leaf fine has_one x p = by (nat_eq (num_length leaf x) (num_length lea
     eq_not a b h e = grind (arith, nat_tests)
 
     by : (t : Bool) → nat_eq (num_length leaf x) (num_length leaf (least leaf.set)) ≡ t → num_length leaf x ≡ num_length leaf (least leaf.set)
-    by true e = equal_numbers (num_length leaf x) (num_length leaf (least leaf.set)) e
+    by true e = eqb-true (num_length leaf x) (num_length leaf (least leaf.set)) e
     by false e = absurd (has_one (λ h. eq_not (num_length leaf x) (num_length leaf (least leaf.set)) e (length_is h.0 h.1 x p ∙ sym (length_is h.0 h.1 (least leaf.set) (least_there leaf.set x (set_ordered leaf.kind leaf.coding leaf.items leaf.table leaf.set (rules_of leaf fine).set) p)))))
 
 -- a NULL has one number
@@ -118,7 +117,7 @@ null_width : (leaf : NumLeaf) → IsTrue (num_fine leaf) → leaf.kind ≡ Null 
 null_width leaf fine k x p =
     let r = rules_of leaf fine in
     let set = rw k at r.set in
-    let f = both_are (is_range (pos 0) (pos 0) leaf.set) (no_items leaf.items) set in
+    let f = and_parts (is_range (pos 0) (pos 0) leaf.set) (no_items leaf.items) set in
     let one = range_within (pos 0) (pos 0) leaf.set x f.0 p in
     let two = range_within (pos 0) (pos 0) leaf.set (least leaf.set) f.0 (least_there leaf.set x (set_ordered leaf.kind leaf.coding leaf.items leaf.table leaf.set r.set) p) in
     ap (num_length leaf) (same x (least leaf.set) one.0 one.1 two.0 two.1)
@@ -183,7 +182,7 @@ module _ (root : Grammar) (tree : IsTree root) (sound : (f : CheckFault) → Und
   own_steady pre path around k name (node align form) presence default t fs post p =
       let place = first_component (nodes_of root) (numbers root tree sound) (rules root tree sound) pre path around k name (node align form) presence default (Some t) fs post p in
       let fine = place_fine (nodes_of root) (numbers root tree sound) (rules root tree sound) pre (a_component name presence (Some t)) (path ++ k ∷ []) around align form (field_nodes path around (suc k) fs ++ post) place in
-      number_steady align form (own_number (Some t) presence form t (both_are (presence_fine presence) (own_fine (Some t) presence form) fine.role).1 (same_eq t)).1 fine.form
+      number_steady align form (own_number (Some t) presence form t (and_parts (presence_fine presence) (own_fine (Some t) presence form) fine.role).1 (same_eq t)).1 fine.form
 
   -- behind it
   pub own_behind : (pre : List Stand) (path around : List ℕ) (k : ℕ) (name : List ℕ) (g : Grammar) (presence : Presence) (default : Option (List ℕ)) (t : ℕ) (fs : Fields) (post : List Stand) → FieldsAt root tree sound pre path around k (component name g presence default (Some t) fs) post

@@ -1,85 +1,88 @@
-pub mod Accepted
+mod Accepted
 mod Answering
-pub mod AskHomes
-pub mod AskRows
-pub mod BoundsLaw
+mod AskHomes
+mod AskRows
+mod BoundsLaw
+-- for acn_check
 pub mod Codes
 mod Contents
-pub mod CountedTotal
+mod CountedTotal
 mod EachWritten
-pub mod EndedExclusion
-pub mod EndedListFails
-pub mod EndedLists
-pub mod EndedTextTotal
-pub mod EndedTotal
-pub mod Envs
-pub mod Exclusion
-pub mod ExclusionLaws
+mod EndedExclusion
+mod EndedListFails
+mod EndedLists
+mod EndedTextTotal
+mod EndedTotal
+mod Envs
+mod Exclusion
+mod ExclusionLaws
 mod FineNodes
-pub mod FirstFaults
+mod FirstFaults
 mod FirstUnmets
-pub mod FlagRows
-pub mod HasCode
+mod FlagRows
+mod HasCode
+-- for acn_check
 pub mod HasImage
-pub mod Homes
-pub mod InputTotal
+mod Homes
+mod InputTotal
 mod InsideReaches
 mod Items
-pub mod LaidOut
+mod LaidOut
 mod LaterStarts
 mod LeadFails
-pub mod Leads
-pub mod LeafExclusion
-pub mod LeafLaws
-pub mod LeafReaches
-pub mod LeafRows
-pub mod LeafTotal
+mod Leads
+mod LeafExclusion
+mod LeafLaws
+mod LeafReaches
+mod LeafRows
+mod LeafTotal
 mod LeastAnswers
-pub mod LengthLaw
-pub mod Lengths
-pub mod Moves
-pub mod NodeExclusion
-pub mod NodeLaws
+mod LengthLaw
+mod Lengths
+mod Moves
+mod NodeExclusion
+mod NodeLaws
 mod NodeParts
-pub mod NodeTotal
-pub mod NumberTotal
-pub mod Occurrences
-pub mod OneFault
+mod NodeTotal
+mod NumberTotal
+mod Occurrences
+mod OneFault
 mod OneRefusals
-pub mod OneWriting
-pub mod OpenFields
-pub mod Overlaps
+mod OneWriting
+mod OpenFields
+mod Overlaps
 mod PathSlots
+-- for acn_check
 pub mod Placed
-pub mod PrefixNodes
-pub mod Reaches
+mod PrefixNodes
+mod Reaches
 mod RefusedUnspelled
-pub mod RequestRows
-pub mod Rows
-pub mod Scoping
+mod RequestRows
+mod Rows
+mod Scoping
 mod ShortLeaves
 mod ShortNear
-pub mod SlotLeaves
-pub mod SoundLaws
-pub mod SoundNodes
-pub mod SoundRows
-pub mod Sounding
+mod SlotLeaves
+mod SoundLaws
+mod SoundNodes
+mod SoundRows
+mod Sounding
 mod Spans
-pub mod SpelledMeets
-pub mod TelemetryRows
-pub mod TextLaws
-pub mod TextReaches
-pub mod TextRows
-pub mod TextTotal
-pub mod Trees
-pub mod Unbreached
-pub mod UseKinds
+mod SpelledMeets
+mod TelemetryRows
+mod TextLaws
+mod TextReaches
+mod TextRows
+mod TextTotal
+mod Trees
+mod Unbreached
+mod UseKinds
 mod Used
 mod ValueLengths
-pub mod WidthBack
-pub mod Widths
-pub mod WorkedRows
+mod WidthBack
+mod Widths
+mod WorkedRows
 mod WrittenNodes
 mod WrittenParts
-pub mod WrittenRead
+mod WrittenRead
 mod WrittenSizes

@@ -1,6 +1,6 @@
 -- A spelling depends on the numbers of known slots and of those whose fields stand in it, so other numbers may move.
 use Rattle.std.proofs.Common.{◌≡◌, ℕ, zero, suc, ◌+◌, ℤ, Bool, true, false, not, ◌&&◌, ◌||◌, List, [], ◌∷◌, length, Option, Some, None, refl, sym, ◌∙◌, arith, inl, inr, ◌⊎◌, nat_eq}
-use Rattle.std.proofs.lemmas.Bool.{or_left, or_right}
+use Rattle.std.proofs.lemmas.Bool.{or_left, or_right, and_parts}
 use Rattle.std.proofs.lemmas.Bool.Decides.{nat_tests}
 use Rattle.acn_num.specs.Ranges.{In}
 use Rattle.acn_grammar.specs.Code.{Any}
@@ -50,10 +50,6 @@ Shut g = (s : ℕ) → opens g s ≡ false
 pub or_either : (a b : Bool) → (a || b) ≡ true → (a ≡ true) ⊎ (b ≡ true)
 or_either true b h = inl refl
 or_either false b h = inr h
-
-pub and_true : (a b : Bool) → (a && b) ≡ true → (a ≡ true) × (b ≡ true)
-and_true true b h = (refl, h)
-and_true false b h = cc
 
 pub both_true : (a b : Bool) → a ≡ true → b ≡ false → (a && not b) ≡ true
 both_true true false h k = refl
@@ -147,7 +143,7 @@ module _ (root : Grammar) where
 
     form_within : (form : Form) (ks : Known) (s : ℕ) → form_after ks form s ≡ true → (ks s ≡ true) ⊎ (form_opens form s ≡ true)
     form_within (seq fields home) ks s h =
-        let b = and_true (fields_after ks fields s) (not (holds home s)) h in
+        let b = and_parts (fields_after ks fields s) (not (holds home s)) h in
         by (fields_within fields ks s b.0) b.1
       where
         by : (ks s ≡ true) ⊎ (fields_opens fields s ≡ true) → not (holds home s) ≡ true → (ks s ≡ true) ⊎ ((fields_opens fields s && not (holds home s)) ≡ true)

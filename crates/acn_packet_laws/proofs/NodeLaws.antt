@@ -1,6 +1,6 @@
 -- The prefix law of each node of an accepted tree, and of whole packets.
 use Rattle.std.proofs.Common.{◌≡◌, ℕ, zero, suc, ◌+◌, true, false, List, [], ◌∷◌, ◌++◌, length, map, Some, refl, sym, ap, ◌∙◌, arith, nat_eq, ◌&&◌, ◌||◌, subst, length-append}
-use Rattle.std.proofs.lemmas.Bool.{and_from, or_left}
+use Rattle.std.proofs.lemmas.Bool.{and_from, or_left, and_parts}
 use Rattle.std.specs.Prelude.{slice_get}
 use Rattle.std.specs.List.{flat_map}
 use Rattle.acn_grammar.specs.Check.{CheckFault, Undecodable}
@@ -10,7 +10,6 @@ use Rattle.acn_grammar.specs.Scoped.{Known}
 use Rattle.acn_grammar.specs.Tree.{IsTree, holds}
 use Rattle.acn_grammar.specs.Walk.{Stand, Role, a_component, an_inserted, an_alternative, an_element, a_content, root_node, nodes, nodes_of, field_nodes, alternative_nodes, inside, slot_of, uses}
 use Rattle.acn_packet_laws.proofs.Accepted.{scoped, root_scoped}
-use Rattle.acn_grammar.proofs.Codings.{both_are}
 use Rattle.acn_packet_laws.proofs.FirstFaults.{none_without_first}
 use Rattle.acn_packet_laws.proofs.Placed.{here_at, to_fields, to_one, to_cases, first_component, next_component, first_inserted, next_inserted, first_case, next_case, has_field, root_place, inside_near, slots-field}
 use Rattle.acn_packet_laws.proofs.PrefixNodes.{spell_law, slot_law}
@@ -107,7 +106,7 @@ module _ (root : Grammar) (tree : IsTree root) (sound : (f : CheckFault) → Und
   knows_before : (pre : List Stand) (here : Stand) → Knows (known_before pre here) pre here.around (here ∷ inside here)
   knows_before pre here = record {
     known = λ s o h m. and_from (holds here.around s) (has_field s pre && named s (here ∷ inside here)) o (and_from (has_field s pre) (named s (here ∷ inside here)) h m);
-    fresh = λ s h. (both_are (has_field s pre) (named s (here ∷ inside here)) (both_are (holds here.around s) (has_field s pre && named s (here ∷ inside here)) h).1).0;
+    fresh = λ s h. (and_parts (has_field s pre) (named s (here ∷ inside here)) (and_parts (holds here.around s) (has_field s pre && named s (here ∷ inside here)) h).1).0;
   }
 
   field_before : (pre rest : List Stand) (k s : ℕ) → nodes_of root ≡ pre ++ rest → length pre ≡ k → has_field s pre ≡ true → FieldBefore root k s
@@ -139,8 +138,8 @@ each_node_prefix_free root k here env env' d d' at a b r s accepted is_at ok agr
     let knows = knows_before root tree sound l.before here in
     let fine = scoped root tree sound g l.before here.role here.path here.around l.behind place ks knows in
     let h = spell_law root g ks fine env env' ok (λ slot known.
-    let open_here = both_are (holds here.around slot) (has_field slot l.before && named slot (here ∷ inside here)) known in
-    let used_here = both_are (has_field slot l.before) (named slot (here ∷ inside here)) open_here.1 in
+    let open_here = and_parts (holds here.around slot) (has_field slot l.before && named slot (here ∷ inside here)) known in
+    let used_here = and_parts (has_field slot l.before) (named slot (here ∷ inside here)) open_here.1 in
     agree slot open_here.0 (used_in (here ∷ inside here) slot used_here.1) (field_before root tree sound l.before (nodes here.role here.path here.around g ++ l.behind) k slot place.whole (l.count ∙ omega arith) used_here.0)) d d' at a b r s p q e in (
       h.0,
       h.1.0,

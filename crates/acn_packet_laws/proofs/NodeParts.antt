@@ -27,11 +27,11 @@ use Rattle.acn_grammar.specs.declared.node.Presence.TheVariants.{Always, Bit, Wh
 use Rattle.acn_grammar.specs.declared.node.Test.{Test}
 use Rattle.acn_grammar.specs.declared.node.Test.TheVariants.{Flag, Equals}
 use Rattle.acn_grammar.specs.declared.node.TextLeaf.{TextLeaf}
-use Rattle.acn_grammar.proofs.Codings.{both_are}
 use Rattle.acn_grammar.proofs.Numbers.{number-below}
 use Rattle.acn_packet_laws.proofs.Codes.{range_within}
 use Rattle.acn_packet_laws.proofs.Envs.{Good, FrontOf, Stuck}
 use Rattle.acn_packet_laws.proofs.Moves.{there_moves}
+use Rattle.std.proofs.lemmas.Bool.{and_parts}
 
 -- Padding.
 
@@ -86,11 +86,11 @@ zero_of x a b = omega (arith, ints)
 
 pub value_by : (leaf : NumLeaf) (kind : NumKind) (x : ℤ) → set_fine kind leaf.coding leaf.items leaf.table leaf.set ≡ true → has leaf.set x ≡ true → (d : Data) × NumberOf kind d x
 value_by leaf Integer x h p = (int x, refl)
-value_by leaf Boolean x h p = (let r = range_within (pos 0) (pos 1) leaf.set x (both_are (is_range (pos 0) (pos 1) leaf.set) (no_items leaf.items) h).0 p in bit_of x r.0 r.1)
-value_by leaf Null x h p = (let r = range_within (pos 0) (pos 0) leaf.set x (both_are (is_range (pos 0) (pos 0) leaf.set) (no_items leaf.items) h).0 p in (null, zero_of x r.0 r.1))
+value_by leaf Boolean x h p = (let r = range_within (pos 0) (pos 1) leaf.set x (and_parts (is_range (pos 0) (pos 1) leaf.set) (no_items leaf.items) h).0 p in bit_of x r.0 r.1)
+value_by leaf Null x h p = (let r = range_within (pos 0) (pos 0) leaf.set x (and_parts (is_range (pos 0) (pos 0) leaf.set) (no_items leaf.items) h).0 p in (null, zero_of x r.0 r.1))
 value_by leaf Enumerated x h p =
-    let f = both_are (nat_lt 0 (length leaf.items.items)) (is_range (pos 0) (pos (length leaf.items.items - 1)) leaf.set && items_fine leaf.coding leaf.items) h in
-    let r = range_within (pos 0) (pos (length leaf.items.items - 1)) leaf.set x (both_are (is_range (pos 0) (pos (length leaf.items.items - 1)) leaf.set) (items_fine leaf.coding leaf.items) f.1).0 p in
+    let f = and_parts (nat_lt 0 (length leaf.items.items)) (is_range (pos 0) (pos (length leaf.items.items - 1)) leaf.set && items_fine leaf.coding leaf.items) h in
+    let r = range_within (pos 0) (pos (length leaf.items.items - 1)) leaf.set x (and_parts (is_range (pos 0) (pos (length leaf.items.items - 1)) leaf.set) (items_fine leaf.coding leaf.items) f.1).0 p in
     item_of x r.0
 
 pub number_is : (kind : NumKind) (d : Data) (x : ℤ) → NumberOf kind d x → number_of d ≡ x
@@ -216,14 +216,14 @@ name_or_not (e ∷ items) (suc i) name = name_or_not items i name
 name_or_not (e ∷ items) zero name = by (same_name e.0 name) refl
   where
     by : (t : Bool) → same_name e.0 name ≡ t → ((x : ℤ) × (Some e ≡ Some (name, x))) ⊎ (((x : ℤ) × (Some e ≡ Some (name, x))) → ⊥)
-    by true q = inl (e.1, ap (λ (n : List ℕ). Some (n, e.1)) (Rattle.acn_packet_laws.proofs.Placed.same_name-is e.0 name q))
+    by true q = inl (e.1, ap (λ (n : List ℕ). Some (n, e.1)) (Rattle.acn_grammar.proofs.Characters.same_name-is e.0 name q))
     by false q = inr (λ h. differ (h.0) h.1)
       where
         one : (x y : List ℕ × ℤ) → Some x ≡ Some y → x ≡ y
         one x y h = cc
 
         differ : (x : ℤ) → Some e ≡ Some (name, x) → ⊥
-        differ x h = (let s : e.0 ≡ name = ap (λ z. z.0) (one e (name, x) h) in let t = Rattle.acn_packet_laws.proofs.PrefixNodes.same_name-refl name in let u : same_name e.0 name ≡ true = ap (λ (n : List ℕ). same_name n name) s ∙ t in cc)
+        differ x h = (let s : e.0 ≡ name = ap (λ z. z.0) (one e (name, x) h) in let t = Rattle.acn_grammar.proofs.Characters.same_name-refl name in let u : same_name e.0 name ≡ true = ap (λ (n : List ℕ). same_name n name) s ∙ t in cc)
 
 -- The same of texts.
 abbrev pub TextTotal : Type 0

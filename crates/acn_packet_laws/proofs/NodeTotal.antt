@@ -1,6 +1,6 @@
 -- Every input begins with a spelling of a node, or the node fails, under numbers that may move at slots whose fields stand in it.
 use Rattle.std.proofs.Common.{◌≡◌, ℕ, zero, suc, ◌+◌, ◌*◌, ◌%◌, ◌<◌, ◌≤◌, max, ℤ, pos, negsuc, Bool, true, false, not, ◌&&◌, ◌||◌, List, [], ◌∷◌, ◌++◌, length, take, drop, Option, Some, None, refl, sym, ap, ◌∙◌, arith, append_assoc, length-append, inl, inr, ◌⊎◌, nat_eq, subst, take-append-drop, IsTrue}
-use Rattle.std.proofs.lemmas.Bool.{or_parts, or_right}
+use Rattle.std.proofs.lemmas.Bool.{or_parts, or_right, and_parts, eqb-true}
 use Rattle.std.specs.Prelude.{slice_get}
 use Rattle.std.specs.List.{zip, AllByRecursion}
 use Rattle.std.proofs.lemmas.List.{length-take-le}
@@ -27,7 +27,6 @@ use Rattle.acn_grammar.specs.declared.node.Presence.{Presence}
 use Rattle.acn_grammar.specs.declared.node.Sizing.{Sizing}
 use Rattle.acn_grammar.specs.declared.node.Test.{Test}
 use Rattle.acn_grammar.specs.declared.node.TextLeaf.{TextLeaf}
-use Rattle.acn_grammar.proofs.Codings.{both_are, equal_numbers}
 use Rattle.acn_grammar.proofs.FineLeaves.{rules_of}
 use Rattle.acn_grammar.proofs.SpanLaw.{Fine, FormFine, FieldsFine, AlternativesFine}
 use Rattle.acn_packet_laws.specs.Laws.{CodeAtFront}
@@ -198,7 +197,7 @@ module _ (root : Grammar) (text_total : TextTotal) where
 
   own_key : (keys : Known) (own : Option ℕ) (g : Grammar) (t : ℕ) → OwnLaid root keys own g → is_own own t ≡ true → keys t ≡ true
   own_key keys None g t laid h = cc
-  own_key keys (Some s) g t laid h = subst (λ (z : ℕ). keys z ≡ true) (equal_numbers s t h) (slot_key keys s g laid)
+  own_key keys (Some s) g t laid h = subst (λ (z : ℕ). keys z ≡ true) (eqb-true s t h) (slot_key keys s g laid)
 
   own_apart : (keys : Known) (own : Option ℕ) (g : Grammar) (t : ℕ) → OwnLaid root keys own g → opens g t ≡ true → is_own own t ≡ false
   own_apart keys None g t laid h = refl
@@ -215,7 +214,7 @@ module _ (root : Grammar) (text_total : TextTotal) where
     opens_key (node align form) keys laid s h = form_key form keys laid s h
 
     form_key : (form : Form) (keys : Known) → FormLaid root keys form → (s : ℕ) → form_opens form s ≡ true → keys s ≡ true
-    form_key (seq fields home) keys laid s h = inner (holds home s) (keys s) (both_are (fields_opens fields s) (not (holds home s)) h).1 (fields_key fields (λ t. holds home t || keys t) laid.0 s (both_are (fields_opens fields s) (not (holds home s)) h).0)
+    form_key (seq fields home) keys laid s h = inner (holds home s) (keys s) (and_parts (fields_opens fields s) (not (holds home s)) h).1 (fields_key fields (λ t. holds home t || keys t) laid.0 s (and_parts (fields_opens fields s) (not (holds home s)) h).0)
       where
         inner : (a b : Bool) → not a ≡ true → (a || b) ≡ true → b ≡ true
         inner true b h k = cc
@@ -233,7 +232,7 @@ module _ (root : Grammar) (text_total : TextTotal) where
     fields_key (component name g presence default own fs) keys laid s h =
         either_key (is_own own s) (opens g s) (fields_opens fs s) (keys s) h (own_key keys own g s laid.1) (opens_key g keys laid.0 s) (fields_key fs keys laid.4 s)
     fields_key (inserted name g (Some t) fs) keys laid s h =
-        either_key (nat_eq t s) false (fields_opens fs s) (keys s) h (λ e. subst (λ (z : ℕ). keys z ≡ true) (equal_numbers t s e) (slot_key keys t g laid.0)) (λ e. cc) (fields_key fs keys laid.2 s)
+        either_key (nat_eq t s) false (fields_opens fs s) (keys s) h (λ e. subst (λ (z : ℕ). keys z ≡ true) (eqb-true t s e) (slot_key keys t g laid.0)) (λ e. cc) (fields_key fs keys laid.2 s)
     fields_key (inserted name g None fs) keys laid s h = fields_key fs keys laid.3 s h
 
   -- Nodes.
@@ -719,7 +718,7 @@ module _ (root : Grammar) (text_total : TextTotal) where
   slot_within s ks keys here within t h = by (or_either (nat_eq s t) (ks t) h)
     where
       by : (nat_eq s t ≡ true) ⊎ (ks t ≡ true) → keys t ≡ true
-      by (inl e) = subst (λ (z : ℕ). keys z ≡ true) (equal_numbers s t e) here
+      by (inl e) = subst (λ (z : ℕ). keys z ≡ true) (eqb-true s t e) here
       by (inr k) = within t k
 
   slot_apart : (s : ℕ) (ks : Known) (fs : Fields) → Others root (nat_eq s) (fields_opens fs) → ((t : ℕ) → ks t ≡ true → (nat_eq s t || fields_opens fs t) ≡ false) → (t : ℕ) → with_slot s ks t ≡ true → fields_opens fs t ≡ false

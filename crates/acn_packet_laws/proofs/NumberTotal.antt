@@ -10,19 +10,19 @@ use Rattle.acn_grammar.specs.Length.{least_octets, least_signed_octets, flag_wid
 use Rattle.acn_grammar.specs.declared.node.NumCoding.{NumCoding}
 use Rattle.acn_grammar.specs.declared.node.NumCoding.TheVariants.{Range, CountedFrom, CountedSigned, PosInt, Twos, Bcd, BcdEnded, Ascii, AsciiEnded, Flag, Fixed}
 use Rattle.acn_grammar.specs.declared.node.NumLeaf.{NumLeaf}
-use Rattle.acn_grammar.proofs.Codings.{both_are, equal_numbers}
 use Rattle.acn_grammar.proofs.FineLeaves.{rules_of}
 use Rattle.acn_packet_laws.specs.Laws.{EachInputIsANumberOrFails, CodeAtFront}
 use Rattle.acn_packet_laws.proofs.CountedTotal.{from_low, from_signed, counted_total}
 use Rattle.acn_packet_laws.proofs.EndedTotal.{bcd_total, ascii_total}
 use Rattle.acn_packet_laws.proofs.LeafLaws.{coded_nibbles, coded_octets}
 use Rattle.acn_packet_laws.proofs.LeafTotal.{bcd_wire, ascii_wire, signed_wire, flag_wire, fixed_wire, fixed_total}
+use Rattle.std.proofs.lemmas.Bool.{and_parts, eqb-true}
 
 four_of : (n : ℕ) (t : Bool) → (t && nat_eq (n % 4) 0) ≡ true → n ≡ 4 * (n / 4)
-four_of n t h = let e = equal_numbers (n % 4) 0 (both_are t (nat_eq (n % 4) 0) h).1 in omega arith
+four_of n t h = let e = eqb-true (n % 4) 0 (and_parts t (nat_eq (n % 4) 0) h).1 in omega arith
 
 eight_of : (n : ℕ) (t : Bool) → (t && nat_eq (n % 8) 0) ≡ true → n ≡ 8 * (n / 8)
-eight_of n t h = let e = equal_numbers (n % 8) 0 (both_are t (nat_eq (n % 8) 0) h).1 in omega arith
+eight_of n t h = let e = eqb-true (n % 8) 0 (and_parts t (nat_eq (n % 8) 0) h).1 in omega arith
 
 at_least : (a b n : ℕ) → from_to a b n ≡ true → a ≤ n
 at_least a b n h = grind (arith, nat_tests)
@@ -38,7 +38,7 @@ total (Bcd n) leaf fine is f input = fixed_total (Bcd n) leaf fine is n (λ bs l
 total (Ascii n false) leaf fine is f input = fixed_total (Ascii n false) leaf fine is n (λ bs l. ascii_wire n leaf.little bs (eight_of n (from_to 8 152 n) f) l) input
 total (Ascii n true) leaf fine is f input =
     let whole = eight_of n (from_to 16 152 n) f in
-    let some = at_least 16 152 n (both_are (from_to 16 152 n) (nat_eq (n % 8) 0) f).0 in
+    let some = at_least 16 152 n (and_parts (from_to 16 152 n) (nat_eq (n % 8) 0) f).0 in
     fixed_total (Ascii n true) leaf fine is n (λ bs l. signed_wire n (n / 8 - 1) leaf.little bs (l ∙ (omega arith)) l) input
 total (Flag a b) leaf fine is f input = fixed_total (Flag a b) leaf fine is (flag_width a b) (λ bs l. flag_wire a b leaf.little bs l) input
 total (Fixed p) leaf fine is f input = fixed_total (Fixed p) leaf fine is (length p) (λ bs l. fixed_wire p leaf.little bs) input

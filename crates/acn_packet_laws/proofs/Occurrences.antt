@@ -1,6 +1,6 @@
 -- The moments of the whole walk that are of one field are the asks of one occurrence on one slot.
 use Rattle.std.proofs.Common.{◌≡◌, ℕ, zero, suc, ◌≤◌, Bool, true, false, List, [], ◌∷◌, ◌++◌, Option, Some, None, refl, sym, ap, ◌∙◌, arith, nat_eq, ◌||◌, append_assoc, append-nil, subst, pos}
-use Rattle.std.proofs.lemmas.Bool.{false_from_ne_true, or_parts}
+use Rattle.std.proofs.lemmas.Bool.{false_from_ne_true, or_parts, ne_eqb, eqb-true}
 use Rattle.std.specs.Prelude.{map, unwrap_or, if◌then◌else◌, length}
 use Rattle.std.specs.List.{flat_map}
 use Rattle.std.proofs.lemmas.Grind.{flat_map-append}
@@ -20,7 +20,6 @@ use Rattle.acn_grammar.specs.declared.node.SizeRule.{SizeRule}
 use Rattle.acn_grammar.specs.declared.node.SizeRule.TheVariants.{Prefix, Slot, Ended}
 use Rattle.acn_grammar.specs.declared.node.ChoiceRule.{ChoiceRule}
 use Rattle.acn_grammar.specs.declared.node.ChoiceRule.TheVariants.{Index, Tests, Item}
-use Rattle.acn_grammar.proofs.Codings.{equal_numbers}
 use Rattle.acn_packet_laws.specs.Laws.{EachOccurrenceAsks}
 use Rattle.acn_packet_laws.proofs.Homes.{truth}
 use Rattle.acn_packet_laws.proofs.AskHomes.{form_slot, field_slot, node_slot, differs, field_leads, near_steps, FormNot, NodeNot, FieldsNot, CasesNot, FormHomes, NodeHomes, FieldsHomes, CasesHomes, tree_homes, if_yes, if_no, some_is}
@@ -46,7 +45,7 @@ or_rest false b e h = h
 pub field_in : (v : ℕ → List ℕ) (home : List ℕ) (paths : FieldPaths) (t : ℕ) → holds home t ≡ true → field_of (map (λ s. (s, v s)) home ++ paths) t ≡ v t
 field_in v [] paths t h = cc
 field_in v (s ∷ home) paths t h = truth {F = field_of (map (λ s. (s, v s)) (s ∷ home) ++ paths) t ≡ v t} (nat_eq s t)
-    (λ e. if_yes (nat_eq s t) (v s) (field_of (map (λ s. (s, v s)) home ++ paths) t) e ∙ ap v (equal_numbers s t e))
+    (λ e. if_yes (nat_eq s t) (v s) (field_of (map (λ s. (s, v s)) home ++ paths) t) e ∙ ap v (eqb-true s t e))
     (λ e. if_no (nat_eq s t) (v s) (field_of (map (λ s. (s, v s)) home ++ paths) t) e ∙ field_in v home paths t (or_rest (nat_eq s t) (holds home t) e h))
 
 pub field_out : (v : ℕ → List ℕ) (home : List ℕ) (paths : FieldPaths) (t : ℕ) → holds home t ≡ false → field_of (map (λ s. (s, v s)) home ++ paths) t ≡ field_of paths t
@@ -80,9 +79,6 @@ parts_one a b x y d e h =
     let v : Occurrence = occurrence (node b y) e in
     let p : u ≡ v = some_is u v h in
     (ap (λ (z : Occurrence). form_of z.0) p, ap (λ (z : Occurrence). z.1) p)
-
-not_eq : (t s : ℕ) → (t ≡ s → ⊥) → nat_eq t s ≡ false
-not_eq t s h = false_from_ne_true (nat_eq t s) (λ q. h (equal_numbers t s q))
 
 module _ (root : Grammar) (f : List ℕ) where
   split : (a b : List Moment) → asks_of f (a ++ b) ≡ asks_of f a ++ asks_of f b
@@ -257,7 +253,7 @@ module _ (root : Grammar) (f : List ℕ) where
         (λ e.
         let apart : t ≡ s → ⊥ = λ i. (let r = ap (holds home) (sym i) ∙ e in cc) in
         let w = told fields t (homes t e).0 in
-        ap (same_name f) (field_in (field_path p fields) home paths t e) ∙ (differ f (field_path p fields t) (λ i. apart (slot_one (field_slot fields 0 w.m w.q) t s w.slot (only w.m w.q (sym (i ∙ ap (λ z. p ++ z) w.is))))) ∙ sym (not_eq t s apart)))
+        ap (same_name f) (field_in (field_path p fields) home paths t e) ∙ (differ f (field_path p fields t) (λ i. apart (slot_one (field_slot fields 0 w.m w.q) t s w.slot (only w.m w.q (sym (i ∙ ap (λ z. p ++ z) w.is))))) ∙ sym (ne_eqb t s apart)))
         (λ e. ap (same_name f) (field_out (field_path p fields) home paths t e) ∙ h t)
 
     behind_it : (name : List ℕ) (g : Grammar) (slot : Option ℕ) (fs : Fields) (p : List ℕ) (k m : ℕ) (q : List ℕ) → suc k ≤ m → field_slot (inserted name g slot fs) k m q ≡ Some s → field_slot fs (suc k) m q ≡ Some s
@@ -336,9 +332,9 @@ module _ (root : Grammar) (f : List ℕ) where
           hears : Hears (with_fields p fields0 home0 paths)
           hears t = truth {F = same_name f (field_of (with_fields p fields0 home0 paths) t) ≡ nat_eq t s} (holds home0 t)
               (λ e. ap (same_name f) (field_in (field_path p fields0) home0 paths t e) ∙ truth {F = same_name f (field_path p fields0 t) ≡ nat_eq t s} (nat_eq t s)
-              (λ y. let same = equal_numbers t s y in ap (λ z. same_name f (field_path p fields0 z)) same ∙ (ap (λ z. same_name f (p ++ z)) where0.is ∙ (ap (same_name f) (sym is) ∙ (same_name-refl f ∙ sym y))))
+              (λ y. let same = eqb-true t s y in ap (λ z. same_name f (field_path p fields0 z)) same ∙ (ap (λ z. same_name f (p ++ z)) where0.is ∙ (ap (same_name f) (sym is) ∙ (same_name-refl f ∙ sym y))))
               (λ n. let w = told fields0 t (homes.0 t e).0 in differ f (field_path p fields0 t) (λ i. let r = slot_one (field_slot fields0 0 w.m w.q) t s w.slot (led w.m w.q (sym (i ∙ ap (λ z. p ++ z) w.is))) in let y = ap (λ z. nat_eq z s) r ∙ same_eq s in cc) ∙ sym n))
-              (λ e. ap (same_name f) (field_out (field_path p fields0) home0 paths t e) ∙ (deaf t ∙ sym (not_eq t s (λ i. let r = ap (holds home0) i ∙ mine in cc))))
+              (λ e. ap (same_name f) (field_out (field_path p fields0) home0 paths t e) ∙ (deaf t ∙ sym (ne_eqb t s (λ i. let r = ap (holds home0) i ∙ mine in cc))))
       start paths deaf p is homes _ = refl
 
       form_is : (align : ℕ) (form : Form) (d : Data) → Some (occurrence (node align form) d) ≡ Some target → (form ≡ seq fields0 home0) × (d ≡ part0)
@@ -392,10 +388,10 @@ module _ (root : Grammar) (f : List ℕ) where
       apart_by m k n i = let y = ap (λ z. nat_eq m z) i ∙ same_eq m in cc
 
       after_it : (m k j : ℕ) → nat_eq m k ≡ true → suc k ≤ j → j ≡ m → ⊥
-      after_it m k j y l i = let e = equal_numbers m k y in absurd (omega arith)
+      after_it m k j y l i = let e = eqb-true m k y in absurd (omega arith)
 
       deeper : (p : List ℕ) (k m : ℕ) (rest : List ℕ) → nat_eq m k ≡ true → f ≡ p ++ m ∷ rest → f ≡ (p ++ k ∷ []) ++ rest
-      deeper p k m rest y is = is ∙ (ap (λ z. p ++ z ∷ rest) (equal_numbers m k y) ∙ sym (append_assoc p (k ∷ []) rest))
+      deeper p k m rest y is = is ∙ (ap (λ z. p ++ z ∷ rest) (eqb-true m k y) ∙ sym (append_assoc p (k ∷ []) rest))
 
       reach_run : (each : ℕ → Data → List Moment) (find : Data → Option Occurrence) (m : ℕ) → ((j : ℕ) (d : Data) → (j ≡ m → ⊥) → asks_of f (each j d) ≡ []) → ((j : ℕ) (d : Data) → nat_eq m j ≡ true → find d ≡ Some target → asks_of f (each j d) ≡ wants)
           → (k : ℕ) (es : Elements) → element_part find k es m ≡ Some target → asks_of f (run_moments each k es) ≡ wants

@@ -1,6 +1,6 @@
 -- One fault comes first.
 use Rattle.std.proofs.Common.{◌≡◌, ℕ, zero, suc, ◌<◌, ◌≤◌, ℤ, Bool, true, false, List, [], ◌∷◌, ◌++◌, length, map, Option, Some, None, refl, sym, ap, ◌∙◌, subst, arith, inl, inr, ◌⊎◌, nat_eq, nat_lt, ◌||◌}
-use Rattle.std.proofs.lemmas.Bool.{or_left, or_right}
+use Rattle.std.proofs.lemmas.Bool.{or_left, or_right, ltb-true, eqb-true}
 use Rattle.std.specs.Prelude.{slice_get, Contains, if◌then◌else◌}
 use Rattle.std.proofs.lemmas.Bool.Decides.{nat_tests}
 use Rattle.acn_grammar.specs.Check.{CheckFault, forward, det_kind, det_width, overlap, absent_unclear, unused, no_item, mixed_choice, too_long, too_many_open, too_many_conditions, too_many_values, terminator_ambiguous, number_of_fault, test_slot, open_at, IsStrictly, NodeAt, UseOf, IsChoice, equals_on, Evidence, rank, Before}
@@ -13,7 +13,6 @@ use Rattle.acn_grammar.specs.declared.node.ChoiceRule.{ChoiceRule}
 use Rattle.acn_grammar.specs.declared.node.ChoiceRule.TheVariants.{Tests}
 use Rattle.acn_grammar.specs.declared.node.Test.{Test}
 use Rattle.acn_grammar.specs.declared.node.Test.TheVariants.{Flag, Equals}
-use Rattle.acn_grammar.proofs.Codings.{equal_numbers}
 use Rattle.acn_grammar.proofs.Texts.{either}
 use Rattle.acn_packet_laws.specs.Laws.{OneFirstFault}
 use Rattle.acn_packet_laws.proofs.FirstFaults.{five}
@@ -23,9 +22,6 @@ use Rattle.acn_packet_laws.proofs.Placed.{has_field, field_is, twice, tree_numbe
 use Rattle.acn_packet_laws.proofs.Scoping.{same_eq}
 
 -- Numbers of slots in ascending order.
-
-lt_is : (n m : ℕ) → nat_lt n m ≡ true → n < m
-lt_is n m h = grind (arith, nat_tests)
 
 lt_not : (n m : ℕ) → nat_lt n m ≡ false → m ≤ n
 lt_not n m h = grind (arith, nat_tests)
@@ -38,7 +34,7 @@ above a [] h s k = cc
 above a (b ∷ xs) h s k =
     let low = h.0 in
     either {F = a < s} (nat_eq b s) (holds xs s) k
-    (λ q. let e = equal_numbers b s q in omega arith)
+    (λ q. let e = eqb-true b s q in omega arith)
     (λ q. let r = above b xs h.1 s q in omega arith)
 
 later : (a : ℕ) (xs : List ℕ) → IsStrictly (a ∷ xs) → IsStrictly xs
@@ -57,8 +53,8 @@ same_keys [] [] h k f = refl
 same_keys [] (y ∷ ys) h k f = let no = f y in let yes' = or_left (nat_eq y y) (holds ys y) (same_eq y) in cc
 same_keys (x ∷ xs) [] h k f = let no = f x in let yes' = or_left (nat_eq x x) (holds xs x) (same_eq x) in cc
 same_keys (x ∷ xs) (y ∷ ys) h k f =
-    let one : (y ≡ x) ⊎ (y < x) = either {F = (y ≡ x) ⊎ (y < x)} (nat_eq y x) (holds ys x) (sym (f x) ∙ or_left (nat_eq x x) (holds xs x) (same_eq x)) (λ q. inl (equal_numbers y x q)) (λ q. inr (above y ys k x q)) in
-    let two : (x ≡ y) ⊎ (x < y) = either {F = (x ≡ y) ⊎ (x < y)} (nat_eq x y) (holds xs y) (f y ∙ or_left (nat_eq y y) (holds ys y) (same_eq y)) (λ q. inl (equal_numbers x y q)) (λ q. inr (above x xs h y q)) in
+    let one : (y ≡ x) ⊎ (y < x) = either {F = (y ≡ x) ⊎ (y < x)} (nat_eq y x) (holds ys x) (sym (f x) ∙ or_left (nat_eq x x) (holds xs x) (same_eq x)) (λ q. inl (eqb-true y x q)) (λ q. inr (above y ys k x q)) in
+    let two : (x ≡ y) ⊎ (x < y) = either {F = (x ≡ y) ⊎ (x < y)} (nat_eq x y) (holds xs y) (f y ∙ or_left (nat_eq y y) (holds ys y) (same_eq y)) (λ q. inl (eqb-true x y q)) (λ q. inr (above x xs h y q)) in
     meet (same one two) (λ e. same_keys xs ys (later x xs h) (later y ys k) (rest e))
   where
     same : (y ≡ x) ⊎ (y < x) → (x ≡ y) ⊎ (x < y) → x ≡ y
@@ -69,7 +65,7 @@ same_keys (x ∷ xs) (y ∷ ys) h k f =
     rest : x ≡ y → (s : ℕ) → holds xs s ≡ holds ys s
     rest e s = truth {F = holds xs s ≡ holds ys s} (nat_eq x s)
         (λ q.
-        let is = equal_numbers x s q in
+        let is = eqb-true x s q in
         let no : holds xs s ≡ false = ap (holds xs) (sym is) ∙ not_above x xs h in
         let none : holds ys s ≡ false = ap (holds ys) (sym is ∙ e) ∙ not_above y ys k in
         no ∙ sym none)
@@ -115,10 +111,10 @@ same_values (x ∷ xs) (y ∷ ys) e h f =
 forced : (env other : Env) (ts : List Test) → AllHold env ts → AllHold other ts → (s : ℕ) → holds (map test_slot ts) s ≡ true → at_slot env s ≡ at_slot other s
 forced env other [] h k s q = cc
 forced env other (Flag t ∷ ts) h k s q = either {F = at_slot env s ≡ at_slot other s} (nat_eq t s) (holds (map test_slot ts) s) q
-    (λ e. subst (λ n. at_slot env n ≡ at_slot other n) (equal_numbers t s e) (h.0 ∙ sym k.0))
+    (λ e. subst (λ n. at_slot env n ≡ at_slot other n) (eqb-true t s e) (h.0 ∙ sym k.0))
     (λ e. forced env other ts h.1 k.1 s e)
 forced env other (Equals t n ∷ ts) h k s q = either {F = at_slot env s ≡ at_slot other s} (nat_eq t s) (holds (map test_slot ts) s) q
-    (λ e. subst (λ m. at_slot env m ≡ at_slot other m) (equal_numbers t s e) (h.0 ∙ sym k.0))
+    (λ e. subst (λ m. at_slot env m ≡ at_slot other m) (eqb-true t s e) (h.0 ∙ sym k.0))
     (λ e. forced env other ts h.1 k.1 s e)
 
 same_holds : (xs ys : List ℕ) (s : ℕ) → (Contains xs s → Contains ys s) → (Contains ys s → Contains xs s) → holds xs s ≡ holds ys s
@@ -259,8 +255,8 @@ module _ (root : Grammar) where
   same_rank [] (y ∷ ys) l f g = absurd (omega (arith, l))
   same_rank (x ∷ xs) [] l f g = absurd (omega (arith, l))
   same_rank (x ∷ xs) (y ∷ ys) l f g =
-      truth {F = x ∷ xs ≡ y ∷ ys} (nat_lt x y) (λ h. absurd (f (inl (lt_is x y h)))) (λ h.
-      truth {F = x ∷ xs ≡ y ∷ ys} (nat_lt y x) (λ k. absurd (g (inl (lt_is y x k)))) (λ k.
+      truth {F = x ∷ xs ≡ y ∷ ys} (nat_lt x y) (λ h. absurd (f (inl (ltb-true x y h)))) (λ h.
+      truth {F = x ∷ xs ≡ y ∷ ys} (nat_lt y x) (λ k. absurd (g (inl (ltb-true y x k)))) (λ k.
       let low = lt_not x y h in
       let high = lt_not y x k in
       let e : x ≡ y = omega (arith, low, high) in
@@ -344,7 +340,7 @@ module _ (root : Grammar) where
   values_same f g k u k' u' e e' r =
       let kind : number_of_fault f ≡ number_of_fault g = sym (head_is root f k u) ∙ (ap (item_at 0) r ∙ head_is root g k' u') in
       truth {F = values_of f ≡ values_of g} (nat_eq (number_of_fault f) 4)
-      (λ h. let four = equal_numbers (number_of_fault f) 4 h in both_overlap f g k u k' u' e e' r (overlap_of f four) (overlap_of g (sym kind ∙ four)))
+      (λ h. let four = eqb-true (number_of_fault f) 4 h in both_overlap f g k u k' u' e e' r (overlap_of f four) (overlap_of g (sym kind ∙ four)))
       (λ h. no_values f (λ four. not_four (number_of_fault f) h four) ∙ sym (no_values g (λ four. not_four (number_of_fault f) h (kind ∙ four))))
     where
       not_four : (n : ℕ) → nat_eq n 4 ≡ false → n ≡ 4 → ⊥

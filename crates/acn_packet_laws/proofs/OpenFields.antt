@@ -1,12 +1,11 @@
 -- In a tree without a fault each slot's field stands where its home is open.
 use Rattle.std.proofs.Common.{◌≡◌, ℕ, zero, suc, ◌<◌, Bool, true, false, ◌&&◌, ◌||◌, List, [], ◌∷◌, ◌++◌, length, map, get_or, refl, sym, arith, inl, inr, ◌⊎◌, nat_eq, subst}
-use Rattle.std.proofs.lemmas.Bool.{and_from, or_left, or_right}
+use Rattle.std.proofs.lemmas.Bool.{and_from, or_left, or_right, and_parts}
 use Rattle.std.specs.List.{list_any, list_all, flat_map}
 use Rattle.acn_grammar.specs.Check.{CheckFault, Undecodable, unused}
 use Rattle.acn_grammar.specs.Grammar.{Grammar, Form, Fields, Alternatives, node, num, octets, bits, text, seq, list, choice, contained, no_fields, component, inserted, no_alternatives, alternative}
 use Rattle.acn_grammar.specs.Tree.{IsTree, holds, home_fine, stand_rules, all_true}
 use Rattle.acn_grammar.specs.Walk.{Stand, Role, root_node, a_component, an_inserted, an_alternative, an_element, a_content, nodes, form_nodes, field_nodes, alternative_nodes, nodes_of, slot_of, uses, Use}
-use Rattle.acn_grammar.proofs.Codings.{both_are}
 use Rattle.acn_grammar.proofs.TreeRules.{StandFine, stand_fine}
 use Rattle.acn_packet_laws.proofs.Placed.{any_left, any_right, holds_left, holds_right, holds_either, has_field, field_is, near_has, home_near, tree_numbered, tree_rules, here_at, list_all-holds}
 use Rattle.acn_packet_laws.proofs.Scoping.{find_field, same_eq}
@@ -155,7 +154,7 @@ module _ (root : Grammar) (tree : IsTree root) where
 
   each_fine : (all : List Stand) (l : List Stand) → list_all (λ at. all_true (stand_rules all at)) l ≡ true → Each (StandFine all) l
   each_fine all [] h = tt
-  each_fine all (at ∷ l) h = (let f = both_are (all_true (stand_rules all at)) (list_all (λ x. all_true (stand_rules all x)) l) h in (stand_fine all at f.0, each_fine all l f.1))
+  each_fine all (at ∷ l) h = (let f = and_parts (all_true (stand_rules all at)) (list_all (λ x. all_true (stand_rules all x)) l) h in (stand_fine all at f.0, each_fine all l f.1))
 
   fine : Each (StandFine (nodes_of root)) (nodes_of root)
   fine = each_fine (nodes_of root) (nodes_of root) (tree_rules root tree)

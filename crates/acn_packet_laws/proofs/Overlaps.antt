@@ -1,6 +1,6 @@
 -- Without an overlap and a mixed choice no permitted numbers choose two alternatives.
 use Rattle.std.proofs.Common.{◌≡◌, ℕ, zero, suc, ◌<◌, ◌≤◌, ℤ, pos, Bool, true, false, List, [], ◌∷◌, ◌++◌, length, map, Option, Some, refl, sym, ap, ◌∙◌, arith, nat_eq, ◌||◌, inr, get_or}
-use Rattle.std.proofs.lemmas.Bool.{or_left, or_right}
+use Rattle.std.proofs.lemmas.Bool.{or_left, or_right, ltb-true, eqb-false, eqb-true}
 use Rattle.std.specs.Prelude.{slice_get, Contains, nat_lt, if◌then◌else◌, unwrap_or}
 use Rattle.std.specs.List.{AllByRecursion, list_any}
 use Rattle.std.proofs.lemmas.Bool.Decides.{nat_tests}
@@ -17,7 +17,6 @@ use Rattle.acn_grammar.specs.Walk.{Stand, conditions_of}
 use Rattle.acn_grammar.specs.declared.node.ChoiceRule.TheVariants.{Tests}
 use Rattle.acn_grammar.specs.declared.node.Test.{Test}
 use Rattle.acn_grammar.specs.declared.node.Test.TheVariants.{Flag, Equals}
-use Rattle.acn_grammar.proofs.Codings.{equal_numbers}
 use Rattle.acn_grammar.proofs.Texts.{either}
 
 -- Slots in ascending order, each once.
@@ -30,14 +29,8 @@ abbrev in_order : List ℕ → List ℕ
 in_order [] = []
 in_order (x ∷ xs) = insert x (in_order xs)
 
-lt_is : (a b : ℕ) → nat_lt a b ≡ true → a < b
-lt_is a b h = grind (arith, nat_tests)
-
 lt_not : (a b : ℕ) → nat_lt a b ≡ false → b ≤ a
 lt_not a b h = grind (arith, nat_tests)
-
-eq_not : (a b : ℕ) → nat_eq a b ≡ false → a ≡ b → ⊥
-eq_not a b h e = grind (arith, nat_tests)
 
 same_eq : (s : ℕ) → nat_eq s s ≡ true
 same_eq s = grind (arith, nat_tests)
@@ -47,7 +40,7 @@ Strict b xs = IsStrictly (b ∷ xs)
 
 insert_strict : (x b : ℕ) (ys : List ℕ) → b < x → Strict b ys → Strict b (insert x ys)
 insert_strict x b [] h s = (h, tt)
-insert_strict x b (y ∷ ys) h s = by (nat_lt x y) (nat_eq x y) (lt_is x y) (lt_not x y) (eq_not x y) (λ k. insert_strict x y ys k s.1)
+insert_strict x b (y ∷ ys) h s = by (nat_lt x y) (nat_eq x y) (ltb-true x y) (lt_not x y) (eqb-false x y) (λ k. insert_strict x y ys k s.1)
   where
     by : (t u : Bool) → (t ≡ true → x < y) → (t ≡ false → y ≤ x) → (u ≡ false → x ≡ y → ⊥) → (y < x → Strict y (insert x ys)) → Strict b (if t then x ∷ y ∷ ys else (if u then y ∷ ys else y ∷ insert x ys))
     by true u f g d rest = (h, (f refl, s.1))
@@ -59,7 +52,7 @@ insert_strict x b (y ∷ ys) h s = by (nat_lt x y) (nat_eq x y) (lt_is x y) (lt_
 
 insert_first : (x : ℕ) (ys : List ℕ) → IsStrictly ys → IsStrictly (insert x ys)
 insert_first x [] s = tt
-insert_first x (y ∷ ys) s = by (nat_lt x y) (nat_eq x y) (lt_is x y) (lt_not x y) (eq_not x y) (λ k. insert_strict x y ys k s)
+insert_first x (y ∷ ys) s = by (nat_lt x y) (nat_eq x y) (ltb-true x y) (lt_not x y) (eqb-false x y) (λ k. insert_strict x y ys k s)
   where
     by : (t u : Bool) → (t ≡ true → x < y) → (t ≡ false → y ≤ x) → (u ≡ false → x ≡ y → ⊥) → (y < x → Strict y (insert x ys)) → IsStrictly (if t then x ∷ y ∷ ys else (if u then y ∷ ys else y ∷ insert x ys))
     by true u f g d rest = (f refl, s)
@@ -81,7 +74,7 @@ or_twice false c = refl
 
 insert-holds : (x : ℕ) (ys : List ℕ) (s : ℕ) → holds (insert x ys) s ≡ (nat_eq x s || holds ys s)
 insert-holds x [] s = refl
-insert-holds x (y ∷ ys) s = by (nat_lt x y) (nat_eq x y) (equal_numbers x y) (insert-holds x ys s)
+insert-holds x (y ∷ ys) s = by (nat_lt x y) (nat_eq x y) (eqb-true x y) (insert-holds x ys s)
   where
     by : (t u : Bool) → (u ≡ true → x ≡ y) → holds (insert x ys) s ≡ (nat_eq x s || holds ys s) → holds (if t then x ∷ y ∷ ys else (if u then y ∷ ys else y ∷ insert x ys)) s ≡ (nat_eq x s || (nat_eq y s || holds ys s))
     by true u f rest = refl
@@ -107,7 +100,7 @@ contains_holds xs s c = get_holds xs c.0 s c.1 c.2
 pub holds_contains : (xs : List ℕ) (s : ℕ) → holds xs s ≡ true → Contains xs s
 holds_contains [] s h = cc
 holds_contains (x ∷ xs) s h = either {F = Contains (x ∷ xs) s} (nat_eq x s) (holds xs s) h
-    (λ q. (zero, omega arith, equal_numbers x s q))
+    (λ q. (zero, omega arith, eqb-true x s q))
     (λ q. let r = holds_contains xs s q in (suc r.0, omega (arith, r.1), r.2))
 
 -- The numbers that an env has for the slots of conditions that hold in it.
@@ -132,7 +125,7 @@ or_rest false b h e = h
 
 at-numbers : (env : Env) (xs : List ℕ) (s : ℕ) → holds xs s ≡ true → at_slot (numbers_in env xs) s ≡ Some (number_in env s)
 at-numbers env [] s h = cc
-at-numbers env (x ∷ xs) s h = by_slot env x s (at_slot (numbers_in env xs) s) (nat_eq x s) (equal_numbers x s) (λ n. at-numbers env xs s (or_rest (nat_eq x s) (holds xs s) h n))
+at-numbers env (x ∷ xs) s h = by_slot env x s (at_slot (numbers_in env xs) s) (nat_eq x s) (eqb-true x s) (λ n. at-numbers env xs s (or_rest (nat_eq x s) (holds xs s) h n))
 
 -- conditions that hold in the env hold in its numbers for their slots
 hold_in : (env : Env) (xs : List ℕ) (ts : List Test) → ((s : ℕ) → holds (map test_slot ts) s ≡ true → holds xs s ≡ true) → AllHold env ts → AllHold (numbers_in env xs) ts
@@ -149,8 +142,8 @@ all_hold-append env (t ∷ ts) us h k = (h.0, all_hold-append env ts us h.1 k)
 -- the slot of a condition that holds has a number
 has_number : (env : Env) (ts : List Test) (s : ℕ) → AllHold env ts → holds (map test_slot ts) s ≡ true → (x : ℤ) × (at_slot env s ≡ Some x)
 has_number env [] s h k = cc
-has_number env (Flag t ∷ ts) s h k = either {F = (x : ℤ) × (at_slot env s ≡ Some x)} (nat_eq t s) (holds (map test_slot ts) s) k (λ q. (pos 1, ap (at_slot env) (sym (equal_numbers t s q)) ∙ h.0)) (λ q. has_number env ts s h.1 q)
-has_number env (Equals t n ∷ ts) s h k = either {F = (x : ℤ) × (at_slot env s ≡ Some x)} (nat_eq t s) (holds (map test_slot ts) s) k (λ q. (n, ap (at_slot env) (sym (equal_numbers t s q)) ∙ h.0)) (λ q. has_number env ts s h.1 q)
+has_number env (Flag t ∷ ts) s h k = either {F = (x : ℤ) × (at_slot env s ≡ Some x)} (nat_eq t s) (holds (map test_slot ts) s) k (λ q. (pos 1, ap (at_slot env) (sym (eqb-true t s q)) ∙ h.0)) (λ q. has_number env ts s h.1 q)
+has_number env (Equals t n ∷ ts) s h k = either {F = (x : ℤ) × (at_slot env s ≡ Some x)} (nat_eq t s) (holds (map test_slot ts) s) k (λ q. (n, ap (at_slot env) (sym (eqb-true t s q)) ∙ h.0)) (λ q. has_number env ts s h.1 q)
 
 -- Alternatives by their numbers.
 
@@ -162,13 +155,13 @@ case_at (alternative name g ts more) (suc i) h = case_at more i (omega arith)
 some_tests : (cases : List (List ℕ × List Test)) → list_any has_tests cases ≡ true → (m : ℕ) × (one : List ℕ × List Test) × (slice_get cases m ≡ Some one) × (0 < length one.1)
 some_tests [] h = cc
 some_tests (c ∷ cases) h = either {F = (m : ℕ) × (one : List ℕ × List Test) × (slice_get (c ∷ cases) m ≡ Some one) × (0 < length one.1)} (has_tests c) (list_any has_tests cases) h
-    (λ q. (zero, c, refl, lt_is 0 (length c.1) q))
+    (λ q. (zero, c, refl, ltb-true 0 (length c.1) q))
     (λ q. let r = some_tests cases q in (suc r.0, r.1, r.2, r.3))
 
 module _ (root : Grammar) where
   permitted_at : (env : Env) (s : ℕ) (x : ℤ) → Permitted root env → at_slot env s ≡ Some x → In (domain_of root s) x
   permitted_at [] s x p e = cc
-  permitted_at (e' ∷ env) s x p e = by (nat_eq e'.0 s) (equal_numbers e'.0 s) e (λ q. permitted_at env s x p.1 q)
+  permitted_at (e' ∷ env) s x p e = by (nat_eq e'.0 s) (eqb-true e'.0 s) e (λ q. permitted_at env s x p.1 q)
     where
       by : (t : Bool) → (t ≡ true → e'.0 ≡ s) → (if t then Some e'.1 else at_slot env s) ≡ Some x → (at_slot env s ≡ Some x → In (domain_of root s) x) → In (domain_of root s) x
       by true f e rest = let same = f refl in let value : e'.1 ≡ x = cc in rw (← same, ← value) p.0

@@ -11,10 +11,10 @@ use Rattle.acn_grammar.specs.declared.node.Presence.{Presence}
 use Rattle.acn_grammar.specs.declared.node.Presence.TheVariants.{Always, Bit, When}
 use Rattle.acn_grammar.specs.declared.node.ChoiceRule.{ChoiceRule}
 use Rattle.acn_grammar.specs.declared.node.Test.{Test}
-use Rattle.acn_grammar.proofs.Codings.{both_are, not_is, equal_numbers}
 use Rattle.acn_grammar.proofs.Texts.{either}
 use Rattle.acn_grammar.proofs.TreeRules.{StandFine, stand_fine, list_all-append}
 use Rattle.acn_grammar.proofs.Characters.{same_name-is}
+use Rattle.std.proofs.lemmas.Bool.{and_parts, not-true, eqb-true}
 
 -- Tests on lists.
 
@@ -51,11 +51,11 @@ holds_either {F} xs ys s h f g = either {F = F} (holds xs s) (holds ys s) (sym (
 pub list_all-holds : (p : ℕ → Bool) (xs : List ℕ) (s : ℕ) → list_all p xs ≡ true → holds xs s ≡ true → p s ≡ true
 list_all-holds p [] s h k = cc
 list_all-holds p (x ∷ xs) s h k =
-    let f = both_are (p x) (list_all p xs) h in
-    either {F = p s ≡ true} (nat_eq x s) (holds xs s) k (λ e. rw (← equal_numbers x s e) f.0) (λ e. list_all-holds p xs s f.1 e)
+    let f = and_parts (p x) (list_all p xs) h in
+    either {F = p s ≡ true} (nat_eq x s) (holds xs s) k (λ e. rw (← eqb-true x s e) f.0) (λ e. list_all-holds p xs s f.1 e)
 
 cond_holds : {F : Type 0} (t : Bool) (x s : ℕ) (rest : List ℕ) → holds (cond t (x ∷ rest) rest) s ≡ true → (t ≡ true → x ≡ s → F) → (holds rest s ≡ true → F) → F
-cond_holds {F} true x s rest h f g = either {F = F} (nat_eq x s) (holds rest s) h (λ q. f refl (equal_numbers x s q)) g
+cond_holds {F} true x s rest h f g = either {F = F} (nat_eq x s) (holds rest s) h (λ q. f refl (eqb-true x s q)) g
 cond_holds {F} false x s rest h f g = g h
 
 holds-filter : (p : ℕ → Bool) (xs : List ℕ) (s : ℕ) → holds (filter p xs) s ≡ true → p s ≡ true
@@ -91,18 +91,18 @@ range-above : (xs : List ℕ) (a n s : ℕ) → same_name xs (range_with_len a n
 range-above [] a n s e h = cc
 range-above (x ∷ xs) a zero s e h = cc
 range-above (x ∷ xs) a (suc n) s e h =
-    let f = both_are (nat_eq x a) (same_name xs (range_with_len (a + 1) n)) e in
-    let is = equal_numbers x a f.0 in
-    either {F = a ≤ s} (nat_eq x s) (holds xs s) h (λ q. let same = equal_numbers x s q in omega arith) (λ q. let r = range-above xs (a + 1) n s f.1 q in omega arith)
+    let f = and_parts (nat_eq x a) (same_name xs (range_with_len (a + 1) n)) e in
+    let is = eqb-true x a f.0 in
+    either {F = a ≤ s} (nat_eq x s) (holds xs s) h (λ q. let same = eqb-true x s q in omega arith) (λ q. let r = range-above xs (a + 1) n s f.1 q in omega arith)
 
 range-apart : (xs ys : List ℕ) (a n s : ℕ) → same_name (xs ++ ys) (range_with_len a n) ≡ true → holds xs s ≡ true → holds ys s ≡ true → ⊥
 range-apart [] ys a n s e p q = cc
 range-apart (x ∷ xs) ys a zero s e p q = cc
 range-apart (x ∷ xs) ys a (suc n) s e p q =
-    let f = both_are (nat_eq x a) (same_name (xs ++ ys) (range_with_len (a + 1) n)) e in
-    let is = equal_numbers x a f.0 in
+    let f = and_parts (nat_eq x a) (same_name (xs ++ ys) (range_with_len (a + 1) n)) e in
+    let is = eqb-true x a f.0 in
     either {F = ⊥} (nat_eq x s) (holds xs s) p
-    (λ t. let same = equal_numbers x s t in let r = range-above (xs ++ ys) (a + 1) n s f.1 (holds_right xs ys s q) in absurd (omega arith))
+    (λ t. let same = eqb-true x s t in let r = range-above (xs ++ ys) (a + 1) n s f.1 (holds_right xs ys s q) in absurd (omega arith))
     (λ t. range-apart xs ys (a + 1) n s f.1 t q)
 
 -- What is near is inside.
@@ -175,7 +175,7 @@ own_number (Some t) (When ts) form s h e = cc
 
 pub field_number : (role : Role) (form : Form) (s : ℕ) → role_fine role form ≡ true → is_slot s (slot_here role) ≡ true → is_number form ≡ true
 field_number root_node form s h e = cc
-field_number (a_component name presence own) form s h e = (own_number own presence form s (both_are (presence_fine presence) (own_fine own presence form) h).1 e).1
+field_number (a_component name presence own) form s h e = (own_number own presence form s (and_parts (presence_fine presence) (own_fine own presence form) h).1 e).1
 field_number (an_inserted name slot) form s h e = inserted_number slot form h
 field_number (an_alternative name tests) form s h e = cc
 field_number an_element form s h e = cc
@@ -206,16 +206,16 @@ module _ (all : List Stand) (numbered : same_numbers (slots_of all) (range_with_
   pub fine_at : (a c : List Stand) (here : Stand) → all ≡ a ++ (here ∷ c) → StandFine all here
   fine_at a c here e =
       let f = list_all-append (λ at. all_true (stand_rules all at)) a (here ∷ c) (ap (list_all (λ at. all_true (stand_rules all at))) (sym e) ∙ rules) in
-      stand_fine all here (both_are (all_true (stand_rules all here)) (list_all (λ at. all_true (stand_rules all at)) c) f.1).0
+      stand_fine all here (and_parts (all_true (stand_rules all here)) (list_all (λ at. all_true (stand_rules all at)) c) f.1).0
 
   -- the slots at home have their fields near, and nothing inside encloses them
   pub home_near : (at : Stand) (fields : Fields) (home : List ℕ) → home_fine all at (seq fields home) ≡ true → (s : ℕ) → holds home s ≡ true → holds (near fields) s ≡ true
   home_near at fields home h s k =
-      list_all-holds (holds (near fields)) home s (both_are (same_numbers home (filter (λ t. is_home all t at) (slots_of all))) (list_all (holds (near fields)) home) h).1 k
+      list_all-holds (holds (near fields)) home s (and_parts (same_numbers home (filter (λ t. is_home all t at) (slots_of all))) (list_all (holds (near fields)) home) h).1 k
 
   pub home_is : (at : Stand) (fields : Fields) (home : List ℕ) → home_fine all at (seq fields home) ≡ true → (s : ℕ) → holds home s ≡ true → is_home all s at ≡ true
   home_is at fields home h s k =
-      let f = both_are (same_numbers home (filter (λ t. is_home all t at) (slots_of all))) (list_all (holds (near fields)) home) h in
+      let f = and_parts (same_numbers home (filter (λ t. is_home all t at) (slots_of all))) (list_all (holds (near fields)) home) h in
       holds-filter (λ t. is_home all t at) (slots_of all) s (ap (λ l. holds l s) (sym (same_name-is home (filter (λ t. is_home all t at) (slots_of all)) f.0)) ∙ k)
 
   -- A node in its place: what stands before and behind it, and the slots that are open there.
@@ -276,7 +276,7 @@ module _ (all : List Stand) (numbered : same_numbers (slots_of all) (range_with_
             (λ h. ap (has_field s) p.whole ∙ any_right (field_is s) pre (here ∷ (inner ++ post)) (or_right (field_is s here) (has_field s (inner ++ post)) (any_left (field_is s) inner post (near_has fields path (home ++ around) 0 s (home_near here fields home fine.home s h)))))
             (λ h. p.open_slots s h);
         alone = λ s o. holds_either {F = list_any (encloses all s) (field_nodes path (home ++ around) 0 fields) ≡ false} home around s o
-            (λ h. not_is (list_any (encloses all s) inner) (both_are (encloses all s here) (not (list_any (encloses all s) inner)) (home_is here fields home fine.home s h)).1)
+            (λ h. not-true (list_any (encloses all s) inner) (and_parts (encloses all s here) (not (list_any (encloses all s) inner)) (home_is here fields home fine.home s h)).1)
             (λ h. (neither (encloses all s here) (list_any (encloses all s) inner) (p.alone s h)).1);
         close = λ s o h. holds_either {F = holds (near fields) s ≡ true} home around s o
             (λ q. home_near here fields home fine.home s q)
@@ -427,9 +427,9 @@ root_place root numbered rules = record { whole = sym (append-nil (nodes_of root
 pub tree_numbered : (root : Grammar) → IsTree root → same_numbers (slots_of (nodes_of root)) (range_with_len 0 (length (slots_of (nodes_of root)))) ≡ true
 tree_numbered root h =
     let all = nodes_of root in
-    (both_are (same_numbers (slots_of all) (range_with_len 0 (length (slots_of all)))) (list_all (λ at. all_true (stand_rules all at)) all) (both_are (nat_le (length all) 65536) (same_numbers (slots_of all) (range_with_len 0 (length (slots_of all))) && list_all (λ at. all_true (stand_rules all at)) all) h).1).0
+    (and_parts (same_numbers (slots_of all) (range_with_len 0 (length (slots_of all)))) (list_all (λ at. all_true (stand_rules all at)) all) (and_parts (nat_le (length all) 65536) (same_numbers (slots_of all) (range_with_len 0 (length (slots_of all))) && list_all (λ at. all_true (stand_rules all at)) all) h).1).0
 
 pub tree_rules : (root : Grammar) → IsTree root → list_all (λ at. all_true (stand_rules (nodes_of root) at)) (nodes_of root) ≡ true
 tree_rules root h =
     let all = nodes_of root in
-    (both_are (same_numbers (slots_of all) (range_with_len 0 (length (slots_of all)))) (list_all (λ at. all_true (stand_rules all at)) all) (both_are (nat_le (length all) 65536) (same_numbers (slots_of all) (range_with_len 0 (length (slots_of all))) && list_all (λ at. all_true (stand_rules all at)) all) h).1).1
+    (and_parts (same_numbers (slots_of all) (range_with_len 0 (length (slots_of all)))) (list_all (λ at. all_true (stand_rules all at)) all) (and_parts (nat_le (length all) 65536) (same_numbers (slots_of all) (range_with_len 0 (length (slots_of all))) && list_all (λ at. all_true (stand_rules all at)) all) h).1).1

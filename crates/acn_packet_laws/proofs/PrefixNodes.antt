@@ -1,6 +1,6 @@
 -- No spelling of a node begins another, from laws of the leaves.
 use Rattle.std.proofs.Common.{◌≡◌, ℕ, zero, suc, ◌+◌, ◌-◌, ◌<◌, ℤ, pos, Bool, true, false, List, [], ◌∷◌, ◌++◌, length, Option, Some, None, refl, sym, ap, ◌∙◌, arith, nat_eq, ◌||◌, ◌&&◌, not, IsTrue, ◌*◌}
-use Rattle.std.proofs.lemmas.Bool.{not-true, or_parts}
+use Rattle.std.proofs.lemmas.Bool.{not-true, or_parts, and_parts, eqb-true}
 use Rattle.std.proofs.lemmas.Bool.Decides.{nat_tests}
 use Rattle.std.specs.Prelude.{slice_get}
 use Rattle.std.specs.List.{list_any, zip, AllByRecursion}
@@ -11,7 +11,6 @@ use Rattle.acn_grammar.specs.Fails.{count_of}
 use Rattle.acn_grammar.specs.Slots.{items_of, domain_of}
 use Rattle.acn_grammar.specs.Scoped.{Known, with_slot, Agree, TestIn, TestsIn, PresenceIn, RuleIn, Apart, FineField, choose_known, with_own, EndTold, after, form_after, fields_after, tests_at, names_of, Permitted, Scoped, FormScoped, FieldsScoped, AlternativesScoped}
 use Rattle.acn_grammar.specs.Tree.{holds}
-use Rattle.acn_grammar.proofs.Codings.{both_are, not_is}
 use Rattle.acn_grammar.proofs.FineLeaves.{lawful}
 use Rattle.acn_grammar.proofs.Texts.{text_law}
 use Rattle.acn_grammar.specs.Grammar.{Grammar, Form, Fields, Alternatives, Data, Places, Elements, node, num, octets, bits, text, seq, list, choice, contained, no_fields, component, inserted, no_alternatives, alternative, int, boolean, item, null, octet_string, bit_string, characters, record_of, list_of, alt, no_places, empty, filled, no_elements, element, element_count}
@@ -55,21 +54,17 @@ pub names_one : (ns : List (List ℕ)) (i j : ℕ) (n : List ℕ) → all_differ
 names_one [] i j n h p q = cc
 names_one (m ∷ ns) zero zero n h p q = refl
 names_one (m ∷ ns) zero (suc j) n h p q =
-    let f = both_are (not (list_any (same_name m) ns)) (all_differ same_name ns) h in
-    absurd (no_other_name m ns j (not_is (list_any (same_name m) ns) f.0) (q ∙ sym p))
+    let f = and_parts (not (list_any (same_name m) ns)) (all_differ same_name ns) h in
+    absurd (no_other_name m ns j (not-true (list_any (same_name m) ns) f.0) (q ∙ sym p))
 names_one (m ∷ ns) (suc i) zero n h p q =
-    let f = both_are (not (list_any (same_name m) ns)) (all_differ same_name ns) h in
-    absurd (no_other_name m ns i (not_is (list_any (same_name m) ns) f.0) (p ∙ sym q))
+    let f = and_parts (not (list_any (same_name m) ns)) (all_differ same_name ns) h in
+    absurd (no_other_name m ns i (not-true (list_any (same_name m) ns) f.0) (p ∙ sym q))
 names_one (m ∷ ns) (suc i) (suc j) n h p q =
-    let f = both_are (not (list_any (same_name m) ns)) (all_differ same_name ns) h in
+    let f = and_parts (not (list_any (same_name m) ns)) (all_differ same_name ns) h in
     ap suc (names_one ns i j n f.1 p q)
 
 holds_true : (b : Bool) → IsTrue b → b ≡ true
 holds_true b h = h
-
-and_true : (a b : Bool) → (a && b) ≡ true → (a ≡ true) × (b ≡ true)
-and_true true b h = (refl, h)
-and_true false b h = cc
 
 same_int : (y : ℤ) (d : Data) (x : ℤ) → x ≡ y → NumberOf Integer d x → int y ≡ d
 same_int y (int z) x p q = cc
@@ -122,9 +117,6 @@ bits_behind Always b fs gs e = e
 bits_behind Bit b fs gs e = cc
 bits_behind (When ts) b fs gs e = e
 
-eq_when : (a b : ℕ) → nat_eq a b ≡ true → a ≡ b
-eq_when a b h = grind (arith, nat_tests)
-
 or_rest : (a b : Bool) → a ≡ false → (a || b) ≡ true → b ≡ true
 or_rest true b e h = cc
 or_rest false b e h = h
@@ -133,7 +125,7 @@ pub agree_more : (ks : Known) (env env' : Env) (s : ℕ) (x : ℤ) → Agree ks 
 agree_more ks env env' s x same p q t h = go (nat_eq s t) refl
   where
     go : (b : Bool) → nat_eq s t ≡ b → at_slot env t ≡ at_slot env' t
-    go true e = let is : s ≡ t = eq_when s t e in rw (← is) (p ∙ sym q)
+    go true e = let is : s ≡ t = eqb-true s t e in rw (← is) (p ∙ sym q)
     go false e = same t (or_rest (nat_eq s t) (ks t) e h)
 
 -- An env that a SEQUENCE extends keeps what was known.
@@ -250,7 +242,7 @@ module _ (root : Grammar) where
 
   outside : (known : Known) (home : List ℕ) (xs ys : List ℤ) (env env' : Env) → Agree known (with_home home xs env) (with_home home ys env') → Agree (λ s. known s && not (holds home s)) env env'
   outside known home xs ys env env' same s h =
-      let both = and_true (known s) (not (holds home s)) h in
+      let both = and_parts (known s) (not (holds home s)) h in
       let apart = not-true (holds home s) both.1 in
       sym (extended home xs env s apart) ∙ (same s both.0 ∙ extended home ys env' s apart)
 

@@ -1,5 +1,5 @@
 -- In a tree without a fault each use names a slot whose number is known where it stands.
-use Rattle.std.proofs.lemmas.Bool.{and_from, false_from_ne_true, or_left, or_parts, or_right}
+use Rattle.std.proofs.lemmas.Bool.{and_from, false_from_ne_true, or_left, or_parts, or_right, and_parts, eqb-true}
 use Rattle.std.proofs.Common.{◌≡◌, ℕ, zero, suc, ◌<◌, Bool, true, false, not, List, [], ◌∷◌, ◌++◌, length, map, Option, Some, None, refl, sym, ap, ◌∙◌, arith, nat_eq, ◌||◌}
 use Rattle.std.specs.Prelude.{slice_get}
 use Rattle.std.specs.List.{list_any, list_all, range_with_len}
@@ -15,7 +15,6 @@ use Rattle.acn_grammar.specs.declared.node.SizeRule.{SizeRule}
 use Rattle.acn_grammar.specs.declared.node.SizeRule.TheVariants.{Prefix, Slot, Ended}
 use Rattle.acn_grammar.specs.declared.node.Test.{Test}
 use Rattle.acn_grammar.specs.declared.node.Test.TheVariants.{Flag, Equals}
-use Rattle.acn_grammar.proofs.Codings.{both_are, equal_numbers}
 use Rattle.acn_packet_laws.proofs.Placed.{any_left, any_right, any_either, holds_right, holds_either, list_all-holds, field_is, has_field, near_has, near_if_when, near_parts, own_number, is_number, no_field, twice, fine_at, home_near, home_is, Place, FieldsPlace, CasesPlace, here_at, place_fine, to_fields, first_component, next_component, first_inserted, next_inserted, tree_numbered, tree_rules, slot_in, parts_apart, inserted_number}
 use Rattle.acn_grammar.proofs.Texts.{either}
 
@@ -44,12 +43,12 @@ used_right (x ∷ xs) ys s h = or_right (nat_eq (slot_of x) s) (holds (map slot_
 pub find_use : (us : List Use) (s : ℕ) → holds (map slot_of us) s ≡ true → (u : ℕ) × (use' : Use) × (slice_get us u ≡ Some use') × (slot_of use' ≡ s)
 find_use [] s h = cc
 find_use (x ∷ us) s h = either {F = (u : ℕ) × (use' : Use) × (slice_get (x ∷ us) u ≡ Some use') × (slot_of use' ≡ s)} (nat_eq (slot_of x) s) (holds (map slot_of us) s) h
-    (λ q. (zero, x, refl, equal_numbers (slot_of x) s q))
+    (λ q. (zero, x, refl, eqb-true (slot_of x) s q))
     (λ q. let r = find_use us s q in (suc r.0, r.1, r.2, r.3))
 
 pub slot_is : (o : Option ℕ) (s : ℕ) → is_slot s o ≡ true → o ≡ Some s
 slot_is None s h = cc
-slot_is (Some t) s h = ap Some (equal_numbers t s h)
+slot_is (Some t) s h = ap Some (eqb-true t s h)
 
 pub find_field : (l : List Stand) (s : ℕ) → has_field s l ≡ true → (j : ℕ) × (at : Stand) × (slice_get l j ≡ Some at) × (slot_here at.role ≡ Some s) × (j < length l)
 find_field [] s h = cc
@@ -68,7 +67,7 @@ get_later (z ∷ a) x y c j e = let r = get_later a x y c j e in (suc r.0, omega
 no_uses : (role : Role) (path around : List ℕ) (align : ℕ) (form : Form) (s t : ℕ) → role_fine role form ≡ true → is_slot s (slot_here role) ≡ true → used t (record { path = path; around = around; role = role; align = align; form = form }) ≡ true → ⊥
 no_uses root_node path around align form s t f h u = cc
 no_uses (a_component name presence None) path around align form s t f h u = cc
-no_uses (a_component name (When ts) (Some o)) path around align form s t f h u = let g = (both_are (presence_fine (When ts)) false f).1 in cc
+no_uses (a_component name (When ts) (Some o)) path around align form s t f h u = let g = (and_parts (presence_fine (When ts)) false f).1 in cc
 no_uses (a_component name Bit (Some o)) path around align form s t f h u = cc
 no_uses (a_component name Always (Some o)) path around align (num leaf) s t f h u = cc
 no_uses (a_component name Always (Some o)) path around align (octets sizing) s t f h u = cc
@@ -133,7 +132,7 @@ own_second (Some t) ks s h = or_right (nat_eq t s) (ks s) h
 mutual
   pub after_from : (g : Grammar) (role : Role) (path around : List ℕ) (ks : Known) (s : ℕ) → after ks g s ≡ true → (ks s || has_field s (nodes role path around g)) ≡ true
   after_from (node align (seq fields home)) role path around ks s h =
-      let f = both_are (fields_after ks fields s) (not (holds home s)) h in
+      let f = and_parts (fields_after ks fields s) (not (holds home s)) h in
       either {F = (ks s || (is_slot s (slot_here role) || has_field s (field_nodes path (home ++ around) 0 fields))) ≡ true} (ks s) (has_field s (field_nodes path (home ++ around) 0 fields)) (fields_after_from fields path (home ++ around) 0 ks s f.0)
       (λ q. or_left (ks s) (is_slot s (slot_here role) || has_field s (field_nodes path (home ++ around) 0 fields)) q)
       (λ q. or_right (ks s) (is_slot s (slot_here role) || has_field s (field_nodes path (home ++ around) 0 fields)) (or_right (is_slot s (slot_here role)) (has_field s (field_nodes path (home ++ around) 0 fields)) q))
@@ -239,7 +238,7 @@ module _ (root : Grammar) (tree : IsTree root) (sound : (f : CheckFault) → Und
       let here = here_at role path around align (seq fields home) in
       let inner = field_nodes path (home ++ around) 0 fields in
       let fine = place_fine (nodes_of root) numbers rules pre role path around align (seq fields home) post p in
-      let one = (both_are (encloses (nodes_of root) s here) (not (list_any (encloses (nodes_of root) s) inner)) (home_is (nodes_of root) numbers rules here fields home fine.home s q)).0 in
+      let one = (and_parts (encloses (nodes_of root) s here) (not (list_any (encloses (nodes_of root) s) inner)) (home_is (nodes_of root) numbers rules here fields home fine.home s q)).0 in
       let two = (or_parts (encloses (nodes_of root) s here) (list_any (encloses (nodes_of root) s) inner) (p.alone s o)).0 in
       cc)
 
@@ -282,7 +281,7 @@ module _ (root : Grammar) (tree : IsTree root) (sound : (f : CheckFault) → Und
       → (s : ℕ) → is_slot s own ≡ true → presence ≡ Always
   own_always pre path around k name (node align form) presence default own fs post p s q =
       let fine = place_fine (nodes_of root) numbers rules pre (a_component name presence own) (path ++ k ∷ []) around align form (field_nodes path around (suc k) fs ++ post) (first_component (nodes_of root) numbers rules pre path around k name (node align form) presence default own fs post p) in
-      (own_number own presence form s (both_are (presence_fine presence) (own_fine own presence form) fine.role).1 q).0
+      (own_number own presence form s (and_parts (presence_fine presence) (own_fine own presence form) fine.role).1 q).0
 
   -- an open slot whose field stands near in a node is known behind it
   mutual

@@ -16,9 +16,9 @@ use Rattle.acn_grammar.specs.Spell.{octet_numbers}
 use Rattle.acn_grammar.specs.declared.node.NumCoding.{NumCoding}
 use Rattle.acn_grammar.specs.declared.node.NumCoding.TheVariants.{Range, CountedFrom, CountedSigned, PosInt, Twos, Bcd, BcdEnded, Ascii, AsciiEnded, Flag, Fixed}
 use Rattle.acn_grammar.specs.declared.node.NumLeaf.{NumLeaf}
-use Rattle.acn_grammar.proofs.Codings.{both_are}
 use Rattle.acn_grammar.proofs.FineLeaves.{rules_of}
 use Rattle.acn_grammar.proofs.LeafLengths.{nibbles-length, digit_octets-length}
+use Rattle.std.proofs.lemmas.Bool.{and_parts}
 
 -- What the bits of a code say is no want of bits.
 
@@ -160,8 +160,8 @@ by_coding BcdEnded leaf f rest r reach t e s =
     let a = ended_short leaf nibbles 4 (low_bits 4 15) (most_digits (images_of leaf)) Positive rest r reach nibbles-length (omega arith) (most_few (images_of leaf)) (omega arith) t e in
     omega arith
 by_coding (AsciiEnded end signed) leaf f rest r reach t e s =
-    let p = both_are (is_terminator end) (not (begins_number (octet_numbers end))) f in
-    let q = both_are (is_pattern end) (nat_eq (length end % 8) 0) p.0 in
+    let p = and_parts (is_terminator end) (not (begins_number (octet_numbers end))) f in
+    let q = and_parts (is_pattern end) (nat_eq (length end % 8) 0) p.0 in
     let a = ascii_short leaf end signed rest r reach (terminator_few end q.0) t e in
     omega arith
 

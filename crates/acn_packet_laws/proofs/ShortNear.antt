@@ -22,7 +22,6 @@ use Rattle.acn_grammar.specs.declared.node.Sizing.{Sizing}
 use Rattle.acn_grammar.specs.declared.node.SizeRule.{SizeRule}
 use Rattle.acn_grammar.specs.declared.node.SizeRule.TheVariants.{Prefix, Slot, Ended}
 use Rattle.acn_grammar.specs.declared.node.TextLeaf.{TextLeaf}
-use Rattle.acn_grammar.proofs.Codings.{both_are, equal_numbers}
 use Rattle.acn_grammar.proofs.LeafLengths.{code-length}
 use Rattle.acn_grammar.proofs.SpanLaw.{Between, Fine, FormFine, FieldsFine, AlternativesFine, size_has, span_between}
 use Rattle.acn_grammar.proofs.SpellLength.{Padding-length, then-length}
@@ -35,6 +34,7 @@ use Rattle.acn_packet_laws.proofs.Spans.{exactly_spans, plus_spans, same_spans, 
 use Rattle.acn_packet_laws.proofs.TextReaches.{octets-long, octets-whole}
 use Rattle.acn_packet_laws.proofs.ValueLengths.{padding_spans, number_spans}
 use Rattle.acn_packet_laws.proofs.WrittenSizes.{text_rules}
+use Rattle.std.proofs.lemmas.Bool.{and_parts, eqb-true}
 
 -- A reason as it is named: short inside no window alone.
 
@@ -188,14 +188,14 @@ text_near None here leaf env s f at' rest' fault' reach' t' e' =
 text_near (Some end) here leaf env s f at rest fault reach t e = by _ t
   where
     eight : leaf.width ≡ 8
-    eight = equal_numbers leaf.width 8 (both_are (nat_eq leaf.width 8) (not leaf.indexed && is_terminator end) (both_are (no_size leaf.sized.rule) (nat_eq leaf.width 8 && (not leaf.indexed && is_terminator end)) f).1).0
+    eight = eqb-true leaf.width 8 (and_parts (nat_eq leaf.width 8) (not leaf.indexed && is_terminator end) (and_parts (no_size leaf.sized.rule) (nat_eq leaf.width 8 && (not leaf.indexed && is_terminator end)) f).1).0
 
     whole : length end ≡ 8 * length (octet_numbers end)
     whole =
-        let a = both_are (no_size leaf.sized.rule) (nat_eq leaf.width 8 && (not leaf.indexed && is_terminator end)) f in
-        let b = both_are (nat_eq leaf.width 8) (not leaf.indexed && is_terminator end) a.1 in
-        let c = both_are (not leaf.indexed) (is_terminator end) b.1 in
-        octets-whole end (equal_numbers (length end % 8) 0 (both_are (is_pattern end) (nat_eq (length end % 8) 0) c.1).1)
+        let a = and_parts (no_size leaf.sized.rule) (nat_eq leaf.width 8 && (not leaf.indexed && is_terminator end)) f in
+        let b = and_parts (nat_eq leaf.width 8) (not leaf.indexed && is_terminator end) a.1 in
+        let c = and_parts (not leaf.indexed) (is_terminator end) b.1 in
+        octets-whole end (eqb-true (length end % 8) 0 (and_parts (is_pattern end) (nat_eq (length end % 8) 0) c.1).1)
 
     bound : (length (octet_values rest) < size_of (greatest leaf.sized.sizes) + length (octet_numbers end)) → (plus (exactly (rule_width leaf.sized.rule + length end)) (times (sizes_of leaf.sized.sizes) (exactly leaf.width))).greatest < 2 ^ 40
         → length rest < (plus (exactly (rule_width leaf.sized.rule + length end)) (times (sizes_of leaf.sized.sizes) (exactly leaf.width))).greatest + 524288
@@ -295,8 +295,8 @@ module _ (root : Grammar) where
     form_near (num leaf) f env here origin at rest fault reach t e =
         let r = says_short here t.0 fault t.2 e in
         (r.0, λ s. omega (arith, leaf_short leaf f rest t.0 reach t.1 r.1 s))
-    form_near (octets sizing) f env here origin at rest fault reach t e = parts_near here 8 sizing env (both_are (sizes_fine sizing.sizes) (rule_fine sizing.sizes sizing.rule) f).0 at rest fault reach t e
-    form_near (bits sizing) f env here origin at rest fault reach t e = parts_near here 1 sizing env (both_are (sizes_fine sizing.sizes) (rule_fine sizing.sizes sizing.rule) f).0 at rest fault reach t e
+    form_near (octets sizing) f env here origin at rest fault reach t e = parts_near here 8 sizing env (and_parts (sizes_fine sizing.sizes) (rule_fine sizing.sizes sizing.rule) f).0 at rest fault reach t e
+    form_near (bits sizing) f env here origin at rest fault reach t e = parts_near here 1 sizing env (and_parts (sizes_fine sizing.sizes) (rule_fine sizing.sizes sizing.rule) f).0 at rest fault reach t e
     form_near (text leaf) f env here origin at rest fault reach t e = text_near leaf.ended here leaf env (text_rules leaf f).sizes (text_rules leaf f).end at rest fault reach t e
     form_near (seq fields home) f env here origin at rest fault reach (inl t) e =
         short_near here (presence_count fields) (fields_span fields) (λ s. let c = counts_fit fields s in omega arith) at rest fault reach t e
@@ -308,7 +308,7 @@ module _ (root : Grammar) where
         let low = a.0 in
         (m.0, λ s. omega (arith, m.1 s))
     form_near (list sizing g) f env here origin at rest fault reach t e =
-        list_near (ending sizing.rule) here sizing env (span g) (Spell root Any g env) (λ k. Fails root g env here.inside origin (here.path ++ k ∷ [])) (both_are (sizes_fine sizing.sizes) (list_rule_fine (ending sizing.rule) sizing) f.0).0
+        list_near (ending sizing.rule) here sizing env (span g) (Spell root Any g env) (λ k. Fails root g env here.inside origin (here.path ++ k ∷ [])) (and_parts (sizes_fine sizing.sizes) (list_rule_fine (ending sizing.rule) sizing) f.0).0
         (span_between root Any g (last_two f) env) (λ k. node_near g (last_two f) env here.inside origin (here.path ++ k ∷ [])) at rest fault reach t e
     form_near (choice cases rule) f env here origin at rest fault reach (inl t) e = index_near rule cases at rest fault reach t e
       where
@@ -326,7 +326,7 @@ module _ (root : Grammar) where
     form_near (contained sizing g) f env here origin at rest fault reach t e =
         sized_near here sizing env (in_octets (span g)) _ (λ n p at' back fault' reach' u q.
         let few = size_few (greatest sizing.sizes) in
-        let has_n = (size_has sizing.sizes n (both_are (sizes_fine sizing.sizes) (rule_fine sizing.sizes sizing.rule) f.0).0 p).1 in
+        let has_n = (size_has sizing.sizes n (and_parts (sizes_fine sizing.sizes) (rule_fine sizing.sizes sizing.rule) f.0).0 p).1 in
         window n at' back fault' reach' few has_n (λ inner x. node_near g (last_two f) env true (origin + at') (here.path ++ 0 ∷ []) 0 (take (8 * n) back) fault' inner x q) u q) at rest fault reach t e
       where
         window : (n at' : ℕ) (back : List Bool) (fault' : Fault) (reach' : ℕ) → size_of (greatest sizing.sizes) ≤ 65536 → n ≤ size_of (greatest sizing.sizes)

@@ -11,11 +11,11 @@ use Rattle.acn_grammar.specs.Tree.{choice_rule_fine}
 use Rattle.acn_grammar.specs.declared.node.ChoiceRule.TheVariants.{Index, Tests, Item}
 use Rattle.acn_grammar.specs.declared.node.Presence.{Presence}
 use Rattle.acn_grammar.specs.declared.node.Presence.TheVariants.{Always, Bit, When}
-use Rattle.acn_grammar.proofs.Codings.{both_are}
 use Rattle.acn_packet_laws.specs.Laws.{AcceptedIsSound, SoundIsScoped, KnownBehind, FewAreOpen}
 use Rattle.acn_packet_laws.proofs.NodeLaws.{accepted_sound}
 use Rattle.acn_packet_laws.proofs.Scoping.{names_are}
 use Rattle.acn_packet_laws.proofs.Sounding.{root_sound, sound_after, at_most, last_two, last_three, last_four, last_five}
+use Rattle.std.proofs.lemmas.Bool.{and_parts}
 
 pub accepted_sound_nodes : AcceptedIsSound
 accepted_sound_nodes root a = root_sound root a.formed (accepted_sound root a)
@@ -91,8 +91,8 @@ module _ (root : Grammar) where
         let rule = second_three h in
         (scoped_cases cases (suc k) around ks (last_three h), first_two rule, last_two rule)
     scoped_form (choice cases (Item s)) k around ks h =
-        let f = both_are (nat_lt 0 (length (conditions_of cases))) (all_differ same_name (map (λ c. c.0) (conditions_of cases)) && choice_rule_fine (conditions_of cases) (Item s)) (first_three h) in
-        let g = both_are (all_differ same_name (map (λ c. c.0) (conditions_of cases))) (choice_rule_fine (conditions_of cases) (Item s)) f.1 in
+        let f = and_parts (nat_lt 0 (length (conditions_of cases))) (all_differ same_name (map (λ c. c.0) (conditions_of cases)) && choice_rule_fine (conditions_of cases) (Item s)) (first_three h) in
+        let g = and_parts (all_differ same_name (map (λ c. c.0) (conditions_of cases))) (choice_rule_fine (conditions_of cases) (Item s)) f.1 in
         (scoped_cases cases (suc k) around ks (last_three h), first_two (second_three h), ap (all_differ same_name) (names_are cases) ∙ g.0)
 
     scoped_fields : (fs : Fields) (k : ℕ) (around : List ℕ) (ks : Known) → FieldsSound root k around ks fs → FieldsScoped root ks fs

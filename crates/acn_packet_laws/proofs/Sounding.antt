@@ -1,6 +1,6 @@
 -- A tree without a fault is sound at each of its nodes.
 use Rattle.std.proofs.Common.{◌≡◌, ℕ, zero, suc, ◌+◌, ◌<◌, ◌≤◌, Bool, true, false, not, List, [], ◌∷◌, ◌++◌, length, map, Option, Some, None, refl, sym, ap, ◌∙◌, arith, subst, inl, inr, ◌⊎◌, nat_eq, nat_lt, nat_le, ◌&&◌, get_or, length-append}
-use Rattle.std.proofs.lemmas.Bool.{or_left, or_right}
+use Rattle.std.proofs.lemmas.Bool.{or_left, or_right, leb-true, ltb-true, and_parts, not-true}
 use Rattle.std.specs.Prelude.{slice_get, Contains}
 use Rattle.std.specs.List.{list_any}
 use Rattle.std.proofs.lemmas.Bool.Decides.{nat_tests}
@@ -20,7 +20,6 @@ use Rattle.acn_grammar.specs.declared.node.ChoiceRule.TheVariants.{Index, Tests,
 use Rattle.acn_grammar.specs.declared.node.Presence.{Presence}
 use Rattle.acn_grammar.specs.declared.node.Presence.TheVariants.{Always, Bit, When}
 use Rattle.acn_grammar.specs.declared.node.Test.{Test}
-use Rattle.acn_grammar.proofs.Codings.{both_are, not_is}
 use Rattle.acn_grammar.proofs.Texts.{either}
 use Rattle.acn_packet_laws.proofs.Accepted.{tests_known, end_told}
 use Rattle.acn_packet_laws.proofs.Homes.{out, truth, Homed, root_homed, in_fields, in_one, in_left, in_right, slot_open, whole_node, whole_fields, whole_cases}
@@ -34,17 +33,11 @@ use Rattle.acn_grammar.proofs.Characters.{same_name-is}
 
 -- Numbers.
 
-le_is : (n m : ℕ) → nat_le n m ≡ true → n ≤ m
-le_is n m h = grind (arith, nat_tests)
-
 le_not : (n m : ℕ) → nat_le n m ≡ false → m < n
 le_not n m h = grind (arith, nat_tests)
 
-lt_is : (n m : ℕ) → nat_lt n m ≡ true → n < m
-lt_is n m h = grind (arith, nat_tests)
-
 pub at_most : (n m : ℕ) → (m < n → ⊥) → n ≤ m
-at_most n m f = truth {F = n ≤ m} (nat_le n m) (λ e. le_is n m e) (λ e. absurd (f (le_not n m e)))
+at_most n m f = truth {F = n ≤ m} (nat_le n m) (λ e. leb-true n m e) (λ e. absurd (f (le_not n m e)))
 
 pub one_step : (path : List ℕ) (i d : ℕ) → suc (length path) ≡ d → length (path ++ i ∷ []) ≡ d
 one_step path i d e = let c = length-append path (i ∷ []) in omega arith
@@ -135,16 +128,16 @@ module _ (root : Grammar) where
   own_open : (around : List ℕ) (own : Option ℕ) (presence : Presence) (g : Grammar) → OwnSound root around own presence g → (ks : Known) (s : ℕ) → with_own own ks s ≡ true → (ks s ≡ true) ⊎ (holds around s ≡ true)
   own_open around None presence g h ks s e = inl e
   own_open around (Some t) presence g h ks s e = either {F = (ks s ≡ true) ⊎ (holds around s ≡ true)} (nat_eq t s) (ks s) e
-      (λ q. inr (subst (λ n. holds around n ≡ true) (Rattle.acn_grammar.proofs.Codings.equal_numbers t s q) (says_open around t g h.1)))
+      (λ q. inr (subst (λ n. holds around n ≡ true) (Rattle.std.proofs.lemmas.Bool.eqb-true t s q) (says_open around t g h.1)))
       (λ q. inl q)
 
   mutual
     pub sound_after : (g : Grammar) (d : ℕ) (around : List ℕ) (ks : Known) → Sound root d around ks g → (s : ℕ) → after ks g s ≡ true → (ks s ≡ true) ⊎ (holds around s ≡ true)
     sound_after (node align (seq fields home)) d around ks h s e =
-        let f = both_are (fields_after ks fields s) (not (holds home s)) e in
+        let f = and_parts (fields_after ks fields s) (not (holds home s)) e in
         out {F = (ks s ≡ true) ⊎ (holds around s ≡ true)} (sound_fields_after fields (suc d) (home ++ around) ks (last_four (last_three h)) s f.0)
         (λ q. inl q)
-        (λ q. holds_either {F = (ks s ≡ true) ⊎ (holds around s ≡ true)} home around s q (λ r. let no = not_is (holds home s) f.1 in cc) (λ r. inr r))
+        (λ q. holds_either {F = (ks s ≡ true) ⊎ (holds around s ≡ true)} home around s q (λ r. let no = not-true (holds home s) f.1 in cc) (λ r. inr r))
     sound_after (node align (num leaf)) d around ks h s e = inl e
     sound_after (node align (octets sizing)) d around ks h s e = inl e
     sound_after (node align (bits sizing)) d around ks h s e = inl e
@@ -183,7 +176,7 @@ module _ (root : Grammar) (tree : IsTree root) (sound : (f : CheckFault) → Und
   all = nodes_of root
 
   few_nodes : length all ≤ 65536
-  few_nodes = le_is (length all) 65536 (both_are (nat_le (length all) 65536) (same_numbers (slots_of all) (Rattle.std.specs.List.range_with_len 0 (length (slots_of all))) && Rattle.std.specs.List.list_all (λ at. all_true (stand_rules all at)) all) tree).0
+  few_nodes = leb-true (length all) 65536 (and_parts (nat_le (length all) 65536) (same_numbers (slots_of all) (Rattle.std.specs.List.range_with_len 0 (length (slots_of all))) && Rattle.std.specs.List.list_all (λ at. all_true (stand_rules all at)) all) tree).0
 
   is_here : (pre : List Stand) (role : Role) (path around : List ℕ) (align : ℕ) (form : Form) (post : List Stand) → At root tree sound pre role path around (node align form) post → slice_get all (length pre) ≡ Some (here_at role path around align form)
   is_here pre role path around align form post p = ap (λ l. slice_get l (length pre)) p.whole ∙ get_here pre (here_at role path around align form) (form_nodes path around form ++ post)
@@ -206,7 +199,7 @@ module _ (root : Grammar) (tree : IsTree root) (sound : (f : CheckFault) → Und
   one_condition pre name Bit own path around align form post p ks knows = tt
   one_condition pre name (When ts) own path around align form post p ks knows =
       let fine = place_fine all (numbers root tree sound) (rules root tree sound) pre (a_component name (When ts) own) path around align form post p in
-      let some = lt_is 0 (length ts) (both_are (presence_fine (When ts)) (own_fine own (When ts) form) fine.role).0 in
+      let some = ltb-true 0 (length ts) (and_parts (presence_fine (When ts)) (own_fine own (When ts) form) fine.role).0 in
       let few = at_most (length ts) 1 (λ h. sound (absent_unclear path) (length pre, 0, (here_at (a_component name (When ts) own) path around align form, is_here pre (a_component name (When ts) own) path around align form post p, refl, h))) in
       ((omega arith), tests_in ks ts (own_known root tree sound pre (a_component name (When ts) own) path around (node align form) post p ks knows))
 
@@ -216,7 +209,7 @@ module _ (root : Grammar) (tree : IsTree root) (sound : (f : CheckFault) → Und
   own_sound pre name presence None path around align form post p homed leaf = tt
   own_sound pre name presence (Some s) path around align form post p homed leaf =
       let fine = place_fine all (numbers root tree sound) (rules root tree sound) pre (a_component name presence (Some s)) path around align form post p in
-      let is = own_number (Some s) presence form s (both_are (presence_fine presence) (own_fine (Some s) presence form) fine.role).1 (same_eq s) in
+      let is = own_number (Some s) presence form s (and_parts (presence_fine presence) (own_fine (Some s) presence form) fine.role).1 (same_eq s) in
       (is.0, says root around s align form is.1 (slot_open root tree sound (a_component name presence (Some s)) path around align form s is.1 (same_eq s) homed) (leaf s (same_eq s)))
 
   -- the one width of an inserted field
@@ -283,8 +276,8 @@ module _ (root : Grammar) (tree : IsTree root) (sound : (f : CheckFault) → Und
       let inner = to_cases all (numbers root tree sound) (rules root tree sound) pre role path around align cases Tests post p in
       let more = step_in root tree sound pre role path around align (choice cases Tests) post p refl ks knows in
       let fine = (place_fine all (numbers root tree sound) (rules root tree sound) pre role path around align (choice cases Tests) post p).form in
-      let f = both_are (nat_lt 0 (length (conditions_of cases))) (all_differ same_name (map (λ c. c.0) (conditions_of cases)) && choice_rule_fine (conditions_of cases) Tests) fine in
-      let g = both_are (all_differ same_name (map (λ c. c.0) (conditions_of cases))) (list_any has_tests (conditions_of cases)) f.1 in
+      let f = and_parts (nat_lt 0 (length (conditions_of cases))) (all_differ same_name (map (λ c. c.0) (conditions_of cases)) && choice_rule_fine (conditions_of cases) Tests) fine in
+      let g = and_parts (all_differ same_name (map (λ c. c.0) (conditions_of cases))) (list_any has_tests (conditions_of cases)) f.1 in
       (tests_known root tree sound cases (pre ++ here ∷ []) path around 0 post inner ks more, no_overlap root sound (length pre) here cases (is_here pre role path around align (choice cases Tests) post p) (refl, refl) g.1)
   chosen pre role path around align cases (Item s) post p ks knows =
       (form_known root tree sound pre role path around align (choice cases (Item s)) post p ks knows s (or_left (nat_eq s s) false (same_eq s)), items pre role path around align cases s post p)
@@ -306,7 +299,7 @@ module _ (root : Grammar) (tree : IsTree root) (sound : (f : CheckFault) → Und
     sound_node : (g : Grammar) (pre : List Stand) (role : Role) (path around : List ℕ) (post : List Stand) → At root tree sound pre role path around g post → (ks : Known) → Kept pre role path around g ks → (d : ℕ) → length path ≡ d → Sound root d around ks g
     sound_node (node align form) pre role path around post p ks kept d e =
         let fine = place_fine all (numbers root tree sound) (rules root tree sound) pre role path around align form post p in
-        let low = le_is (length path) 64 fine.depth in
+        let low = leb-true (length path) 64 fine.depth in
         (fine.align, (omega (arith, low, e)), sound_form form pre role path around align post p ks kept d e)
 
     sound_form : (form : Form) (pre : List Stand) (role : Role) (path around : List ℕ) (align : ℕ) (post : List Stand) → At root tree sound pre role path around (node align form) post → (ks : Known) → Kept pre role path around (node align form) ks → (d : ℕ) → length path ≡ d → FormSound root d around ks form

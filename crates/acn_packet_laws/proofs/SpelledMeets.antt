@@ -1,6 +1,6 @@
 -- A value that has a spelling has the form of the tree; that nothing in it is a breach is a law of its own.
 use Rattle.std.proofs.Common.{◌≡◌, ℕ, zero, suc, ◌+◌, ◌-◌, ◌<◌, ℤ, pos, Bool, true, ◌&&◌, List, [], ◌∷◌, length, Option, Some, None, refl, arith, nat_lt, subst}
-use Rattle.std.proofs.lemmas.Bool.{and_from}
+use Rattle.std.proofs.lemmas.Bool.{and_from, and_parts, ltb-true}
 use Rattle.std.specs.Prelude.{◌≤ℤ◌}
 use Rattle.std.proofs.lemmas.Int.{ints}
 use Rattle.std.proofs.lemmas.Bool.Decides.{nat_tests}
@@ -20,12 +20,11 @@ use Rattle.acn_grammar.specs.declared.node.Presence.{Presence}
 use Rattle.acn_grammar.specs.declared.node.Presence.TheVariants.{Always, Bit, When}
 use Rattle.acn_grammar.specs.declared.node.Sizing.{Sizing}
 use Rattle.acn_grammar.specs.declared.node.TextLeaf.{TextLeaf}
-use Rattle.acn_grammar.proofs.Codings.{both_are}
 use Rattle.acn_grammar.proofs.FineLeaves.{rules_of}
 use Rattle.acn_grammar.proofs.SpanLaw.{Fine, FormFine, FieldsFine, AlternativesFine}
 use Rattle.acn_grammar.proofs.TreeRules.{tree_fine}
 use Rattle.acn_packet_laws.specs.Laws.{SpelledValuesMeet}
-use Rattle.acn_packet_laws.proofs.Codes.{range_within, lt_is}
+use Rattle.acn_packet_laws.proofs.Codes.{range_within}
 use Rattle.acn_packet_laws.proofs.TextTotal.{in_below}
 use Rattle.acn_packet_laws.proofs.Unbreached.{unbreached}
 use Rattle.acn_packet_laws.proofs.WrittenSizes.{text_rules}
@@ -33,7 +32,7 @@ use Rattle.acn_packet_laws.proofs.WrittenSizes.{text_rules}
 -- Numbers.
 
 below : (i n : ℕ) → nat_lt 0 n ≡ true → pos i ≤ℤ pos (n - 1) → nat_lt i n ≡ true
-below i n h k = lt i n (omega (arith, ints, lt_is 0 n h))
+below i n h k = lt i n (omega (arith, ints, ltb-true 0 n h))
   where
     lt : (a b : ℕ) → a < b → nat_lt a b ≡ true
     lt a b h = grind (arith, nat_tests)
@@ -43,8 +42,8 @@ shaped_number leaf Integer (int y) x f h p = refl
 shaped_number leaf Boolean (boolean b) x f h p = refl
 shaped_number leaf Null null x f h p = refl
 shaped_number leaf Enumerated (item i) x f h p =
-    let a = both_are (nat_lt 0 (length leaf.items.items)) (is_range (pos 0) (pos (length leaf.items.items - 1)) leaf.set && items_fine leaf.coding leaf.items) f in
-    let r = range_within (pos 0) (pos (length leaf.items.items - 1)) leaf.set x (both_are (is_range (pos 0) (pos (length leaf.items.items - 1)) leaf.set) (items_fine leaf.coding leaf.items) a.1).0 p in
+    let a = and_parts (nat_lt 0 (length leaf.items.items)) (is_range (pos 0) (pos (length leaf.items.items - 1)) leaf.set && items_fine leaf.coding leaf.items) f in
+    let r = range_within (pos 0) (pos (length leaf.items.items - 1)) leaf.set x (and_parts (is_range (pos 0) (pos (length leaf.items.items - 1)) leaf.set) (items_fine leaf.coding leaf.items) a.1).0 p in
     below i (length leaf.items.items) a.0 (subst (λ (z : ℤ). z ≤ℤ pos (length leaf.items.items - 1)) h r.1)
 shaped_number leaf _ _ x f h p = absurd h
 

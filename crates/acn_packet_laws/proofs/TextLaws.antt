@@ -1,6 +1,6 @@
 -- An ended text and a failure exclude each other, and two failures are one.
 use Rattle.std.proofs.Common.{◌≡◌, ℕ, zero, suc, ◌+◌, ◌-◌, ◌*◌, ◌/◌, ◌%◌, ◌<◌, ◌≤◌, pos, Bool, true, false, not, List, [], ◌∷◌, ◌++◌, length, take, drop, Option, Some, None, refl, sym, ap, ◌∙◌, arith, append_assoc, length-append, inl, inr, nat_eq, nat_lt, nat_le, ◌&&◌, subst}
-use Rattle.std.proofs.lemmas.Bool.{false_from_ne_true}
+use Rattle.std.proofs.lemmas.Bool.{false_from_ne_true, leb-true, and_parts, not-true, eqb-true}
 use Rattle.std.specs.Prelude.{cond}
 use Rattle.std.specs.List.{find, range_with_len}
 use Rattle.std.proofs.lemmas.Bool.Decides.{nat_tests}
@@ -15,7 +15,6 @@ use Rattle.acn_grammar.specs.LeafFails.{octet_values}
 use Rattle.acn_grammar.specs.Leaves.{sizes_fine, end_fine, no_size, is_terminator, is_pattern}
 use Rattle.acn_grammar.specs.Spell.{CharactersPart, EndsFirst, octet_numbers}
 use Rattle.acn_grammar.specs.declared.node.TextLeaf.{TextLeaf}
-use Rattle.acn_grammar.proofs.Codings.{both_are, not_is, equal_numbers}
 use Rattle.acn_packet_laws.proofs.Exclusion.{take_n, whole_of}
 use Rattle.acn_packet_laws.proofs.NodeExclusion.{TextExcl, TextSame}
 use Rattle.acn_grammar.proofs.SpanLaw.{size_has}
@@ -113,29 +112,26 @@ taken cs end more n h =
     let e : n + length end ≡ length cs + (length end + (n - length cs)) = omega arith in
     (n - length cs, ap (λ z. take z (cs ++ (end ++ more))) e ∙ (take-append-add cs (end ++ more) (length end + (n - length cs)) ∙ ap (λ z. cs ++ z) (take-append-add end more (n - length cs))))
 
-le_nat : (a b : ℕ) → nat_le a b ≡ true → a ≤ b
-le_nat a b h = grind (arith, nat_tests)
-
 pub text_excl : TextExcl
 text_excl here leaf end is fine env env' cs at a r fault reach t f =
-    let p = both_are (sizes_fine leaf.sized.sizes) (nat_lt 0 (length leaf.alphabet) && (are_ranges leaf.alphabet && (all_within (pos 0) (pos 127) leaf.alphabet && end_fine leaf.ended leaf))) fine in
-    let q = both_are (nat_lt 0 (length leaf.alphabet)) (are_ranges leaf.alphabet && (all_within (pos 0) (pos 127) leaf.alphabet && end_fine leaf.ended leaf)) p.1 in
-    let s = both_are (are_ranges leaf.alphabet) (all_within (pos 0) (pos 127) leaf.alphabet && end_fine leaf.ended leaf) q.1 in
-    let u = both_are (all_within (pos 0) (pos 127) leaf.alphabet) (end_fine leaf.ended leaf) s.1 in
-    let v = both_are (no_size leaf.sized.rule) (nat_eq leaf.width 8 && (not leaf.indexed && is_terminator end)) (ap (λ z. end_fine z leaf) (sym is) ∙ u.1) in
-    let w = both_are (nat_eq leaf.width 8) (not leaf.indexed && is_terminator end) v.1 in
-    let x = both_are (not leaf.indexed) (is_terminator end) w.1 in
-    let y = both_are (is_pattern end) (nat_eq (length end % 8) 0) x.1 in
-    let eight = equal_numbers leaf.width 8 w.0 in
+    let p = and_parts (sizes_fine leaf.sized.sizes) (nat_lt 0 (length leaf.alphabet) && (are_ranges leaf.alphabet && (all_within (pos 0) (pos 127) leaf.alphabet && end_fine leaf.ended leaf))) fine in
+    let q = and_parts (nat_lt 0 (length leaf.alphabet)) (are_ranges leaf.alphabet && (all_within (pos 0) (pos 127) leaf.alphabet && end_fine leaf.ended leaf)) p.1 in
+    let s = and_parts (are_ranges leaf.alphabet) (all_within (pos 0) (pos 127) leaf.alphabet && end_fine leaf.ended leaf) q.1 in
+    let u = and_parts (all_within (pos 0) (pos 127) leaf.alphabet) (end_fine leaf.ended leaf) s.1 in
+    let v = and_parts (no_size leaf.sized.rule) (nat_eq leaf.width 8 && (not leaf.indexed && is_terminator end)) (ap (λ z. end_fine z leaf) (sym is) ∙ u.1) in
+    let w = and_parts (nat_eq leaf.width 8) (not leaf.indexed && is_terminator end) v.1 in
+    let x = and_parts (not leaf.indexed) (is_terminator end) w.1 in
+    let y = and_parts (is_pattern end) (nat_eq (length end % 8) 0) x.1 in
+    let eight = eqb-true leaf.width 8 w.0 in
     let spelled = t.spelled in
-    let some = le_nat 1 (length end) (both_are (nat_le 1 (length end)) (nat_le (length end) 64) y.0).0 in
-    let whole : length end ≡ 8 * (length end / 8) = eights (length end) (equal_numbers (length end % 8) 0 y.1) in
+    let some = leb-true 1 (length end) (and_parts (nat_le 1 (length end)) (nat_le (length end) 64) y.0).0 in
+    let whole : length end ≡ 8 * (length end / 8) = eights (length end) (eqb-true (length end % 8) 0 y.1) in
     let octets_end = whole_octets (length end / 8) end r whole in
     let most = size_of (greatest leaf.sized.sizes) in
     let few = (size_has leaf.sized.sizes (length cs) p.0 t.given.0).1 in
     let values : octet_values (a ++ r) ≡ cs ++ (octet_numbers end ++ octet_values r) =
     ap octet_values (whole_of a spelled.front spelled.back r spelled.whole) ∙ (ap (λ z. octet_values (spelled.front ++ (z ++ r))) spelled.second
-    ∙ (characters_octets leaf eight (not_is leaf.indexed x.0) cs at spelled.front (end ++ r) spelled.first ∙ ap (λ z. cs ++ z) octets_end.0)) in
+    ∙ (characters_octets leaf eight (not-true leaf.indexed x.0) cs at spelled.front (end ++ r) spelled.first ∙ ap (λ z. cs ++ z) octets_end.0)) in
     let cut = taken cs (octet_numbers end) (octet_values r) most few in
     let found : found_end (octet_numbers end) (take (most + length (octet_numbers end)) (octet_values (a ++ r))) ≡ Some (length cs) =
     ap (λ z. found_end (octet_numbers end) (take (most + length (octet_numbers end)) z)) values ∙ (ap (found_end (octet_numbers end)) cut.1 ∙ found_at (octet_numbers end) cs (take cut.0 (octet_values r)) (positive (length end) (length (octet_numbers end)) some whole octets_end.1) t.given.1) in

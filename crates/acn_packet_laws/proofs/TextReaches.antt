@@ -13,8 +13,8 @@ use Rattle.acn_grammar.specs.LeafFails.{short, octet_values}
 use Rattle.acn_grammar.specs.Leaves.{text_fine, sizes_fine, end_fine, no_size, is_terminator, is_pattern}
 use Rattle.acn_grammar.specs.Spell.{octet_numbers}
 use Rattle.acn_grammar.specs.declared.node.TextLeaf.{TextLeaf}
-use Rattle.acn_grammar.proofs.Codings.{both_are, equal_numbers}
 use Rattle.acn_packet_laws.proofs.Reaches.{Steady, TextSteady, out, either_steady, sized_steady, rule_steady, same_within, long_enough}
+use Rattle.std.proofs.lemmas.Bool.{and_parts, eqb-true}
 
 pub octets-short : (l : List Bool) → 8 * length (octet_values l) ≤ length l
 octets-short [] = omega arith
@@ -84,8 +84,8 @@ same_names [] [] h = refl
 same_names [] (y ∷ b) h = cc
 same_names (x ∷ a) [] h = cc
 same_names (x ∷ a) (y ∷ b) h =
-    let f = both_are (nat_eq x y) (same_name a b) h in
-    let first = equal_numbers x y f.0 in
+    let f = and_parts (nat_eq x y) (same_name a b) h in
+    let first = eqb-true x y f.0 in
     let rest = same_names a b f.1 in
     cc
 
@@ -167,11 +167,11 @@ by_end None leaf f path place env at rest fault reach t r =
     either_steady (SizeFails (out path place) leaf.sized env) (Sized leaf.sized env (CharactersFail (out path place) leaf)) (rule_steady path place leaf.sized leaf.sized.rule env)
     (sized_steady leaf.sized env (CharactersFail (out path place) leaf) (characters_steady path place leaf)) at rest fault reach t r
 by_end (Some end) leaf f path place env at rest fault reach t r =
-    let a = both_are (no_size leaf.sized.rule) (nat_eq leaf.width 8 && (not leaf.indexed && is_terminator end)) f in
-    let b = both_are (nat_eq leaf.width 8) (not leaf.indexed && is_terminator end) a.1 in
-    let c = both_are (not leaf.indexed) (is_terminator end) b.1 in
-    let d = both_are (is_pattern end) (nat_eq (length end % 8) 0) c.1 in
-    let w = octets-whole end (equal_numbers (length end % 8) 0 d.1) in
+    let a = and_parts (no_size leaf.sized.rule) (nat_eq leaf.width 8 && (not leaf.indexed && is_terminator end)) f in
+    let b = and_parts (nat_eq leaf.width 8) (not leaf.indexed && is_terminator end) a.1 in
+    let c = and_parts (not leaf.indexed) (is_terminator end) b.1 in
+    let d = and_parts (is_pattern end) (nat_eq (length end % 8) 0) c.1 in
+    let w = octets-whole end (eqb-true (length end % 8) 0 d.1) in
     let p = pattern_long end d.0 in
     found_steady path place leaf end w (omega arith) (size_of (greatest leaf.sized.sizes) + length (octet_numbers end)) rest fault reach _ refl t r
   where
@@ -181,8 +181,8 @@ by_end (Some end) leaf f path place env at rest fault reach t r =
 
 pub text_steady : (leaf : TextLeaf) → IsTrue (text_fine leaf) → TextSteady leaf
 text_steady leaf h path place env =
-    let a = both_are (sizes_fine leaf.sized.sizes) (nat_lt 0 (length leaf.alphabet) && (are_ranges leaf.alphabet && (all_within (pos 0) (pos 127) leaf.alphabet && end_fine leaf.ended leaf))) h in
-    let b = both_are (nat_lt 0 (length leaf.alphabet)) (are_ranges leaf.alphabet && (all_within (pos 0) (pos 127) leaf.alphabet && end_fine leaf.ended leaf)) a.1 in
-    let c = both_are (are_ranges leaf.alphabet) (all_within (pos 0) (pos 127) leaf.alphabet && end_fine leaf.ended leaf) b.1 in
-    let d = both_are (all_within (pos 0) (pos 127) leaf.alphabet) (end_fine leaf.ended leaf) c.1 in
+    let a = and_parts (sizes_fine leaf.sized.sizes) (nat_lt 0 (length leaf.alphabet) && (are_ranges leaf.alphabet && (all_within (pos 0) (pos 127) leaf.alphabet && end_fine leaf.ended leaf))) h in
+    let b = and_parts (nat_lt 0 (length leaf.alphabet)) (are_ranges leaf.alphabet && (all_within (pos 0) (pos 127) leaf.alphabet && end_fine leaf.ended leaf)) a.1 in
+    let c = and_parts (are_ranges leaf.alphabet) (all_within (pos 0) (pos 127) leaf.alphabet && end_fine leaf.ended leaf) b.1 in
+    let d = and_parts (all_within (pos 0) (pos 127) leaf.alphabet) (end_fine leaf.ended leaf) c.1 in
     by_end leaf.ended leaf d.1 path place env

@@ -13,25 +13,25 @@ use Rattle.acn_grammar.specs.LeafFails.{short, bad_character}
 use Rattle.acn_grammar.specs.Leaves.{width_fine, holds_characters, same_truth, is_beyond}
 use Rattle.acn_grammar.specs.Spell.{CharactersPart, SizePart, EndedPart, character_number, place_in}
 use Rattle.acn_grammar.specs.declared.node.TextLeaf.{TextLeaf}
-use Rattle.acn_grammar.proofs.Codings.{both_are, equal_numbers}
 use Rattle.acn_grammar.proofs.SpanLaw.{size_has}
 use Rattle.acn_packet_laws.proofs.Envs.{FrontOf, Stuck, says, in_or_not, ASize}
 use Rattle.acn_packet_laws.proofs.Exclusion.{take_n, drop_n}
 use Rattle.acn_packet_laws.proofs.LeafTotal.{less_or_not, is_or_not}
 use Rattle.acn_packet_laws.proofs.Moves.{or_either}
+use Rattle.std.proofs.lemmas.Bool.{and_parts, eqb-true}
 
 pub in_below : (rs : List (ℤ × ℤ)) (c : ℕ) → all_within (pos 0) (pos 127) rs ≡ true → has rs (pos c) ≡ true → c < 128
 in_below [] c h p = cc
 in_below (r ∷ rs) c h p =
-    let f = both_are (int_le (pos 0) r.0) (int_le r.1 (pos 127) && all_within (pos 0) (pos 127) rs) h in
-    let g = both_are (int_le r.1 (pos 127)) (all_within (pos 0) (pos 127) rs) f.1 in
+    let f = and_parts (int_le (pos 0) r.0) (int_le r.1 (pos 127) && all_within (pos 0) (pos 127) rs) h in
+    let g = and_parts (int_le r.1 (pos 127)) (all_within (pos 0) (pos 127) rs) f.1 in
     by g.0 (or_either (int_le r.0 (pos c) && int_le (pos c) r.1) (has rs (pos c)) p) (λ q. in_below rs c g.1 q)
   where
     small : int_le (pos c) r.1 ≡ true → int_le r.1 (pos 127) ≡ true → c < 128
     small h k = grind (arith, ints, nat_tests)
 
     by : int_le r.1 (pos 127) ≡ true → ((int_le r.0 (pos c) && int_le (pos c) r.1) ≡ true) ⊎ (has rs (pos c) ≡ true) → (has rs (pos c) ≡ true → c < 128) → c < 128
-    by top (inl q) f = small (both_are (int_le r.0 (pos c)) (int_le (pos c) r.1) q).1 top
+    by top (inl q) f = small (and_parts (int_le r.0 (pos c)) (int_le (pos c) r.1) q).1 top
     by top (inr q) f = f q
 
 abbrev pub IsChar : TextLeaf → ℕ → ℕ → Type 0
@@ -119,8 +119,8 @@ chars_total leaf within some (suc n) bs l = by (char_or_not leaf within (number 
 wider : (rs : List (ℤ × ℤ)) → all_within (pos 0) (pos 127) rs ≡ true → all_within (pos 0) (pos 65536) rs ≡ true
 wider [] h = refl
 wider (r ∷ rs) h =
-    let f = both_are (int_le (pos 0) r.0) (int_le r.1 (pos 127) && all_within (pos 0) (pos 127) rs) h in
-    let g = both_are (int_le r.1 (pos 127)) (all_within (pos 0) (pos 127) rs) f.1 in
+    let f = and_parts (int_le (pos 0) r.0) (int_le r.1 (pos 127) && all_within (pos 0) (pos 127) rs) h in
+    let g = and_parts (int_le r.1 (pos 127)) (all_within (pos 0) (pos 127) rs) f.1 in
     all (int_le (pos 0) r.0) (int_le r.1 (pos 65536)) (all_within (pos 0) (pos 65536) rs) f.0 (top r.1 g.0) (wider rs g.1)
   where
     top : (a : ℤ) → int_le a (pos 127) ≡ true → int_le a (pos 65536) ≡ true
@@ -140,7 +140,7 @@ first_of : (rs : List (ℤ × ℤ)) → nat_lt 0 (length rs) ≡ true → are_ra
 first_of [] some order within = cc
 first_of ((negsuc n, b) ∷ rs) some order within = cc
 first_of ((pos n, b) ∷ rs) some order within =
-    let le : int_le (pos n) b ≡ true = (both_are (int_le (pos n) b) (are_ranges_above (b +ℤ pos 1) rs) order).0 in
+    let le : int_le (pos n) b ≡ true = (and_parts (int_le (pos n) b) (are_ranges_above (b +ℤ pos 1) rs) order).0 in
     record { least = n; there = or_true (self (pos n)) le; place = at_first le }
   where
     self : (a : ℤ) → int_le a a ≡ true
@@ -185,8 +185,8 @@ one_char leaf some order within fine w = wide (or_either (nat_eq leaf.width 8 &&
     by false e h = (first.least, (first.there, ap (λ (t : Bool). if t then place_in leaf.alphabet (pos first.least) else first.least) e ∙ small (greatest leaf.alphabet) first.least (subst (λ (n : ℕ). not (is_beyond n (greatest leaf.alphabet)) ≡ true) w h) at_most))
 
     wide : ((nat_eq leaf.width 8 && not leaf.indexed) ≡ true) ⊎ ((holds_characters (count leaf.alphabet) leaf.width && same_truth leaf.indexed (is_beyond leaf.width (greatest leaf.alphabet))) ≡ true) → (c : ℕ) × IsChar leaf 0 c
-    wide (inl h) = absurd (let e = equal_numbers leaf.width 8 (both_are (nat_eq leaf.width 8) (not leaf.indexed) h).0 in omega arith)
-    wide (inr h) = by leaf.indexed refl (both_are (holds_characters (count leaf.alphabet) leaf.width) (same_truth leaf.indexed (is_beyond leaf.width (greatest leaf.alphabet))) h).1
+    wide (inl h) = absurd (let e = eqb-true leaf.width 8 (and_parts (nat_eq leaf.width 8) (not leaf.indexed) h).0 in omega arith)
+    wide (inr h) = by leaf.indexed refl (and_parts (holds_characters (count leaf.alphabet) leaf.width) (same_truth leaf.indexed (is_beyond leaf.width (greatest leaf.alphabet))) h).1
 
 -- Texts with a size.
 

@@ -1,5 +1,5 @@
 -- What a tree without a fault says of each use of a slot: the slot is at home round the use, a flag's slot has the numbers 0 and 1, and a component has one condition.
-use Rattle.std.proofs.lemmas.Bool.{or_parts}
+use Rattle.std.proofs.lemmas.Bool.{or_parts, and_parts, not-true}
 use Rattle.std.proofs.Common.{◌≡◌, ℕ, zero, suc, ℤ, pos, negsuc, Bool, true, false, List, [], ◌∷◌, ◌++◌, length, map, Option, Some, None, refl, arith, inl, inr, ◌⊎◌, ◌&&◌, ◌-◌, not, nat_eq, nat_lt, subst}
 use Rattle.std.specs.Prelude.{slice_get, if◌then◌else◌, ◌≤ℤ◌, unwrap_or, option_map}
 use Rattle.std.specs.List.{AllByRecursion, list_all, list_any}
@@ -28,7 +28,6 @@ use Rattle.acn_grammar.specs.declared.node.SizeRule.TheVariants.{Prefix, Slot, E
 use Rattle.acn_grammar.specs.declared.node.Test.{Test}
 use Rattle.acn_grammar.specs.declared.node.Test.TheVariants.{Flag, Equals}
 use Rattle.acn_grammar.specs.declared.node.TextLeaf.{TextLeaf}
-use Rattle.acn_grammar.proofs.Codings.{both_are, not_is}
 use Rattle.acn_grammar.proofs.FineLeaves.{rules_of}
 use Rattle.acn_grammar.proofs.SpanLaw.{Fine, FormFine, FieldsFine, AlternativesFine}
 use Rattle.acn_grammar.proofs.TreeRules.{tree_fine, stand_fine}
@@ -248,7 +247,7 @@ module _ (root : Grammar) where
 
   end_fits : (end : Option (List Bool)) (leaf : TextLeaf) → end_fine end leaf ≡ true → EndFits end leaf.sized.rule
   end_fits None leaf h = tt
-  end_fits (Some p) leaf h = by leaf.sized.rule (both_are (no_size leaf.sized.rule) (nat_eq leaf.width 8 && (not leaf.indexed && is_terminator p)) h).0
+  end_fits (Some p) leaf h = by leaf.sized.rule (and_parts (no_size leaf.sized.rule) (nat_eq leaf.width 8 && (not leaf.indexed && is_terminator p)) h).0
     where
       by : (rule : SizeRule) → no_size rule ≡ true → EndFits (Some p) rule
       by (Slot t) e = cc
@@ -257,10 +256,10 @@ module _ (root : Grammar) where
 
   text_ends : (leaf : TextLeaf) → text_fine leaf ≡ true → EndFits leaf.ended leaf.sized.rule
   text_ends leaf f =
-      let a = both_are (sizes_fine leaf.sized.sizes) (nat_lt 0 (length leaf.alphabet) && (are_ranges leaf.alphabet && (all_within (pos 0) (pos 127) leaf.alphabet && end_fine leaf.ended leaf))) f in
-      let b = both_are (nat_lt 0 (length leaf.alphabet)) (are_ranges leaf.alphabet && (all_within (pos 0) (pos 127) leaf.alphabet && end_fine leaf.ended leaf)) a.1 in
-      let c = both_are (are_ranges leaf.alphabet) (all_within (pos 0) (pos 127) leaf.alphabet && end_fine leaf.ended leaf) b.1 in
-      end_fits leaf.ended leaf (both_are (all_within (pos 0) (pos 127) leaf.alphabet) (end_fine leaf.ended leaf) c.1).1
+      let a = and_parts (sizes_fine leaf.sized.sizes) (nat_lt 0 (length leaf.alphabet) && (are_ranges leaf.alphabet && (all_within (pos 0) (pos 127) leaf.alphabet && end_fine leaf.ended leaf))) f in
+      let b = and_parts (nat_lt 0 (length leaf.alphabet)) (are_ranges leaf.alphabet && (all_within (pos 0) (pos 127) leaf.alphabet && end_fine leaf.ended leaf)) a.1 in
+      let c = and_parts (are_ranges leaf.alphabet) (all_within (pos 0) (pos 127) leaf.alphabet && end_fine leaf.ended leaf) b.1 in
+      end_fits leaf.ended leaf (and_parts (all_within (pos 0) (pos 127) leaf.alphabet) (end_fine leaf.ended leaf) c.1).1
 
   -- where an index chooses no alternative has a condition
   abbrev Bare : ChoiceRule → List (List ℕ × List Test) → Type 0
@@ -270,11 +269,11 @@ module _ (root : Grammar) where
 
   bare : (rule : ChoiceRule) (cases : List (List ℕ × List Test)) → choice_fine cases rule ≡ true → Bare rule cases
   bare rule cases h =
-      let a = both_are (nat_lt 0 (length cases)) (all_differ same_name (map (λ c. c.0) cases) && choice_rule_fine cases rule) h in
-      by rule (both_are (all_differ same_name (map (λ c. c.0) cases)) (choice_rule_fine cases rule) a.1).1
+      let a = and_parts (nat_lt 0 (length cases)) (all_differ same_name (map (λ c. c.0) cases) && choice_rule_fine cases rule) h in
+      by rule (and_parts (all_differ same_name (map (λ c. c.0) cases)) (choice_rule_fine cases rule) a.1).1
     where
       by : (rule : ChoiceRule) → choice_rule_fine cases rule ≡ true → Bare rule cases
-      by (Index width) e = not_is (list_any has_tests cases) (both_are (is_least_width (length cases - 1) width) (not (list_any has_tests cases)) e).1
+      by (Index width) e = not-true (list_any has_tests cases) (and_parts (is_least_width (length cases - 1) width) (not (list_any has_tests cases)) e).1
       by Tests e = tt
       by (Item t) e = tt
 
@@ -348,7 +347,7 @@ module _ (root : Grammar) where
 boolean_bits : (leaf : NumLeaf) → num_fine leaf ≡ true → leaf.kind ≡ Boolean → (x : ℤ) → In leaf.set x → IsBit x
 boolean_bits leaf fine kind x h =
     let set = rw kind at (rules_of leaf fine).set in
-    let r = range_within (pos 0) (pos 1) leaf.set x (both_are (is_range (pos 0) (pos 1) leaf.set) (no_items leaf.items) set).0 h in
+    let r = range_within (pos 0) (pos 1) leaf.set x (and_parts (is_range (pos 0) (pos 1) leaf.set) (no_items leaf.items) set).0 h in
     bit_of x r.0 r.1
 
 only_boolean : (t : ℕ) (kind : NumKind) → AsksFor (condition (Flag t)) kind → kind ≡ Boolean
@@ -367,7 +366,7 @@ leaf_of {F} root t x h f = by (slot_leaf root t) refl
 
 all_open : (around : List ℕ) (us : List Use) → list_all (holds around) (map slot_of us) ≡ true → AllByRecursion (λ u. holds around (slot_of u) ≡ true) us
 all_open around [] h = tt
-all_open around (u ∷ us) h = let b = both_are (holds around (slot_of u)) (list_all (holds around) (map slot_of us)) h in (b.0, all_open around us b.1)
+all_open around (u ∷ us) h = let b = and_parts (holds around (slot_of u)) (list_all (holds around) (map slot_of us)) h in (b.0, all_open around us b.1)
 
 with_all : {A : Type 0} (P Q : A → Type 0) (xs : List A) → AllByRecursion P xs → ((k : ℕ) (x : A) → slice_get xs k ≡ Some x → P x → Q x) → AllByRecursion Q xs
 with_all P Q [] h f = tt
@@ -375,8 +374,8 @@ with_all P Q (x ∷ xs) h f = (f zero x refl h.0, with_all P Q xs h.1 (λ k y e 
 
 at_place : (p : Stand → Bool) (xs : List Stand) → list_all p xs ≡ true → (k : ℕ) (x : Stand) → slice_get xs k ≡ Some x → p x ≡ true
 at_place p [] h k x e = cc
-at_place p (y ∷ xs) h zero x e = let b = both_are (p y) (list_all p xs) h in let same : y ≡ x = cc in rw (← same) b.0
-at_place p (y ∷ xs) h (suc k) x e = at_place p xs (both_are (p y) (list_all p xs) h).1 k x e
+at_place p (y ∷ xs) h zero x e = let b = and_parts (p y) (list_all p xs) h in let same : y ≡ x = cc in rw (← same) b.0
+at_place p (y ∷ xs) h (suc k) x e = at_place p xs (and_parts (p y) (list_all p xs) h).1 k x e
 
 pub accepted_used : (root : Grammar) → IsAccepted root → NodeUsed root [] root
 accepted_used root a = (used_node root root root_node [] [] 0 (λ s. false) (accepted_sound_nodes root a) (each_of (StandFits root) (nodes_of root) stand_fits)).1

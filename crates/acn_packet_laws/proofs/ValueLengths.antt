@@ -21,7 +21,6 @@ use Rattle.acn_grammar.specs.declared.node.Sizing.{Sizing}
 use Rattle.acn_grammar.specs.declared.node.SizeRule.{SizeRule}
 use Rattle.acn_grammar.specs.declared.node.SizeRule.TheVariants.{Prefix, Slot, Ended}
 use Rattle.acn_grammar.specs.declared.node.TextLeaf.{TextLeaf}
-use Rattle.acn_grammar.proofs.Codings.{both_are, equal_numbers}
 use Rattle.acn_grammar.proofs.FineLeaves.{rules_of}
 use Rattle.acn_grammar.proofs.LeafLengths.{code-length}
 use Rattle.acn_grammar.proofs.SpanLaw.{Between, Fine, FormFine, FieldsFine, AlternativesFine, size_has, span_between}
@@ -36,6 +35,7 @@ use Rattle.acn_packet_laws.proofs.Sounding.{last_two}
 use Rattle.acn_packet_laws.proofs.Spans.{exactly_spans, plus_spans, hull_first, hull_second, times_spans, same_spans, octets_span, there_spans, away_spans, moved_spans}
 use Rattle.acn_packet_laws.proofs.WrittenParts.{nothing_left, no_breach, passes}
 use Rattle.acn_packet_laws.proofs.WrittenSizes.{TextRules, text_rules}
+use Rattle.std.proofs.lemmas.Bool.{and_parts, eqb-true}
 
 -- Numbers: by a code of them.
 
@@ -110,7 +110,7 @@ text_spans None leaf r f n h =
     plus_spans (exactly (rule_width leaf.sized.rule + 0)) (times (sizes_of leaf.sized.sizes) (exactly leaf.width)) (rule_width leaf.sized.rule) (leaf.width * n) (moved_spans (exactly (rule_width leaf.sized.rule + 0)) (rule_width leaf.sized.rule) (rule_width leaf.sized.rule + 0) none (exactly_spans (rule_width leaf.sized.rule + 0)))
     (same_spans (sizes_of leaf.sized.sizes) n leaf.width (leaf.width * n) (size_has leaf.sized.sizes n r.sizes h) refl)
 text_spans (Some end) leaf r f n h =
-    let a = both_are (no_size leaf.sized.rule) (nat_eq leaf.width 8 && (not leaf.indexed && is_terminator end)) f in
+    let a = and_parts (no_size leaf.sized.rule) (nat_eq leaf.width 8 && (not leaf.indexed && is_terminator end)) f in
     let none = no_width leaf.sized.rule a.0 in
     let swap : leaf.width * n + length end ≡ (rule_width leaf.sized.rule + length end) + leaf.width * n = omega arith in
     moved_spans (plus (exactly (rule_width leaf.sized.rule + length end)) (times (sizes_of leaf.sized.sizes) (exactly leaf.width))) (leaf.width * n + length end) ((rule_width leaf.sized.rule + length end) + leaf.width * n) swap
@@ -118,10 +118,10 @@ text_spans (Some end) leaf r f n h =
     (same_spans (sizes_of leaf.sized.sizes) n leaf.width (leaf.width * n) (size_has leaf.sized.sizes n r.sizes h) refl))
   where
     no_width : (rule : SizeRule) → no_size rule ≡ true → rule_width rule ≡ 0
-    no_width (Prefix low width) e = sym (equal_numbers 0 width (ap (λ b. b) (swapped width (both_are (nat_eq low 0) (nat_eq width 0) e).1)))
+    no_width (Prefix low width) e = sym (eqb-true 0 width (ap (λ b. b) (swapped width (and_parts (nat_eq low 0) (nat_eq width 0) e).1)))
       where
         swapped : (w : ℕ) → nat_eq w 0 ≡ true → nat_eq 0 w ≡ true
-        swapped w e = ap (λ k. nat_eq 0 k) (equal_numbers w 0 e)
+        swapped w e = ap (λ k. nat_eq 0 k) (eqb-true w 0 e)
     no_width (Slot s) e = cc
     no_width (Ended p) e = cc
 
@@ -159,7 +159,7 @@ Meeting g d = (fits g d ≡ true) × ((path : List ℕ) × (breaches path g d �
 every_meets : (g : Grammar) (path : List ℕ) (k : ℕ) (es : Elements) → each_element (fits g) es ≡ true → run_breaches (λ j d. breaches (path ++ j ∷ []) g d) k es ≡ [] → Every (Meeting g) es
 every_meets g path k no_elements f n = tt
 every_meets g path k (element d es) f n =
-    let a = both_are (fits g d) (each_element (fits g) es) f in
+    let a = and_parts (fits g d) (each_element (fits g) es) f in
     let b = nothing_left (breaches (path ++ k ∷ []) g d) (run_breaches (λ j d'. breaches (path ++ j ∷ []) g d') (suc k) es) n in
     ((a.0, (path ++ k ∷ [], b.0)), every_meets g path (suc k) es a.1 b.1)
 
@@ -178,10 +178,10 @@ mutual
       number_spans leaf f (number_of d) (passes (has leaf.set (number_of d)) (out_of_range (number_of d)) (no_breach path (unless (has leaf.set (number_of d)) (out_of_range (number_of d))) n))
   form_spans (octets sizing) f w (octet_string os) s path n at =
       plus_spans (exactly (rule_width sizing.rule)) (times (sizes_of sizing.sizes) (exactly 8)) (rule_width sizing.rule) (8 * length os) (exactly_spans (rule_width sizing.rule))
-      (same_spans (sizes_of sizing.sizes) (length os) 8 (8 * length os) (size_has sizing.sizes (length os) (both_are (sizes_fine sizing.sizes) (rule_fine sizing.sizes sizing.rule) f).0 (has_size path sizing (length os) n)) refl)
+      (same_spans (sizes_of sizing.sizes) (length os) 8 (8 * length os) (size_has sizing.sizes (length os) (and_parts (sizes_fine sizing.sizes) (rule_fine sizing.sizes sizing.rule) f).0 (has_size path sizing (length os) n)) refl)
   form_spans (bits sizing) f w (bit_string cs) s path n at =
       plus_spans (exactly (rule_width sizing.rule)) (times (sizes_of sizing.sizes) (exactly 1)) (rule_width sizing.rule) (length cs) (exactly_spans (rule_width sizing.rule))
-      (same_spans (sizes_of sizing.sizes) (length cs) 1 (length cs) (size_has sizing.sizes (length cs) (both_are (sizes_fine sizing.sizes) (rule_fine sizing.sizes sizing.rule) f).0 (has_size path sizing (length cs) n)) (omega arith))
+      (same_spans (sizes_of sizing.sizes) (length cs) 1 (length cs) (size_has sizing.sizes (length cs) (and_parts (sizes_fine sizing.sizes) (rule_fine sizing.sizes sizing.rule) f).0 (has_size path sizing (length cs) n)) (omega arith))
   form_spans (text leaf) f w (characters cs) s path n at =
       let r = text_rules leaf f in
       let a = nothing_left (size_breach leaf.sized (length cs) ++ where_found (position (λ c. not (has leaf.alphabet (pos c))) cs) bad_character) (end_breach leaf.ended cs) (no_breach path (text_breach leaf cs) n) in
@@ -190,7 +190,7 @@ mutual
   form_spans (seq fields home) f w (record_of ps) s path n at = fields_spans fields f w ps s path 0 n (at + length (presence_bits fields ps))
   form_spans (list sizing g) f w (list_of es) s path n at =
       let b = nothing_left (at_path path (size_breach sizing (element_count es))) (run_breaches (λ j d. breaches (path ++ j ∷ []) g d) 0 es) n in
-      list_spans (ending sizing.rule) sizing (span g) (bit_length g) (Meeting g) (both_are (sizes_fine sizing.sizes) (list_rule_fine (ending sizing.rule) sizing) f.0).0
+      list_spans (ending sizing.rule) sizing (span g) (bit_length g) (Meeting g) (and_parts (sizes_fine sizing.sizes) (list_rule_fine (ending sizing.rule) sizing) f.0).0
       (λ d m at'. node_spans g (last_two f) w d m.0 m.1.0 m.1.1 at') es (every_meets g path 0 es s b.1) (has_size path sizing (element_count es) b.0) at
   form_spans (choice cases rule) f w (alt i d) s path n at =
       plus_spans (exactly (index_width rule)) (alternatives_span cases) (index_width rule) (alternative_length cases i (at + index_width rule) d) (exactly_spans (index_width rule)) (case_spans cases f w i i d s path n (at + index_width rule))
@@ -207,7 +207,7 @@ mutual
   fields_spans : (fs : Fields) → FieldsFine fs → SteadyFields fs → (ps : Places) → fields_fit fs ps ≡ true → (path : List ℕ) (k : ℕ) → field_breaches path k fs ps ≡ [] → (at : ℕ) → Between (fields_span fs) (length (presence_bits fs ps) + fields_length fs at ps)
   fields_spans no_fields f w no_places s path k n at = exactly_spans 0
   fields_spans (component name g presence default own fs) f w (filled d ps) s path k n at =
-      let a = both_are (fits g d) (fields_fit fs ps) s in
+      let a = and_parts (fits g d) (fields_fit fs ps) s in
       let b = nothing_left (breaches (path ++ k ∷ []) g d) (field_breaches path (suc k) fs ps) n in
       let here = there_spans presence (span g) (bit_length g at d) (node_spans g f.0 w.0 d a.0 (path ++ k ∷ []) b.0 at) in
       let rest = fields_spans fs f.1 w.1 ps a.1 path (suc k) b.1 (at + bit_length g at d) in
@@ -215,7 +215,7 @@ mutual
       let is : length (bit_before presence true (presence_bits fs ps)) + (bit_length g at d + fields_length fs (at + bit_length g at d) ps) ≡ (length (bit_before presence true []) + bit_length g at d) + (length (presence_bits fs ps) + fields_length fs (at + bit_length g at d) ps) = omega arith in
       moved_spans (plus (component_span presence (span g)) (fields_span fs)) _ _ is (plus_spans (component_span presence (span g)) (fields_span fs) (length (bit_before presence true []) + bit_length g at d) (length (presence_bits fs ps) + fields_length fs (at + bit_length g at d) ps) here rest)
   fields_spans (component name g presence default own fs) f w (empty ps) s path k n at =
-      let a = both_are (may_be_absent presence) (fields_fit fs ps) s in
+      let a = and_parts (may_be_absent presence) (fields_fit fs ps) s in
       let here = away_spans presence (span g) a.0 in
       let rest = fields_spans fs f.1 w.1 ps a.1 path (suc k) n at in
       let flags = flag_first presence false (presence_bits fs ps) in

@@ -1,6 +1,6 @@
 -- The one length of a leaf's codes is its width.
 use Rattle.std.proofs.Common.{◌≡◌, ℕ, zero, suc, ◌+◌, ◌-◌, ◌^◌, ◌<◌, ◌≤◌, ℤ, pos, ◌+ℤ◌, Bool, true, false, not, List, [], ◌∷◌, ◌++◌, length, map, Option, Some, None, refl, sym, ap, ◌∙◌, arith, inl, inr, ◌⊎◌, nat_eq, nat_le, ◌&&◌, ◌||◌, IsTrue}
-use Rattle.std.proofs.lemmas.Bool.{and_from, or_left, or_parts}
+use Rattle.std.proofs.lemmas.Bool.{and_from, or_left, or_parts, or_right, leb-true, and_parts, not-true}
 use Rattle.std.specs.Prelude.{◌-ℤ◌, ◌≤ℤ◌, ◌<ℤ◌, int_le, int_lt, nat_lt, if◌then◌else◌, slice_get, option_map, count_by, cond, nat_abs, unwrap_or, ◌%◌}
 use Rattle.std.specs.Int.{int_max, int_min}
 use Rattle.std.specs.List.{list_any, list_all, flat_map, range_with_len}
@@ -26,7 +26,6 @@ use Rattle.acn_grammar.specs.declared.node.NumKind.TheVariants.{Integer, Boolean
 use Rattle.acn_grammar.specs.declared.node.NumLeaf.{NumLeaf}
 use Rattle.acn_grammar.specs.declared.node.Table.{Table}
 use Rattle.acn_packet_laws.proofs.Codes.{each_number_has_a_code, set_ordered, has_image}
-use Rattle.acn_grammar.proofs.Codings.{both_are, not_is}
 use Rattle.acn_grammar.proofs.FineLeaves.{Rules, rules_of, no_values}
 use Rattle.acn_packet_laws.proofs.HasImage.{Ordered, key_sides}
 use Rattle.acn_grammar.proofs.LeafLengths.{code-length, le_fact, lt_fact, eq_fact}
@@ -41,10 +40,6 @@ le_true a b h = grind (arith, ints, nat_tests)
 
 in_range : (a b x : ℤ) → a ≤ℤ x → x ≤ℤ b → (int_le a x && int_le x b) ≡ true
 in_range a b x h k = and_from (int_le a x) (int_le x b) (le_true a x h) (le_true x b k)
-
-or_right : (a b : Bool) → b ≡ true → (a || b) ≡ true
-or_right true b h = refl
-or_right false b h = h
 
 has_either : {F : Type 0} (xs ys : List (ℤ × ℤ)) (y : ℤ) → has (xs ++ ys) y ≡ true → (has xs y ≡ true → F) → (has ys y ≡ true → F) → F
 has_either [] ys y h f g = g h
@@ -66,7 +61,7 @@ min_right a b x h = grind (arith, ints, nat_tests)
 
 clip_from : (low high z l0 y : ℤ) (t : Bool) → (t ≡ true → low ≤ℤ high) → has (if t then (z +ℤ (low -ℤ l0), z +ℤ (high -ℤ l0)) ∷ [] else []) y ≡ true → (low ≤ℤ ((y -ℤ z) +ℤ l0)) × (((y -ℤ z) +ℤ l0) ≤ℤ high)
 clip_from low high z l0 y true f h = either {F = (low ≤ℤ ((y -ℤ z) +ℤ l0)) × (((y -ℤ z) +ℤ l0) ≤ℤ high)} (int_le (z +ℤ (low -ℤ l0)) y && int_le y (z +ℤ (high -ℤ l0))) false h
-    (λ q. let w = both_are (int_le (z +ℤ (low -ℤ l0)) y) (int_le y (z +ℤ (high -ℤ l0))) q in let a = le_fact (z +ℤ (low -ℤ l0)) y w.0 in let b = le_fact y (z +ℤ (high -ℤ l0)) w.1 in (omega (arith, ints), omega (arith, ints)))
+    (λ q. let w = and_parts (int_le (z +ℤ (low -ℤ l0)) y) (int_le y (z +ℤ (high -ℤ l0))) q in let a = le_fact (z +ℤ (low -ℤ l0)) y w.0 in let b = le_fact y (z +ℤ (high -ℤ l0)) w.1 in (omega (arith, ints), omega (arith, ints)))
     (λ q. cc)
 clip_from low high z l0 y false f h = cc
 
@@ -96,8 +91,8 @@ other_line l (m ∷ ls) x y h e = by (on_line m x) refl (other_line l ls x y f.1
 
     off : (t : Bool) → on_line l x ≡ t → (x <ℤ l.0) ⊎ (l.1 <ℤ x) → on_line l x ≡ false
     off false q side = q
-    off true q (inl side) = let w = both_are (int_le l.0 x) (int_le x l.1) q in let a = le_fact l.0 x w.0 in absurd (omega (arith, ints))
-    off true q (inr side) = let w = both_are (int_le l.0 x) (int_le x l.1) q in let a = le_fact x l.1 w.1 in absurd (omega (arith, ints))
+    off true q (inl side) = let w = and_parts (int_le l.0 x) (int_le x l.1) q in let a = le_fact l.0 x w.0 in absurd (omega (arith, ints))
+    off true q (inr side) = let w = and_parts (int_le l.0 x) (int_le x l.1) q in let a = le_fact x l.1 w.1 in absurd (omega (arith, ints))
 
     side_of : (a b c d x : ℤ) → a ≤ℤ x → x ≤ℤ b → (b <ℤ c) ⊎ (d <ℤ a) → (x <ℤ c) ⊎ (d <ℤ x)
     side_of a b c d x h k (inl s) = inl (omega (arith, ints))
@@ -106,15 +101,15 @@ other_line l (m ∷ ls) x y h e = by (on_line m x) refl (other_line l ls x y f.1
     by : (t : Bool) → on_line m x ≡ t → (image_in ls x ≡ Some y → on_line l x ≡ false) → (if t then Some (m.2 +ℤ (x -ℤ m.0)) else image_in ls x) ≡ Some y → on_line l x ≡ false
     by false q rest e = rest e
     by true q rest e =
-        let w = both_are (int_le m.0 x) (int_le x m.1) q in
+        let w = and_parts (int_le m.0 x) (int_le x m.1) q in
         off (on_line l x) refl (side_of m.0 m.1 l.0 l.1 x (le_fact m.0 x w.0) (le_fact x m.1 w.1) (key_sides l m f.0))
 
 lines_key : (ls : List (ℤ × ℤ × ℤ)) (r : ℤ × ℤ) (y : ℤ) → all_differ share ls ≡ true → has (flat_map (clipped r) ls) y ≡ true → Key ls r y
 lines_key [] r y d h = cc
 lines_key (l ∷ ls) r y d h =
-    let f = both_are (not (list_any (share l) ls)) (all_differ share ls) d in
+    let f = and_parts (not (list_any (share l) ls)) (all_differ share ls) d in
     has_either {F = Key (l ∷ ls) r y} (clipped r l) (flat_map (clipped r) ls) y h (λ q. clip_key r l ls y q)
-    (λ q. let k = lines_key ls r y f.1 q in record { key = k.key; low = k.low; high = k.high; maps = rw (other_line l ls k.key y (not_is (list_any (share l) ls) f.0) k.maps) k.maps })
+    (λ q. let k = lines_key ls r y f.1 q in record { key = k.key; low = k.low; high = k.high; maps = rw (other_line l ls k.key y (not-true (list_any (share l) ls) f.0) k.maps) k.maps })
 
 table_key : (ls : List (ℤ × ℤ × ℤ)) (rs : List (ℤ × ℤ)) (y : ℤ) → all_differ share ls ≡ true → has (flat_map (λ r. flat_map (clipped r) ls) rs) y ≡ true → (x : ℤ) × (has rs x ≡ true) × (image_in ls x ≡ Some y)
 table_key ls [] y d h = cc
@@ -126,7 +121,7 @@ table_key ls (r ∷ rs) y d h =
 items_key : (items : List (List ℕ × ℤ)) (y : ℤ) → has (map (λ named. (named.1, named.1)) items) y ≡ true → (i : ℕ) × (i < length items) × (option_map (λ named. named.1) (slice_get items i) ≡ Some y)
 items_key [] y h = cc
 items_key (a ∷ items) y h = either {F = (i : ℕ) × (i < length (a ∷ items)) × (option_map (λ named. named.1) (slice_get (a ∷ items) i) ≡ Some y)} (int_le a.1 y && int_le y a.1) (has (map (λ named. (named.1, named.1)) items) y) h
-    (λ q. let w = both_are (int_le a.1 y) (int_le y a.1) q in (zero, omega arith, ap Some (same a.1 y (le_fact a.1 y w.0) (le_fact y a.1 w.1))))
+    (λ q. let w = and_parts (int_le a.1 y) (int_le y a.1) q in (zero, omega arith, ap Some (same a.1 y (le_fact a.1 y w.0) (le_fact y a.1 w.1))))
     (λ q. let k = items_key items y q in (suc k.0, omega (arith, k.1), k.2))
   where
     same : (x y : ℤ) → x ≤ℤ y → y ≤ℤ x → x ≡ y
@@ -135,27 +130,27 @@ items_key (a ∷ items) y h = either {F = (i : ℕ) × (i < length (a ∷ items)
 range_has : (low high : ℤ) (rs : List (ℤ × ℤ)) (x : ℤ) → is_range low high rs ≡ true → low ≤ℤ x → x ≤ℤ high → has rs x ≡ true
 range_has low high [] x h a b = cc
 range_has low high (r ∷ []) x h a b =
-    let f = both_are (int_eq r.0 low) (int_eq r.1 high) h in
+    let f = and_parts (int_eq r.0 low) (int_eq r.1 high) h in
     or_left (int_le r.0 x && int_le x r.1) false (in_range r.0 r.1 x (rw (eq_fact r.0 low f.0) a) (rw (eq_fact r.1 high f.1) b))
 range_has low high (r ∷ s ∷ rs) x h a b = cc
 
 items_back : (kind : NumKind) (coding : NumCoding) (items : Items) (table : Option Table) (set : List (ℤ × ℤ)) (y : ℤ) → set_fine kind coding items table set ≡ true → items.values ≡ true → has (map (λ named. (named.1, named.1)) items.items) y ≡ true → (x : ℤ) × (has set x ≡ true) × (item_number items.items x ≡ Some y)
 items_back Integer coding items table set y h v p =
-    let n = no_values items (both_are (integer_set_fine coding (ends set)) (no_items items) (both_are (are_ranges set) (integer_set_fine coding (ends set) && no_items items) h).1).1 in cc
-items_back Boolean coding items table set y h v p = let n = no_values items (both_are (is_range (pos 0) (pos 1) set) (no_items items) h).1 in cc
-items_back Null coding items table set y h v p = let n = no_values items (both_are (is_range (pos 0) (pos 0) set) (no_items items) h).1 in cc
+    let n = no_values items (and_parts (integer_set_fine coding (ends set)) (no_items items) (and_parts (are_ranges set) (integer_set_fine coding (ends set) && no_items items) h).1).1 in cc
+items_back Boolean coding items table set y h v p = let n = no_values items (and_parts (is_range (pos 0) (pos 1) set) (no_items items) h).1 in cc
+items_back Null coding items table set y h v p = let n = no_values items (and_parts (is_range (pos 0) (pos 0) set) (no_items items) h).1 in cc
 items_back Enumerated coding items table set y h v p =
-    let f = both_are (nat_lt 0 (length items.items)) (is_range (pos 0) (pos (length items.items - 1)) set && items_fine coding items) h in
+    let f = and_parts (nat_lt 0 (length items.items)) (is_range (pos 0) (pos (length items.items - 1)) set && items_fine coding items) h in
     let k = items_key items.items y p in
     let below = k.1 in
-    (pos k.0, range_has (pos 0) (pos (length items.items - 1)) set (pos k.0) (both_are (is_range (pos 0) (pos (length items.items - 1)) set) (items_fine coding items) f.1).0 (omega (arith, ints)) (omega (arith, ints)), k.2)
+    (pos k.0, range_has (pos 0) (pos (length items.items - 1)) set (pos k.0) (and_parts (is_range (pos 0) (pos (length items.items - 1)) set) (items_fine coding items) f.1).0 (omega (arith, ints)) (omega (arith, ints)), k.2)
 
 table_back : (coding : NumCoding) (set : List (ℤ × ℤ)) (table : Option Table) (y : ℤ) → table_fine coding set table ≡ true → has (images_by table set) y ≡ true → (x : ℤ) × (has set x ≡ true) × (image_by table x ≡ Some y)
 table_back coding set None y h p = (y, p, refl)
 table_back coding set (Some table) y h p =
-    let a = both_are (has_size coding) (list_all line_fine table.lines && (all_differ share table.lines && nat_eq (count (images_by (Some table) set)) (count set))) h in
-    let b = both_are (list_all line_fine table.lines) (all_differ share table.lines && nat_eq (count (images_by (Some table) set)) (count set)) a.1 in
-    let c = both_are (all_differ share table.lines) (nat_eq (count (images_by (Some table) set)) (count set)) b.1 in
+    let a = and_parts (has_size coding) (list_all line_fine table.lines && (all_differ share table.lines && nat_eq (count (images_by (Some table) set)) (count set))) h in
+    let b = and_parts (list_all line_fine table.lines) (all_differ share table.lines && nat_eq (count (images_by (Some table) set)) (count set)) a.1 in
+    let c = and_parts (all_differ share table.lines) (nat_eq (count (images_by (Some table) set)) (count set)) b.1 in
     table_key table.lines set y c.0 p
 
 pub preimage : (leaf : NumLeaf) → IsTrue (num_fine leaf) → (y : ℤ) → has (images_of leaf) y ≡ true → (x : ℤ) × (has leaf.set x ≡ true) × (image_of leaf x ≡ Some y)
@@ -247,9 +242,6 @@ sign_small : (signed : Bool) → sign_width signed ≤ 8
 sign_small true = omega arith
 sign_small false = omega arith
 
-le_nat : (a b : ℕ) → nat_le a b ≡ true → a ≤ b
-le_nat a b h = grind (arith, nat_tests)
-
 length_small : (coding : NumCoding) (y : ℤ) → Varies coding → coding_fine coding ≡ true → coding_length coding y ≤ 2 ^ 40
 length_small (CountedFrom low) y v f = let c = count-most (λ c. nat_le (256 ^ c) (nat_abs (y -ℤ low))) 1 7 in omega arith
 length_small CountedSigned y v f = let c = count-most (λ c. not (fits_octets y c)) 1 7 in omega arith
@@ -257,9 +249,9 @@ length_small BcdEnded y v f = let c = count-most (λ e. nat_le (10 ^ e) (nat_abs
 length_small (AsciiEnded end signed) y v f =
     let c = count-most (λ e. nat_le (10 ^ e) (nat_abs y)) 1 19 in
     let s = sign_small signed in
-    let t = both_are (is_terminator end) (not (begins_number (octet_numbers end))) f in
-    let p = both_are (is_pattern end) (nat_eq (length end % 8) 0) t.0 in
-    let l = le_nat (length end) 64 (both_are (nat_le 1 (length end)) (nat_le (length end) 64) p.0).1 in
+    let t = and_parts (is_terminator end) (not (begins_number (octet_numbers end))) f in
+    let p = and_parts (is_pattern end) (nat_eq (length end % 8) 0) t.0 in
+    let l = leb-true (length end) 64 (and_parts (nat_le 1 (length end)) (nat_le (length end) 64) p.0).1 in
     omega arith
 length_small (Range low width) y v f = absurd v
 length_small (PosInt n) y v f = absurd v
@@ -274,7 +266,7 @@ some_number : (kind : NumKind) (coding : NumCoding) (items : Items) (table : Opt
 some_number kind coding items table (r ∷ rs) h o = (r.0, or_left (int_le r.0 r.0 && int_le r.0 r.1) (has rs r.0) (in_range r.0 r.1 r.0 (omega (arith, ints)) o.0))
 some_number Integer coding items table [] h o = cc
 some_number Boolean coding items table [] h o = cc
-some_number Enumerated coding items table [] h o = let f = both_are (nat_lt 0 (length items.items)) (is_range (pos 0) (pos (length items.items - 1)) [] && items_fine coding items) h in cc
+some_number Enumerated coding items table [] h o = let f = and_parts (nat_lt 0 (length items.items)) (is_range (pos 0) (pos (length items.items - 1)) [] && items_fine coding items) h in cc
 some_number Null coding items table [] h o = cc
 
 -- every image has a code of the one length

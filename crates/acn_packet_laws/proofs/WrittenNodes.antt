@@ -1,6 +1,6 @@
 -- A value of a node's form without a breach, whose walk can be met, is written.
 use Rattle.std.proofs.Common.{◌≡◌, ℕ, zero, suc, ◌-◌, ◌^◌, ◌<◌, ◌≤◌, ℤ, pos, true, false, not, List, [], ◌∷◌, ◌++◌, length, map, Option, Some, None, refl, sym, ap, ◌∙◌, arith, inl, inr, ◌&&◌, ◌||◌, nat_eq, nat_lt, nat_le, subst, append_assoc, append-nil}
-use Rattle.std.proofs.lemmas.Bool.{or_left, or_right}
+use Rattle.std.proofs.lemmas.Bool.{or_left, or_right, and_parts, eqb-true, ltb-true}
 use Rattle.std.specs.Prelude.{slice_get, Contains, unwrap_or, option_map, ◌≤ℤ◌}
 use Rattle.std.specs.List.{AllByRecursion, list_any, flat_map, zip}
 use Rattle.std.proofs.lemmas.Int.{ints}
@@ -34,7 +34,6 @@ use Rattle.acn_grammar.specs.declared.node.SizeRule.{SizeRule}
 use Rattle.acn_grammar.specs.declared.node.SizeRule.TheVariants.{Prefix, Slot, Ended}
 use Rattle.acn_grammar.specs.declared.node.Test.{Test}
 use Rattle.acn_grammar.specs.declared.node.Test.TheVariants.{Flag, Equals}
-use Rattle.acn_grammar.proofs.Codings.{both_are, equal_numbers}
 use Rattle.acn_grammar.proofs.Counts.{number_bits}
 use Rattle.acn_grammar.proofs.FineLeaves.{rules_of}
 use Rattle.acn_grammar.proofs.SpellLength.{Steady, SteadyForm, SteadyFields, SteadyAlternatives}
@@ -43,7 +42,7 @@ use Rattle.acn_packet_laws.specs.Laws.{IsAccepted}
 use Rattle.acn_packet_laws.proofs.Homes.{truth}
 use Rattle.acn_packet_laws.proofs.Answering.{at_home, not_at_home}
 use Rattle.acn_packet_laws.proofs.AskHomes.{FormHomes, NodeHomes, FieldsHomes, CasesHomes, tree_homes, differs, if_yes, if_no, some_is}
-use Rattle.acn_packet_laws.proofs.Codes.{each_number_has_a_code, lt_is, range_within}
+use Rattle.acn_packet_laws.proofs.Codes.{each_number_has_a_code, range_within}
 use Rattle.acn_packet_laws.proofs.LaidOut.{some_number}
 use Rattle.acn_packet_laws.proofs.LeastAnswers.{least_answer}
 use Rattle.acn_packet_laws.proofs.Occurrences.{each_occurrence_asks}
@@ -172,10 +171,10 @@ module _ (root : Grammar) where
   index_writes cases (Item t) i f l at = ([], refl)
   index_writes cases (Index width) i f l at =
       let n = length (conditions_of cases) in
-      let a = both_are (nat_lt 0 n) (all_differ same_name (map (λ c. c.0) (conditions_of cases)) && choice_rule_fine (conditions_of cases) (Index width)) f in
-      let b = both_are (all_differ same_name (map (λ c. c.0) (conditions_of cases))) (choice_rule_fine (conditions_of cases) (Index width)) a.1 in
-      let c = both_are (is_least_width (n - 1) width) (not (list_any has_tests (conditions_of cases))) b.1 in
-      let few = lt_is (n - 1) (2 ^ width) (both_are (nat_lt (n - 1) (2 ^ width)) (nat_eq width 0 || nat_le (2 ^ (width - 1)) (n - 1)) c.0).0 in
+      let a = and_parts (nat_lt 0 n) (all_differ same_name (map (λ c. c.0) (conditions_of cases)) && choice_rule_fine (conditions_of cases) (Index width)) f in
+      let b = and_parts (all_differ same_name (map (λ c. c.0) (conditions_of cases))) (choice_rule_fine (conditions_of cases) (Index width)) a.1 in
+      let c = and_parts (is_least_width (n - 1) width) (not (list_any has_tests (conditions_of cases))) b.1 in
+      let few = ltb-true (n - 1) (2 ^ width) (and_parts (nat_lt (n - 1) (2 ^ width)) (nat_eq width 0 || nat_le (2 ^ (width - 1)) (n - 1)) c.0).0 in
       (low_bits width i, number_bits width i (omega (arith, few, l)))
 
   -- Slots.
@@ -197,7 +196,7 @@ module _ (root : Grammar) where
 
   own_some : (k : ℕ) (around : List ℕ) (ks : Known) (own : Option ℕ) (presence : Presence) (s : ℕ) (g : Grammar) → Sound root k around ks g → OwnSound root around own presence g → is_slot s own ≡ true → (x : ℤ) × In (domain_of root s) x
   own_some k around ks None presence s g h q e = cc
-  own_some k around ks (Some t) presence s g h q e = subst (λ n. (x : ℤ) × In (domain_of root n) x) (equal_numbers t s e) (says_some k around ks t g h q.1)
+  own_some k around ks (Some t) presence s g h q e = subst (λ n. (x : ℤ) × In (domain_of root n) x) (eqb-true t s e) (says_some k around ks t g h q.1)
 
   -- a slot whose field is near has some number
   mutual
@@ -210,7 +209,7 @@ module _ (root : Grammar) where
         (λ q. near_some fs k around (choose_known presence ks (with_own own (after ks g))) (last_five h) s q)
     near_some (inserted name g (Some t) fs) k around ks h s e =
         either {F = (x : ℤ) × In (domain_of root s) x} (nat_eq t s) (holds (near fs) s) e
-        (λ q. subst (λ n. (x : ℤ) × In (domain_of root n) x) (equal_numbers t s q) (says_some k around ks t g (third_four h) (first_four h)))
+        (λ q. subst (λ n. (x : ℤ) × In (domain_of root n) x) (eqb-true t s q) (says_some k around ks t g (third_four h) (first_four h)))
         (λ q. near_some fs k around (with_slot t ks) (last_four h) s q)
     near_some (inserted name g None fs) k around ks h s e = near_some fs k around ks (last_two h) s e
 
@@ -300,7 +299,7 @@ module _ (root : Grammar) (accepted : IsAccepted root) (whole : Data) (met : Eac
   null_writes k around ks (node align (num leaf)) sound n env =
       let x = some_number leaf (last_three sound) in
       let set = rw n at (rules_of leaf (last_three sound)).set in
-      let w = range_within (pos 0) (pos 0) leaf.set x.0 (both_are (is_range (pos 0) (pos 0) leaf.set) (no_items leaf.items) set).0 x.1 in
+      let w = range_within (pos 0) (pos 0) leaf.set x.0 (and_parts (is_range (pos 0) (pos 0) leaf.set) (no_items leaf.items) set).0 x.1 in
       let c = each_number_has_a_code Written leaf (last_three sound) (pos 0) (subst (In leaf.set) (zero_only x.0 w.0 w.1) x.1) in
       then_writes (padding_writes align (first_three sound)) (λ at. (c.0, (pos 0, null_number leaf.kind n, c.1)))
   null_writes k around ks (node align (octets sizing)) sound n env = absurd n
@@ -319,7 +318,7 @@ module _ (root : Grammar) (accepted : IsAccepted root) (whole : Data) (met : Eac
       → each_element (fits g) es ≡ true → run_breaches (λ j d. breaches (p ++ j ∷ []) g d) k es ≡ [] → AllByRecursion Counted (run_moments (λ j d. moments root g paths (p ++ j ∷ []) d) k es) → Told root env around (λ t. run_asks_on (asks_on root t g) es) → Writes (RunPart (Spell root Written g env) es)
   run_writes g paths p env around one k no_elements s f n c told = exactly_writes []
   run_writes g paths p env around one k (element d es) s f n c told =
-      let a = both_are (fits g d) (each_element (fits g) es) f in
+      let a = and_parts (fits g d) (each_element (fits g) es) f in
       let b = nothing_left (breaches (p ++ k ∷ []) g d) (run_breaches (λ j d'. breaches (p ++ j ∷ []) g d') (suc k) es) n in
       let x = moments root g paths (p ++ k ∷ []) d in
       let y = run_moments (λ j d'. moments root g paths (p ++ j ∷ []) d') (suc k) es in
@@ -393,7 +392,7 @@ module _ (root : Grammar) (accepted : IsAccepted root) (whole : Data) (met : Eac
     write_fields no_fields k around ks sound homes w u p i led paths no_places s f n c env told = exactly_writes []
     write_fields (component name g presence default o fs) k around ks sound homes w u p i led paths (filled d ps) s f n c env told =
         let here = p ++ i ∷ [] in
-        let x = both_are (fits g d) (fields_fit fs ps) f in
+        let x = and_parts (fits g d) (fields_fit fs ps) f in
         let y = nothing_left (breaches here g d) (field_breaches p (suc i) fs ps) n in
         let one = own_asks paths here o d in
         let two = presence_asks paths here true presence in
@@ -410,7 +409,7 @@ module _ (root : Grammar) (accepted : IsAccepted root) (whole : Data) (met : Eac
         (λ m r q l e. s m r q (omega arith) (if_no (nat_eq m i) (part_at g d r) (field_part fs (suc i) ps m r) (differs m i l) ∙ e)) x.1 y.1 (each_right Counted (one ++ two ++ three) four c) env
         (right root env around (λ t. own_asks_on t o d ++ presence_asks_on t true presence ++ asks_on root t g d) (λ t. fields_asks_on root t fs ps) told))
     write_fields (component name g presence default o fs) k around ks sound homes w u p i led paths (empty ps) s f n c env told =
-        let x = both_are (may_be_absent presence) (fields_fit fs ps) f in
+        let x = and_parts (may_be_absent presence) (fields_fit fs ps) f in
         where_writes (away root around presence (second_four u) x.0 env (left root env around (λ t. presence_asks_on t false presence) (λ t. fields_asks_on root t fs ps) told))
         (write_fields fs k around (choose_known presence ks (with_own o (after ks g))) (last_five sound) homes.1 w.1 (last_four u) p (suc i) (led_behind root p i name g presence default o fs led) paths ps
         (λ m r q l e. s m r q (omega arith) (if_no (nat_eq m i) None (field_part fs (suc i) ps m r) (differs m i l) ∙ e)) x.1 n (each_right Counted (presence_asks paths (p ++ i ∷ []) false presence) (fields_moments root fs paths p (suc i) ps) c) env

@@ -19,7 +19,6 @@ use Rattle.acn_grammar.specs.declared.node.Sizing.{Sizing}
 use Rattle.acn_grammar.specs.declared.node.SizeRule.{SizeRule}
 use Rattle.acn_grammar.specs.declared.node.SizeRule.TheVariants.{Prefix, Slot, Ended}
 use Rattle.acn_grammar.specs.declared.node.TextLeaf.{TextLeaf}
-use Rattle.acn_grammar.proofs.Codings.{both_are, equal_numbers}
 use Rattle.acn_grammar.proofs.Counts.{number_bits}
 use Rattle.acn_grammar.proofs.SpellLength.{Steady, then-length}
 use Rattle.acn_grammar.proofs.Texts.{either}
@@ -27,6 +26,7 @@ use Rattle.acn_packet_laws.proofs.LeafTotal.{less_or_not}
 use Rattle.acn_packet_laws.proofs.LengthLaw.{length_law}
 use Rattle.acn_packet_laws.proofs.WrittenSizes.{prefix_fits, TextRules, character_fits}
 use Rattle.acn_grammar.proofs.Characters.{same_name-refl}
+use Rattle.std.proofs.lemmas.Bool.{and_parts, eqb-true}
 
 abbrev pub Writes : Part → Type 0
 Writes P = (at : ℕ) → (bs : List Bool) × P at bs
@@ -56,12 +56,12 @@ padded align at n a f =
 pub padding_writes : (align : ℕ) → is_align align ≡ true → Writes (Padding Written align)
 padding_writes align h at =
     either {F = (bs : List Bool) × Padding Written align at bs} (nat_eq align 1) (nat_eq align 8 || (nat_eq align 16 || nat_eq align 32)) h
-    (λ e. to 1 (equal_numbers align 1 e) (padded 1 at 0 (omega arith) (omega arith)))
+    (λ e. to 1 (eqb-true align 1 e) (padded 1 at 0 (omega arith) (omega arith)))
     (λ q. either {F = (bs : List Bool) × Padding Written align at bs} (nat_eq align 8) (nat_eq align 16 || nat_eq align 32) q
-    (λ e. to 8 (equal_numbers align 8 e) (padded 8 at ((8 - at % 8) % 8) (omega arith) (omega arith)))
+    (λ e. to 8 (eqb-true align 8 e) (padded 8 at ((8 - at % 8) % 8) (omega arith) (omega arith)))
     (λ r. either {F = (bs : List Bool) × Padding Written align at bs} (nat_eq align 16) (nat_eq align 32) r
-    (λ e. to 16 (equal_numbers align 16 e) (padded 16 at ((16 - at % 16) % 16) (omega arith) (omega arith)))
-    (λ e. to 32 (equal_numbers align 32 e) (padded 32 at ((32 - at % 32) % 32) (omega arith) (omega arith)))))
+    (λ e. to 16 (eqb-true align 16 e) (padded 16 at ((16 - at % 16) % 16) (omega arith) (omega arith)))
+    (λ e. to 32 (eqb-true align 32 e) (padded 32 at ((32 - at % 32) % 32) (omega arith) (omega arith)))))
   where
     to : (n : ℕ) → align ≡ n → (bs : List Bool) × Padding Written n at bs → (bs : List Bool) × Padding Written align at bs
     to n e p = subst (λ a. (bs : List Bool) × Padding Written a at bs) (sym e) p
@@ -82,7 +82,7 @@ rule_writes sizes s (Prefix low width) f env n h r at = let p = prefix_fits size
 rule_writes sizes s (Ended p) f env n h r at = cc
 
 pub size_writes : (sizing : Sizing) → (sizes_fine sizing.sizes && rule_fine sizing.sizes sizing.rule) ≡ true → (env : Env) (n : ℕ) → has sizing.sizes (pos n) ≡ true → RuleHas env sizing.rule n → Writes (SizePart sizing env n)
-size_writes sizing f env n h r = let b = both_are (sizes_fine sizing.sizes) (rule_fine sizing.sizes sizing.rule) f in where_writes h (rule_writes sizing.sizes b.0 sizing.rule b.1 env n h r)
+size_writes sizing f env n h r = let b = and_parts (sizes_fine sizing.sizes) (rule_fine sizing.sizes sizing.rule) f in where_writes h (rule_writes sizing.sizes b.0 sizing.rule b.1 env n h r)
 
 -- What no breach says.
 
@@ -162,7 +162,7 @@ chars_write leaf r (c ∷ cs) h =
 
 text_by : (end : Option (List Bool)) (leaf : TextLeaf) → TextRules leaf → end_fine end leaf ≡ true → (env : Env) (cs : List ℕ) → size_breach leaf.sized (length cs) ≡ [] → Permitted leaf cs → end_breach end cs ≡ [] → (end ≡ None → RuleHas env leaf.sized.rule (length cs)) → Writes (EndedPart end leaf env cs)
 text_by None leaf r f env cs s h e u =
-    let b = both_are (rule_fine leaf.sized.sizes leaf.sized.rule) (width_fine leaf) f in
+    let b = and_parts (rule_fine leaf.sized.sizes leaf.sized.rule) (width_fine leaf) f in
     let has_size = passes (has leaf.sized.sizes (pos (length cs))) (size_out_of_range (length cs)) s in
     then_writes (where_writes has_size (rule_writes leaf.sized.sizes r.sizes leaf.sized.rule b.0 env (length cs) has_size (u refl))) (chars_write leaf r cs h)
 text_by (Some end) leaf r f env cs s h e u =
@@ -181,7 +181,7 @@ text_writes leaf r env cs none u =
 
 pub list_writes : (end : Option (List Bool)) (sizing : Sizing) → ending sizing.rule ≡ end → list_fine sizing ≡ true → (env : Env) (each : Data → Part) (es : Elements) → has sizing.sizes (pos (element_count es)) ≡ true → RuleHas env sizing.rule (element_count es) → Writes (RunPart each es) → Writes (ListPart end sizing env each es)
 list_writes None sizing e f env each es h r w =
-    let b = both_are (sizes_fine sizing.sizes) (list_rule_fine (ending sizing.rule) sizing) f in
+    let b = and_parts (sizes_fine sizing.sizes) (list_rule_fine (ending sizing.rule) sizing) f in
     then_writes (where_writes h (rule_writes sizing.sizes b.0 sizing.rule (ap (λ o. list_rule_fine o sizing) (sym e) ∙ b.1) env (element_count es) h r)) w
 list_writes (Some p) sizing e f env each es h r w = where_writes h (then_writes w (exactly_writes p))
 

@@ -1,2 +1,2 @@
-pub mod SeenNames
-pub mod TwiceTypes
+mod SeenNames
+mod TwiceTypes

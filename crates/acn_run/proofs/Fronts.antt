@@ -2,7 +2,7 @@
 use Rattle.std.proofs.Common.{◌≡◌, ℕ, suc, ◌+◌, ◌*◌, ◌<◌, ◌≤◌, ℤ, pos, ◌+ℤ◌, ◌≤ℤ◌, Bool, true, false, ◌&&◌, ◌||◌, List, [], ◌∷◌, ◌++◌, length, take, drop, Option, Some, None, refl, sym, ap, subst, ◌∙◌, arith, length-take, length-drop, length-append, take-append-drop, append_assoc, nat_le, int_le, option_map, if◌then◌else◌}
 use Rattle.std.specs.Cmp.Derive.{both_true}
 use Rattle.std.proofs.Math.Seq.{take-add, take-append_seam}
-use Rattle.std.proofs.lemmas.Bool.{leb-true, le-leb}
+use Rattle.std.proofs.lemmas.Bool.{leb-true, le-leb, and_parts}
 use Rattle.std.proofs.lemmas.Int.{ints}
 use Rattle.acn_num.specs.Bits.{number, octets}
 use Rattle.acn_num.specs.Ranges.{In}
@@ -16,10 +16,6 @@ use Rattle.acn_grammar.specs.Spell.{Spell, FieldsPart, FormPart}
 use Rattle.acn_run.specs.declared.components.Component.{Component}
 use Rattle.acn_run.specs.Packet.{leaf_of, fields_of, grammar_of, places_of, value_of, width_of, offset_of, fits, numbers_of}
 
-pub both : (a b : Bool) → a && b ≡ true → (a ≡ true) × (b ≡ true)
-both true b e = (refl, e)
-both false b e = absurd cc
-
 either : (b : Bool) → (b || false) ≡ true → b ≡ true
 either true e = refl
 either false e = absurd cc
@@ -29,7 +25,7 @@ in_range low m high a b = rw (le_true (pos low) (pos m) (omega (arith, ints)), l
 
 below_high : (low m high : ℕ) → In ((pos low, pos high) ∷ []) (pos m) → m ≤ high
 below_high low m high h =
-    let t = both (int_le (pos low) (pos m)) (int_le (pos m) (pos high)) (either (int_le (pos low) (pos m) && int_le (pos m) (pos high)) h) in
+    let t = and_parts (int_le (pos low) (pos m)) (int_le (pos m) (pos high)) (either (int_le (pos low) (pos m) && int_le (pos m) (pos high)) h) in
     let le : pos m ≤ℤ pos high = true_le (pos m) (pos high) t.1 in omega (arith, ints)
 
 -- ---- one component
@@ -120,7 +116,7 @@ fields_spell root [] input ns at e =
     subst (λ (t : List ℕ). Spelled root [] input t at) same (record { within = omega arith; spelled = λ env. refl })
 fields_spell root (c ∷ cs) input ns at e =
     let m = more_numbers c cs input ns e in
-    let t = both (nat_le c.width (length input)) (nat_le (c.low + offset_of c input) c.high) m.1 in
+    let t = and_parts (nat_le c.width (length input)) (nat_le (c.low + offset_of c input) c.high) m.1 in
     let long : length (take c.width input) ≡ c.width = simp length-take (omega (arith, leb-true c.width (length input) t.0)) in
     let more = fields_spell root cs (drop c.width input) m.0 (at + length (take c.width input)) m.2 in
     let there : Spelled root (c ∷ cs) input ((c.low + offset_of c input) ∷ m.0) at = record {

@@ -4,7 +4,7 @@ use Rattle.std.specs.Cmp.Derive.{both_true}
 use Rattle.std.specs.List.{AllByRecursion, list_any, list_all}
 use Rattle.std.specs.Str.{bytes_eq}
 use Rattle.std.specs.Ordering.{int_eq}
-use Rattle.std.proofs.lemmas.Bool.{leb-true, le-leb, ltb-true, ltb-false, lt-ltb}
+use Rattle.std.proofs.lemmas.Bool.{leb-true, le-leb, ltb-true, ltb-false, lt-ltb, or_right, and_parts}
 use Rattle.std.proofs.lemmas.Int.{ints}
 use Rattle.std.proofs.Math.ListN.{drop_of_length-le}
 use Rattle.acn_num.specs.Bits.{is_least_width}
@@ -25,17 +25,12 @@ use Rattle.acn_grammar.specs.Walk.{Stand, field_nodes, nodes_of}
 use Rattle.acn_run.specs.declared.components.Component.{Component}
 use Rattle.acn_run.specs.Form.{width_from, least_width, IsComponent, has_name, names_differ, has_bits, are_fit}
 use Rattle.acn_run.specs.Packet.{leaf_of, field_of, fields_of, grammar_of}
-use Rattle.acn_run.proofs.Fronts.{both}
 
 -- ---- the width
 
-either_true : (a b : Bool) → b ≡ true → (a || b) ≡ true
-either_true true b h = refl
-either_true false b h = h
-
 is_least : (w span : ℕ) → span < 2 ^ w → (w ≡ 0) ⊎ (2 ^ (w - 1) ≤ span) → is_least_width span w ≡ true
 is_least w span h (inl none) = both_true (lt-ltb span (2 ^ w) h) (rw none refl)
-is_least w span h (inr low) = both_true (lt-ltb span (2 ^ w) h) (either_true (nat_eq w 0) (nat_le (2 ^ (w - 1)) span) (le-leb (2 ^ (w - 1)) span low))
+is_least w span h (inr low) = both_true (lt-ltb span (2 ^ w) h) (or_right (nat_eq w 0) (nat_le (2 ^ (w - 1)) span) (le-leb (2 ^ (w - 1)) span low))
 
 least_from : (n w span : ℕ) → span < 2 ^ (w + n) → (w ≡ 0) ⊎ (2 ^ (w - 1) ≤ span) → is_least_width span (width_from n w span) ≡ true
 least_from zero w span high low = is_least w span (subst (λ (v : ℕ). span < 2 ^ v) (let e : w + 0 ≡ w = omega arith in e) high) low
@@ -113,8 +108,8 @@ leaves_fine all (c ∷ cs) k fine = rw (leaf_fine c fine.0, leaves_fine all cs (
 
 pub form_is_tree : (cs : List Component) → AllByRecursion IsComponent cs → are_fit cs ≡ true → is_tree (grammar_of cs) ≡ true
 form_is_tree cs fine fit =
-    let count_names = both (nat_le (length cs) 64 && names_differ cs) (has_bits cs) fit in
-    let few = both (nat_le (length cs) 64) (names_differ cs) count_names.0 in
+    let count_names = and_parts (nat_le (length cs) 64 && names_differ cs) (has_bits cs) fit in
+    let few = and_parts (nat_le (length cs) 64) (names_differ cs) count_names.0 in
     let size : nat_le (suc (length cs)) 65536 ≡ true = le-leb (suc (length cs)) 65536 (omega (arith, leb-true (length cs) 64 few.0)) in
     rw (no_slots cs 0, node_count cs 0, size, differ cs, few.1, leaves_fine (nodes_of (grammar_of cs)) cs 0 fine) refl
 

@@ -1,10 +1,10 @@
-pub mod Widths
-pub mod FormLaws
-pub mod Fronts
-pub mod Grammars
-pub mod Turns
-pub mod Orders
-pub mod Digits
-pub mod Steps
-pub mod Faults
-pub mod Statuses
+mod Widths
+mod FormLaws
+mod Fronts
+mod Grammars
+mod Turns
+mod Orders
+mod Digits
+mod Steps
+mod Faults
+mod Statuses

@@ -1,3 +1,5 @@
+-- for acn_constraint
 pub mod Bases
-pub mod Ones
+mod Ones
+-- for acn_constraint
 pub mod Texts

@@ -14,12 +14,12 @@ use Rattle.acn_grammar.specs.LeafFails.{Reason, short, too_long, size_out_of_ran
 use Rattle.acn_grammar.specs.Spell.{CharactersPart, EndedPart, octet_numbers, character_number}
 use Rattle.acn_grammar.specs.declared.node.TextLeaf.{TextLeaf}
 use Rattle.acn_grammar.specs.declared.read_fault.ReadFault.{ReadFault}
-use Rattle.acn_grammar.proofs.Codings.{both_are}
 use Rattle.acn_text.specs.Texts.{TextCode, PassedText, NoTextAt, fault_here}
 use Rattle.acn_text.proofs.Ends.{end_long, end_not_found, end_found, ends_first}
 use Rattle.acn_text.proofs.Fine.{FineEnd}
 use Rattle.acn_text.proofs.Octets.{octets_few, octets_most, octets-take, octets-drop, octet_first, octet_next, first_of_window, next_window}
 use Rattle.acn_text.proofs.SizedReads.{read_front}
+use Rattle.std.proofs.lemmas.Bool.{and_parts}
 
 -- Characters of 8 bits each.
 
@@ -37,7 +37,7 @@ module _ (leaf : TextLeaf) (width : leaf.width ≡ 8) (plain : leaf.indexed ≡ 
       let e = octet_next l (omega (arith, h)) in
       let d = length-drop 8 l in
       let q : all_permitted leaf (number (take 8 l) ∷ take k (octet_values (drop 8 l))) ≡ true = ap (λ os. all_permitted leaf (take (suc k) os)) (sym e) ∙ p in
-      let r = both_are (has leaf.alphabet (pos (number (take 8 l)))) (all_permitted leaf (take k (octet_values (drop 8 l)))) q in
+      let r = and_parts (has leaf.alphabet (pos (number (take 8 l)))) (all_permitted leaf (take k (octet_values (drop 8 l)))) q in
       let whole : take (8 * suc k) l ≡ take 8 l ++ take (8 * k) (drop 8 l) = ap (λ n. take n l) (omega arith) ∙ take-add 8 (8 * k) l in
       subst (λ (os : List ℕ). CharactersPart leaf (take (suc k) os) at (take (8 * suc k) l)) (sym e)
       (record {

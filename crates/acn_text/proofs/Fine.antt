@@ -11,12 +11,11 @@ use Rattle.acn_grammar.specs.Leaves.{text_fine, sizes_fine, rule_fine, prefix_fi
 use Rattle.acn_grammar.specs.declared.node.SizeRule.{SizeRule}
 use Rattle.acn_grammar.specs.declared.node.SizeRule.TheVariants.{Prefix, Slot, Ended}
 use Rattle.acn_grammar.specs.declared.node.TextLeaf.{TextLeaf}
-use Rattle.acn_grammar.proofs.Codings.{both_are, not_is, equal_numbers}
 use Rattle.acn_grammar.proofs.Texts.{either, above, ranges_from, lt_fact, le_fact}
 use Rattle.acn_grammar.proofs.Within.{between}
 use Rattle.acn_text.specs.Texts.{IsGiven}
 use Rattle.acn_text.specs.Steps.{RuleFits, SizeFits}
-use Rattle.std.proofs.lemmas.Bool.{ltb-true, leb-true}
+use Rattle.std.proofs.lemmas.Bool.{ltb-true, leb-true, and_parts, not-true, eqb-true}
 
 -- the rules by name
 pub record FineText (leaf : TextLeaf) : Type 0 where
@@ -28,10 +27,10 @@ pub record FineText (leaf : TextLeaf) : Type 0 where
 
 pub fine_text : (leaf : TextLeaf) → IsTrue (text_fine leaf) → FineText leaf
 fine_text leaf h =
-    let a = both_are (sizes_fine leaf.sized.sizes) (nat_lt 0 (length leaf.alphabet) && (are_ranges leaf.alphabet && (all_within (pos 0) (pos 127) leaf.alphabet && end_fine leaf.ended leaf))) h in
-    let b = both_are (nat_lt 0 (length leaf.alphabet)) (are_ranges leaf.alphabet && (all_within (pos 0) (pos 127) leaf.alphabet && end_fine leaf.ended leaf)) a.1 in
-    let c = both_are (are_ranges leaf.alphabet) (all_within (pos 0) (pos 127) leaf.alphabet && end_fine leaf.ended leaf) b.1 in
-    let d = both_are (all_within (pos 0) (pos 127) leaf.alphabet) (end_fine leaf.ended leaf) c.1 in
+    let a = and_parts (sizes_fine leaf.sized.sizes) (nat_lt 0 (length leaf.alphabet) && (are_ranges leaf.alphabet && (all_within (pos 0) (pos 127) leaf.alphabet && end_fine leaf.ended leaf))) h in
+    let b = and_parts (nat_lt 0 (length leaf.alphabet)) (are_ranges leaf.alphabet && (all_within (pos 0) (pos 127) leaf.alphabet && end_fine leaf.ended leaf)) a.1 in
+    let c = and_parts (are_ranges leaf.alphabet) (all_within (pos 0) (pos 127) leaf.alphabet && end_fine leaf.ended leaf) b.1 in
+    let d = and_parts (all_within (pos 0) (pos 127) leaf.alphabet) (end_fine leaf.ended leaf) c.1 in
     record { sizes = a.0; some = ltb-true 0 (length leaf.alphabet) b.0; ordered = c.0; small = d.0; end = d.1 }
 
 -- the rules of one that ends
@@ -46,15 +45,15 @@ pub record FineEnd (leaf : TextLeaf) (end : List Bool) : Type 0 where
 pub fine_end : (leaf : TextLeaf) (end : List Bool) → FineText leaf → leaf.ended ≡ Some end → FineEnd leaf end
 fine_end leaf end f is =
     let t : end_fine (Some end) leaf ≡ true = ap (λ e. end_fine e leaf) (sym is) ∙ f.end in
-    let a = both_are (no_size leaf.sized.rule) (nat_eq leaf.width 8 && (not leaf.indexed && is_terminator end)) t in
-    let b = both_are (nat_eq leaf.width 8) (not leaf.indexed && is_terminator end) a.1 in
-    let c = both_are (not leaf.indexed) (is_terminator end) b.1 in
-    let d = both_are (is_pattern end) (nat_eq (length end % 8) 0) c.1 in
-    let p = both_are (nat_le 1 (length end)) (nat_le (length end) 64) d.0 in
+    let a = and_parts (no_size leaf.sized.rule) (nat_eq leaf.width 8 && (not leaf.indexed && is_terminator end)) t in
+    let b = and_parts (nat_eq leaf.width 8) (not leaf.indexed && is_terminator end) a.1 in
+    let c = and_parts (not leaf.indexed) (is_terminator end) b.1 in
+    let d = and_parts (is_pattern end) (nat_eq (length end % 8) 0) c.1 in
+    let p = and_parts (nat_le 1 (length end)) (nat_le (length end) 64) d.0 in
     let low = leb-true 1 (length end) p.0 in
     let high = leb-true (length end) 64 p.1 in
-    let whole = equal_numbers (length end % 8) 0 d.1 in
-    record { rule = a.0; width = equal_numbers leaf.width 8 b.0; plain = not_is leaf.indexed c.0; octets = omega arith; some = omega arith; few = high }
+    let whole = eqb-true (length end % 8) 0 d.1 in
+    record { rule = a.0; width = eqb-true leaf.width 8 b.0; plain = not-true leaf.indexed c.0; octets = omega arith; some = omega arith; few = high }
 
 -- no size is given where there is none
 pub none_given : (leaf : TextLeaf) (given : Option ℕ) → no_size leaf.sized.rule ≡ true → IsGiven leaf.sized.rule given → given ≡ None
@@ -70,17 +69,17 @@ none_given leaf given n h = by leaf.sized.rule n h
 pub above_of : (b : ℤ) (rs : List (ℤ × ℤ)) → are_ranges_above b rs ≡ true → all_within (pos 0) (pos 127) rs ≡ true → Above b rs
 above_of b [] h w = tt
 above_of b (r ∷ rs) h w =
-    let f = both_are (int_lt b r.0) (int_le r.0 r.1 && are_ranges_above (r.1 +ℤ pos 1) rs) h in
-    let g = both_are (int_le r.0 r.1) (are_ranges_above (r.1 +ℤ pos 1) rs) f.1 in
-    let v = both_are (int_le (pos 0) r.0) (int_le r.1 (pos 127) && all_within (pos 0) (pos 127) rs) w in
-    let u = both_are (int_le r.1 (pos 127)) (all_within (pos 0) (pos 127) rs) v.1 in
+    let f = and_parts (int_lt b r.0) (int_le r.0 r.1 && are_ranges_above (r.1 +ℤ pos 1) rs) h in
+    let g = and_parts (int_le r.0 r.1) (are_ranges_above (r.1 +ℤ pos 1) rs) f.1 in
+    let v = and_parts (int_le (pos 0) r.0) (int_le r.1 (pos 127) && all_within (pos 0) (pos 127) rs) w in
+    let u = and_parts (int_le r.1 (pos 127)) (all_within (pos 0) (pos 127) rs) v.1 in
     let high = le_fact r.1 (pos 127) u.0 in
     (lt_fact b r.0 f.0, le_fact r.0 r.1 g.0, omega (arith, ints), above_of (r.1 +ℤ pos 1) rs g.1 u.1)
 
 pub tests_above : (rs : List (ℤ × ℤ)) → are_ranges rs ≡ true → all_within (pos 0) (pos 127) rs ≡ true → are_ranges_above (negsuc 0) rs ≡ true
 tests_above [] h w = refl
 tests_above (r ∷ rs) h w =
-    let v = both_are (int_le (pos 0) r.0) (int_le r.1 (pos 127) && all_within (pos 0) (pos 127) rs) w in
+    let v = and_parts (int_le (pos 0) r.0) (int_le r.1 (pos 127) && all_within (pos 0) (pos 127) rs) w in
     let low = le_fact (pos 0) r.0 v.0 in
     let t : int_lt (negsuc 0) r.0 ≡ true = below r.0 low in
     rw t h
@@ -94,11 +93,11 @@ alphabet_above leaf f = above_of (negsuc 0) leaf.alphabet (tests_above leaf.alph
 pub is_within : (high : ℤ) (rs : List (ℤ × ℤ)) (x : ℤ) → all_within (pos 0) high rs ≡ true → has rs x ≡ true → (pos 0 ≤ℤ x) × (x ≤ℤ high)
 is_within high [] x w p = cc
 is_within high (r ∷ rs) x w p =
-    let v = both_are (int_le (pos 0) r.0) (int_le r.1 high && all_within (pos 0) high rs) w in
-    let u = both_are (int_le r.1 high) (all_within (pos 0) high rs) v.1 in
+    let v = and_parts (int_le (pos 0) r.0) (int_le r.1 high && all_within (pos 0) high rs) w in
+    let u = and_parts (int_le r.1 high) (all_within (pos 0) high rs) v.1 in
     either {F = (pos 0 ≤ℤ x) × (x ≤ℤ high)} (int_le r.0 x && int_le x r.1) (has rs x) p
     (λ q.
-    let i = both_are (int_le r.0 x) (int_le x r.1) q in
+    let i = and_parts (int_le r.0 x) (int_le x r.1) q in
     let a = le_fact (pos 0) r.0 v.0 in
     let b = le_fact r.0 x i.0 in
     let c = le_fact x r.1 i.1 in
@@ -110,8 +109,8 @@ is_within high (r ∷ rs) x w p =
 pub count_few : (b : ℤ) (rs : List (ℤ × ℤ)) → Above b rs → all_within (pos 0) (pos 127) rs ≡ true → negsuc 0 ≤ℤ b → b ≤ℤ pos 128 → pos (count rs) ≤ℤ (pos 128 -ℤ b)
 count_few b [] h w low high = omega (arith, ints)
 count_few b (r ∷ rs) h w low high =
-    let v = both_are (int_le (pos 0) r.0) (int_le r.1 (pos 127) && all_within (pos 0) (pos 127) rs) w in
-    let u = both_are (int_le r.1 (pos 127)) (all_within (pos 0) (pos 127) rs) v.1 in
+    let v = and_parts (int_le (pos 0) r.0) (int_le r.1 (pos 127) && all_within (pos 0) (pos 127) rs) w in
+    let u = and_parts (int_le r.1 (pos 127)) (all_within (pos 0) (pos 127) rs) v.1 in
     let d = le_fact r.1 (pos 127) u.0 in
     let one = h.0 in
     let two = h.1 in
@@ -134,19 +133,19 @@ pub data WidthIs (leaf : TextLeaf) : Type 0 where
 width_by : (leaf : TextLeaf) → width_fine leaf ≡ true → WidthIs leaf
 width_by leaf h =
     either {F = WidthIs leaf} (nat_eq leaf.width 8 && not leaf.indexed) (holds_characters (count leaf.alphabet) leaf.width && same_truth leaf.indexed (is_beyond leaf.width (greatest leaf.alphabet))) h
-    (λ p. let a = both_are (nat_eq leaf.width 8) (not leaf.indexed) p in plain_octets (equal_numbers leaf.width 8 a.0) (not_is leaf.indexed a.1))
+    (λ p. let a = and_parts (nat_eq leaf.width 8) (not leaf.indexed) p in plain_octets (eqb-true leaf.width 8 a.0) (not-true leaf.indexed a.1))
     (λ p.
-    let a = both_are (holds_characters (count leaf.alphabet) leaf.width) (same_truth leaf.indexed (is_beyond leaf.width (greatest leaf.alphabet))) p in
-    let b = both_are (nat_le (count leaf.alphabet) (2 ^ leaf.width)) (nat_eq leaf.width 0 || nat_lt (2 ^ (leaf.width - 1)) (count leaf.alphabet)) a.0 in
+    let a = and_parts (holds_characters (count leaf.alphabet) leaf.width) (same_truth leaf.indexed (is_beyond leaf.width (greatest leaf.alphabet))) p in
+    let b = and_parts (nat_le (count leaf.alphabet) (2 ^ leaf.width)) (nat_eq leaf.width 0 || nat_lt (2 ^ (leaf.width - 1)) (count leaf.alphabet)) a.0 in
     fewest_bits (leb-true (count leaf.alphabet) (2 ^ leaf.width) b.0)
     (either {F = (leaf.width ≡ 0) ⊎ (2 ^ (leaf.width - 1) < count leaf.alphabet)} (nat_eq leaf.width 0) (nat_lt (2 ^ (leaf.width - 1)) (count leaf.alphabet)) b.1
-    (λ q. inl (equal_numbers leaf.width 0 q)) (λ q. inr (ltb-true (2 ^ (leaf.width - 1)) (count leaf.alphabet) q))) a.1)
+    (λ q. inl (eqb-true leaf.width 0 q)) (λ q. inr (ltb-true (2 ^ (leaf.width - 1)) (count leaf.alphabet) q))) a.1)
 
 pub width_is : (leaf : TextLeaf) → FineText leaf → WidthIs leaf
 width_is leaf f = by leaf.ended refl
   where
     by : (o : Option (List Bool)) → leaf.ended ≡ o → WidthIs leaf
-    by None is = width_by leaf (both_are (rule_fine leaf.sized.sizes leaf.sized.rule) (width_fine leaf) (ap (λ e. end_fine e leaf) (sym is) ∙ f.end)).1
+    by None is = width_by leaf (and_parts (rule_fine leaf.sized.sizes leaf.sized.rule) (width_fine leaf) (ap (λ e. end_fine e leaf) (sym is) ∙ f.end)).1
     by (Some end) is = let e = fine_end leaf end f is in plain_octets e.width e.plain
 
 pub small_width : (n m : ℕ) → 2 ^ (n - 1) ≤ m → m ≤ 65536 → n ≤ 17
@@ -189,8 +188,8 @@ same_number x y h = grind (arith, ints, nat_tests)
 pub from_least : (b : ℤ) (rs : List (ℤ × ℤ)) (x z : ℤ) → are_ranges_above b rs ≡ true → has rs x ≡ true → least rs ≡ Some z → z ≤ℤ x
 from_least b [] x z h p e = cc
 from_least b (r ∷ rs) x z h p e =
-    let f = both_are (int_lt b r.0) (int_le r.0 r.1 && are_ranges_above (r.1 +ℤ pos 1) rs) h in
-    let g = both_are (int_le r.0 r.1) (are_ranges_above (r.1 +ℤ pos 1) rs) f.1 in
+    let f = and_parts (int_lt b r.0) (int_le r.0 r.1 && are_ranges_above (r.1 +ℤ pos 1) rs) h in
+    let g = and_parts (int_le r.0 r.1) (are_ranges_above (r.1 +ℤ pos 1) rs) f.1 in
     let is : r.0 ≡ z = cc in
     let whole = le_fact r.0 r.1 g.0 in
     rw (← is) (either {F = r.0 ≤ℤ x} (int_le r.0 x && int_le x r.1) (has rs x) p
@@ -219,10 +218,10 @@ to_greatest b (r ∷ []) x z h p e =
     no_number : {F : Type 0} (x : ℤ) → has [] x ≡ true → F
     no_number x o = cc
 to_greatest b (r ∷ s ∷ rs) x z h p e =
-    let f = both_are (int_lt b r.0) (int_le r.0 r.1 && are_ranges_above (r.1 +ℤ pos 1) (s ∷ rs)) h in
-    let g = both_are (int_le r.0 r.1) (are_ranges_above (r.1 +ℤ pos 1) (s ∷ rs)) f.1 in
-    let i = both_are (int_lt (r.1 +ℤ pos 1) s.0) (int_le s.0 s.1 && are_ranges_above (s.1 +ℤ pos 1) rs) g.1 in
-    let j = both_are (int_le s.0 s.1) (are_ranges_above (s.1 +ℤ pos 1) rs) i.1 in
+    let f = and_parts (int_lt b r.0) (int_le r.0 r.1 && are_ranges_above (r.1 +ℤ pos 1) (s ∷ rs)) h in
+    let g = and_parts (int_le r.0 r.1) (are_ranges_above (r.1 +ℤ pos 1) (s ∷ rs)) f.1 in
+    let i = and_parts (int_lt (r.1 +ℤ pos 1) s.0) (int_le s.0 s.1 && are_ranges_above (s.1 +ℤ pos 1) rs) g.1 in
+    let j = and_parts (int_le s.0 s.1) (are_ranges_above (s.1 +ℤ pos 1) rs) i.1 in
     let next = to_greatest (r.1 +ℤ pos 1) (s ∷ rs) s.0 z g.1 (first_in s rs (le_fact s.0 s.1 j.0)) e in
     let over = lt_fact (r.1 +ℤ pos 1) s.0 i.0 in
     either {F = x ≤ℤ z} (int_le r.0 x && int_le x r.1) (has (s ∷ rs) x) p
@@ -238,26 +237,26 @@ pub record SizesLie (sizes : List (ℤ × ℤ)) (low high : ℤ) : Type 0 where
 ends_in : (high : ℤ) (rs : List (ℤ × ℤ)) (z : ℤ) → all_within (pos 0) high rs ≡ true → greatest rs ≡ Some z → z ≤ℤ high
 ends_in high [] z w e = cc
 ends_in high (r ∷ []) z w e =
-    let v = both_are (int_le (pos 0) r.0) (int_le r.1 high && all_within (pos 0) high []) w in
-    let u = both_are (int_le r.1 high) (all_within (pos 0) high []) v.1 in
+    let v = and_parts (int_le (pos 0) r.0) (int_le r.1 high && all_within (pos 0) high []) w in
+    let u = and_parts (int_le r.1 high) (all_within (pos 0) high []) v.1 in
     let is : r.1 ≡ z = cc in
     rw (← is) (le_fact r.1 high u.0)
 ends_in high (r ∷ s ∷ rs) z w e =
-    let v = both_are (int_le (pos 0) r.0) (int_le r.1 high && all_within (pos 0) high (s ∷ rs)) w in
-    let u = both_are (int_le r.1 high) (all_within (pos 0) high (s ∷ rs)) v.1 in
+    let v = and_parts (int_le (pos 0) r.0) (int_le r.1 high && all_within (pos 0) high (s ∷ rs)) w in
+    let u = and_parts (int_le r.1 high) (all_within (pos 0) high (s ∷ rs)) v.1 in
     ends_in high (s ∷ rs) z u.1 e
 
 sizes_lie : (sizes : List (ℤ × ℤ)) (low high : ℤ) → sizes_fine sizes ≡ true → least sizes ≡ Some low → greatest sizes ≡ Some high → SizesLie sizes low high
 sizes_lie sizes low high h a z =
-    let p = both_are (nat_lt 0 (length sizes)) (are_ranges sizes && all_within (pos 0) (pos 65536) sizes) h in
-    let q = both_are (are_ranges sizes) (all_within (pos 0) (pos 65536) sizes) p.1 in
+    let p = and_parts (nat_lt 0 (length sizes)) (are_ranges sizes && all_within (pos 0) (pos 65536) sizes) h in
+    let q = and_parts (are_ranges sizes) (all_within (pos 0) (pos 65536) sizes) p.1 in
     by sizes q.0 q.1 a z
   where
     by : (rs : List (ℤ × ℤ)) → are_ranges rs ≡ true → all_within (pos 0) (pos 65536) rs ≡ true → least rs ≡ Some low → greatest rs ≡ Some high → SizesLie sizes low high
     by [] o w a z = cc
     by (r ∷ rs) o w a z =
-        let g = both_are (int_le r.0 r.1) (are_ranges_above (r.1 +ℤ pos 1) rs) o in
-        let v = both_are (int_le (pos 0) r.0) (int_le r.1 (pos 65536) && all_within (pos 0) (pos 65536) rs) w in
+        let g = and_parts (int_le r.0 r.1) (are_ranges_above (r.1 +ℤ pos 1) rs) o in
+        let v = and_parts (int_le (pos 0) r.0) (int_le r.1 (pos 65536) && all_within (pos 0) (pos 65536) rs) w in
         let is : r.0 ≡ low = cc in
         let b = ranges_from (r ∷ rs) o in
         let one = first_in r rs (le_fact r.0 r.1 g.0) in
@@ -283,8 +282,8 @@ prefix_is sizes low width h t = by (least sizes) (greatest sizes) refl refl t
     by None z e f t = cc
     by (Some a) None e f t = cc
     by (Some a) (Some z) e f t =
-        let p = both_are (int_eq (pos low) a) (is_least_width (distance a z) width) t in
-        let q = both_are (nat_lt (distance a z) (2 ^ width)) (nat_eq width 0 || nat_le (2 ^ (width - 1)) (distance a z)) p.1 in
+        let p = and_parts (int_eq (pos low) a) (is_least_width (distance a z) width) t in
+        let q = and_parts (nat_lt (distance a z) (2 ^ width)) (nat_eq width 0 || nat_le (2 ^ (width - 1)) (distance a z)) p.1 in
         let is = same_number (pos low) a p.0 in
         let lie = sizes_lie sizes a z h e f in
         let one = lie.least in
@@ -297,14 +296,14 @@ prefix_is sizes low width h t = by (least sizes) (greatest sizes) refl refl t
           greatest_is = f;
           fits = subst (λ (t : ℤ). distance t z < 2 ^ width) (sym is) (ltb-true (distance a z) (2 ^ width) q.0);
           few = omega (arith, ints);
-          narrow = narrow_of (distance a z) span (either {F = (width ≡ 0) ⊎ (2 ^ (width - 1) ≤ distance a z)} (nat_eq width 0) (nat_le (2 ^ (width - 1)) (distance a z)) q.1 (λ c. inl (equal_numbers width 0 c)) (λ c. inr (leb-true (2 ^ (width - 1)) (distance a z) c)));
+          narrow = narrow_of (distance a z) span (either {F = (width ≡ 0) ⊎ (2 ^ (width - 1) ≤ distance a z)} (nat_eq width 0) (nat_le (2 ^ (width - 1)) (distance a z)) q.1 (λ c. inl (eqb-true width 0 c)) (λ c. inr (leb-true (2 ^ (width - 1)) (distance a z) c)));
         }
       where
         span_few : (a z : ℤ) → pos 0 ≤ℤ a → a ≤ℤ z → z ≤ℤ pos 65536 → nat_abs (z -ℤ a) ≤ 65536
         span_few a z p q r = omega (arith, ints)
 
 rule_is : (leaf : TextLeaf) → FineText leaf → leaf.ended ≡ None → rule_fine leaf.sized.sizes leaf.sized.rule ≡ true
-rule_is leaf f is = (both_are (rule_fine leaf.sized.sizes leaf.sized.rule) (width_fine leaf) (ap (λ e. end_fine e leaf) (sym is) ∙ f.end)).0
+rule_is leaf f is = (and_parts (rule_fine leaf.sized.sizes leaf.sized.rule) (width_fine leaf) (ap (λ e. end_fine e leaf) (sym is) ∙ f.end)).0
 
 pub rule_fits : (leaf : TextLeaf) → FineText leaf → leaf.ended ≡ None → RuleFits leaf.sized.rule
 rule_fits leaf f is = by leaf.sized.rule (rule_is leaf f is)
@@ -326,7 +325,7 @@ size_fits leaf n f is p = by leaf.sized.rule (rule_is leaf f is)
     by (Ended p) h = cc
     by (Prefix low width) h =
         let q = prefix_is leaf.sized.sizes low width f.sizes h in
-        let o = both_are (are_ranges leaf.sized.sizes) (all_within (pos 0) (pos 65536) leaf.sized.sizes) (both_are (nat_lt 0 (length leaf.sized.sizes)) (are_ranges leaf.sized.sizes && all_within (pos 0) (pos 65536) leaf.sized.sizes) f.sizes).1 in
+        let o = and_parts (are_ranges leaf.sized.sizes) (all_within (pos 0) (pos 65536) leaf.sized.sizes) (and_parts (nat_lt 0 (length leaf.sized.sizes)) (are_ranges leaf.sized.sizes && all_within (pos 0) (pos 65536) leaf.sized.sizes) f.sizes).1 in
         let b = ranges_from leaf.sized.sizes o.0 in
         let low_end = from_least b.0 leaf.sized.sizes (pos n) (pos low) b.1 p q.least_is in
         let high_end = to_greatest b.0 leaf.sized.sizes (pos n) q.most b.1 p q.greatest_is in
@@ -337,6 +336,6 @@ size_fits leaf n f is p = by leaf.sized.rule (rule_is leaf f is)
 -- a permitted size is at most 65536
 pub size_few : (leaf : TextLeaf) (n : ℕ) → FineText leaf → In leaf.sized.sizes (pos n) → n ≤ 65536
 size_few leaf n f p =
-    let o = both_are (are_ranges leaf.sized.sizes) (all_within (pos 0) (pos 65536) leaf.sized.sizes) (both_are (nat_lt 0 (length leaf.sized.sizes)) (are_ranges leaf.sized.sizes && all_within (pos 0) (pos 65536) leaf.sized.sizes) f.sizes).1 in
+    let o = and_parts (are_ranges leaf.sized.sizes) (all_within (pos 0) (pos 65536) leaf.sized.sizes) (and_parts (nat_lt 0 (length leaf.sized.sizes)) (are_ranges leaf.sized.sizes && all_within (pos 0) (pos 65536) leaf.sized.sizes) f.sizes).1 in
     let h = (is_within (pos 65536) leaf.sized.sizes (pos n) o.1 p).1 in
     omega (arith, ints)

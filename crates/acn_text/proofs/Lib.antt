@@ -1,11 +1,11 @@
-pub mod Calls
-pub mod EndedReads
-pub mod Ends
-pub mod Fine
-pub mod Listing
-pub mod Marks
-pub mod Octets
-pub mod Places
-pub mod SizedReads
-pub mod Spelled
-pub mod Written
+mod Calls
+mod EndedReads
+mod Ends
+mod Fine
+mod Listing
+mod Marks
+mod Octets
+mod Places
+mod SizedReads
+mod Spelled
+mod Written

@@ -9,10 +9,10 @@ use Rattle.acn_grammar.specs.Leaves.{is_beyond}
 use Rattle.acn_num.proofs.Nth.{nth_in, at}
 use Rattle.acn_grammar.specs.Spell.{place_in, character_number}
 use Rattle.acn_grammar.specs.declared.node.TextLeaf.{TextLeaf}
-use Rattle.acn_grammar.proofs.Codings.{both_are, not_is}
 use Rattle.acn_grammar.proofs.Texts.{either, le_fact}
 use Rattle.acn_text.specs.Steps.{IsSmall, IsCharacter, NoCharacter}
 use Rattle.acn_text.proofs.Fine.{FineText, WidthIs, plain_octets, fewest_bits, alphabet_above, count_few, is_within, to_greatest, first_in, tests_above, width_is}
+use Rattle.std.proofs.lemmas.Bool.{and_parts, not-true}
 
 -- the place of the number that stands at a place
 pub place_of_nth : (b : ℤ) (rs : List (ℤ × ℤ)) (n : ℕ) (x : ℤ) → Above b rs → nth rs n ≡ Some x → place_in rs x ≡ n
@@ -61,7 +61,7 @@ nth_of_place b rs x h p =
 pub above_again : (b : ℤ) (rs : List (ℤ × ℤ)) → Above b rs → all_within (pos 0) (pos 127) rs ≡ true → Above (negsuc 0) rs
 above_again b [] h w = tt
 above_again b (r ∷ rs) h w =
-    let v = both_are (int_le (pos 0) r.0) (int_le r.1 (pos 127) && all_within (pos 0) (pos 127) rs) w in
+    let v = and_parts (int_le (pos 0) r.0) (int_le r.1 (pos 127) && all_within (pos 0) (pos 127) rs) w in
     let low = le_fact (pos 0) r.0 v.0 in
     (omega (arith, ints), h.1, h.2, h.3)
 
@@ -104,8 +104,8 @@ at_range rs x i below d inside l =
     let w : all_within (pos 0) (pos 127) (r ∷ rest) ≡ true = subst (λ (t : List (ℤ × ℤ)). all_within (pos 0) (pos 127) t ≡ true) e l.within in
     let p : has (r ∷ rest) x ≡ true = subst (λ (t : List (ℤ × ℤ)). has t x ≡ true) e l.inside in
     let whole : below + place_in (r ∷ rest) x ≡ place_in rs x = subst (λ (t : List (ℤ × ℤ)). below + place_in t x ≡ place_in rs x) e l.whole in
-    let v = both_are (int_le (pos 0) r.0) (int_le r.1 (pos 127) && all_within (pos 0) (pos 127) rest) w in
-    let u = both_are (int_le r.1 (pos 127)) (all_within (pos 0) (pos 127) rest) v.1 in
+    let v = and_parts (int_le (pos 0) r.0) (int_le r.1 (pos 127) && all_within (pos 0) (pos 127) rest) w in
+    let u = and_parts (int_le r.1 (pos 127)) (all_within (pos 0) (pos 127) rest) v.1 in
     let a = le_fact (pos 0) r.0 v.0 in
     let c = le_fact r.1 (pos 127) u.0 in
     let o = h.1 in
@@ -139,13 +139,13 @@ at_range rs x i below d inside l =
     low_of r rest b h p t =
         let g = le_fact x r.1 t in
         either {F = r.0 ≤ℤ x} (int_le r.0 x && int_le x r.1) (has rest x) p
-        (λ q. le_fact r.0 x (both_are (int_le r.0 x) (int_le x r.1) q).0)
+        (λ q. le_fact r.0 x (and_parts (int_le r.0 x) (int_le x r.1) q).0)
         (λ q. let n = no_more r rest h.3 q in absurd (omega (arith, ints)))
 
     behind_of : (r : ℤ × ℤ) (rest : List (ℤ × ℤ)) → has (r ∷ rest) x ≡ true → int_le x r.1 ≡ false → has rest x ≡ true
     behind_of r rest p t =
         either {F = has rest x ≡ true} (int_le r.0 x && int_le x r.1) (has rest x) p
-        (λ q. let z = (both_are (int_le r.0 x) (int_le x r.1) q).1 in cc)
+        (λ q. let z = (and_parts (int_le r.0 x) (int_le x r.1) q).1 in cc)
         (λ q. q)
 
 pub distance_few : (a b : ℤ) → IsSmall a → IsSmall b → distance a b ≤ 255
@@ -217,7 +217,7 @@ character_below leaf f c p = by leaf.indexed refl (width_is leaf f)
             by_rest (t ∷ rs) s e = by_rest rs t e
     below_greatest n (Some g) e b =
         let u = to_greatest (negsuc 0) leaf.alphabet (pos c) g (tests_above leaf.alphabet f.ordered f.small) p e in
-        let v = over g (2 ^ n) (not_is (int_le (pos (2 ^ n)) g) b) in
+        let v = over g (2 ^ n) (not-true (int_le (pos (2 ^ n)) g) b) in
         less c (2 ^ n) g u v
       where
         over : (g : ℤ) (m : ℕ) → int_le (pos m) g ≡ false → g <ℤ pos m
@@ -243,7 +243,7 @@ some_character leaf f = by leaf.alphabet f.some f.ordered f.small
     by : (rs : List (ℤ × ℤ)) → 0 < length rs → are_ranges rs ≡ true → all_within (pos 0) (pos 127) rs ≡ true → (c : ℕ) × (has rs (pos c) ≡ true)
     by [] l o w = absurd (omega (arith, l))
     by (r ∷ rs) l o w =
-        let g = both_are (int_le r.0 r.1) (are_ranges_above (r.1 +ℤ pos 1) rs) o in
-        let v = both_are (int_le (pos 0) r.0) (int_le r.1 (pos 127) && all_within (pos 0) (pos 127) rs) w in
+        let g = and_parts (int_le r.0 r.1) (are_ranges_above (r.1 +ℤ pos 1) rs) o in
+        let v = and_parts (int_le (pos 0) r.0) (int_le r.1 (pos 127) && all_within (pos 0) (pos 127) rs) w in
         let c = natural r.0 (le_fact (pos 0) r.0 v.0) in
         (c.0, ap (has (r ∷ rs)) (sym c.1) ∙ first_in r rs (le_fact r.0 r.1 g.0))

@@ -12,20 +12,14 @@ use Rattle.acn_grammar.specs.Tree.{IsTree, form_fine, choice_rule_fine, stand_ru
 use Rattle.acn_grammar.specs.Walk.{Stand, Role, a_component, an_inserted, an_alternative, an_element, a_content, root_node, nodes, form_nodes, field_nodes, alternative_nodes, nodes_of, conditions_of}
 use Rattle.acn_grammar.specs.declared.node.ChoiceRule.{ChoiceRule}
 use Rattle.acn_grammar.specs.declared.node.Sizing.{Sizing}
-use Rattle.acn_grammar.proofs.Codings.{both_are}
 use Rattle.acn_grammar.proofs.TreeRules.{stand_fine, list_all-append}
-
-at_most : (a b : ℕ) → nat_le a b ≡ true → a ≤ b
-at_most a b h = grind (arith, nat_tests)
-
-less : (a b : ℕ) → nat_lt a b ≡ true → a < b
-less a b h = grind (arith, nat_tests)
+use Rattle.std.proofs.lemmas.Bool.{leb-true, ltb-true, and_parts}
 
 sizes_of : (sizing : Sizing) → sizing_fine sizing ≡ true → sizes_fine sizing.sizes ≡ true
-sizes_of sizing h = (both_are (sizes_fine sizing.sizes) (rule_fine sizing.sizes sizing.rule) h).0
+sizes_of sizing h = (and_parts (sizes_fine sizing.sizes) (rule_fine sizing.sizes sizing.rule) h).0
 
 list_sizes : (sizing : Sizing) → list_fine sizing ≡ true → sizes_fine sizing.sizes ≡ true
-list_sizes sizing h = (both_are (sizes_fine sizing.sizes) (list_rule_fine (ending sizing.rule) sizing) h).0
+list_sizes sizing h = (and_parts (sizes_fine sizing.sizes) (list_rule_fine (ending sizing.rule) sizing) h).0
 
 same_count : (cases : Alternatives) → length (conditions_of cases) ≡ alternative_count cases
 same_count no_alternatives = refl
@@ -34,9 +28,9 @@ same_count (alternative name g tests more) = (let e = same_count more in omega a
 some_case : (cases : Alternatives) (rule : ChoiceRule) → form_fine (choice cases rule) ≡ true → 0 < alternative_count cases
 some_case cases rule h =
     let names = all_differ same_name (map (λ c. c.0) (conditions_of cases)) in
-    let a = both_are (nat_lt 0 (length (conditions_of cases))) (names && choice_rule_fine (conditions_of cases) rule) h in
+    let a = and_parts (nat_lt 0 (length (conditions_of cases))) (names && choice_rule_fine (conditions_of cases) rule) h in
     let e = same_count cases in
-    let p = less 0 (length (conditions_of cases)) a.0 in
+    let p = ltb-true 0 (length (conditions_of cases)) a.0 in
     omega arith
 
 some_node : (role : Role) (path around : List ℕ) (g : Grammar) → 0 < length (nodes role path around g)
@@ -55,7 +49,7 @@ module _ (all : List Stand) where
     can_node : (g : Grammar) (role : Role) (path around : List ℕ) → list_all passes (nodes role path around g) ≡ true → length (nodes role path around g) ≤ 65536 → CanDraw g
     can_node (node align form) role path around h n =
         let here : Stand = record { path = path; around = around; role = role; align = align; form = form } in
-        let p = both_are (passes here) (list_all passes (form_nodes path around form)) h in
+        let p = and_parts (passes here) (list_all passes (form_nodes path around form)) h in
         can_form form path around (stand_fine all here p.0).form p.1 (omega arith)
 
     can_form : (form : Form) (path around : List ℕ) → form_fine form ≡ true → list_all passes (form_nodes path around form) ≡ true → length (form_nodes path around form) ≤ 65536 → FormCanDraw form
@@ -91,6 +85,6 @@ module _ (all : List Stand) where
 pub tree_can_draw : (root : Grammar) → IsTree root → CanDraw root
 tree_can_draw root h =
     let all = nodes_of root in
-    let a = both_are (nat_le (length all) 65536) (same_numbers (slots_of all) (range_with_len 0 (length (slots_of all))) && list_all (λ at. all_true (stand_rules all at)) all) h in
-    let b = both_are (same_numbers (slots_of all) (range_with_len 0 (length (slots_of all)))) (list_all (λ at. all_true (stand_rules all at)) all) a.1 in
-    can_node all root root_node [] [] b.1 (at_most (length all) 65536 a.0)
+    let a = and_parts (nat_le (length all) 65536) (same_numbers (slots_of all) (range_with_len 0 (length (slots_of all))) && list_all (λ at. all_true (stand_rules all at)) all) h in
+    let b = and_parts (same_numbers (slots_of all) (range_with_len 0 (length (slots_of all)))) (list_all (λ at. all_true (stand_rules all at)) all) a.1 in
+    can_node all root root_node [] [] b.1 (leb-true (length all) 65536 a.0)

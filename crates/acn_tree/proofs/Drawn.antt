@@ -15,21 +15,14 @@ use Rattle.acn_grammar.specs.declared.node.NumKind.{NumKind}
 use Rattle.acn_grammar.specs.declared.node.NumKind.TheVariants.{Integer, Boolean, Enumerated, Null}
 use Rattle.acn_grammar.specs.declared.node.Table.{Table}
 use Rattle.acn_grammar.specs.declared.node.TextLeaf.{TextLeaf}
-use Rattle.acn_grammar.proofs.Codings.{both_are}
 use Rattle.acn_grammar.proofs.Texts.{either, le_fact, ranges_from}
+use Rattle.std.proofs.lemmas.Bool.{or_left, or_right, and_parts}
 
 here_in : (r : ℤ × ℤ) (n : ℕ) → r.0 ≤ℤ r.1 → n < size_of r → is_in (r.0 +ℤ pos n) r ≡ true
 here_in r n o h = rw (le_test r.0 (r.0 +ℤ pos n) (omega (arith, ints)), le_test (r.0 +ℤ pos n) r.1 (omega (arith, ints)))
   where
     le_test : (a b : ℤ) → a ≤ℤ b → int_le a b ≡ true
     le_test a b h = grind (arith, ints, nat_tests)
-
-or_left : (a b : Bool) → a ≡ true → (a || b) ≡ true
-or_left a b h = rw h
-
-or_right : (a b : Bool) → b ≡ true → (a || b) ≡ true
-or_right true b h = refl
-or_right false b h = h
 
 place_by : (r : ℤ × ℤ) (rs : List (ℤ × ℤ)) (n : ℕ) (t : Bool) → t ≡ nat_lt n (size_of r) → r.0 ≤ℤ r.1 → (size_of r ≤ n → has rs (at_place rs (n - size_of r)) ≡ true)
     → has (r ∷ rs) (unwrap_or (if t then Some (r.0 +ℤ pos n) else nth rs (n - size_of r)) (pos 0)) ≡ true
@@ -45,8 +38,8 @@ place_by r rs n false e o f = or_right (is_in (at_place rs (n - size_of r)) r) (
 place_above : (b : ℤ) (rs : List (ℤ × ℤ)) (n : ℕ) → are_ranges_above b rs ≡ true → n < count rs → has rs (at_place rs n) ≡ true
 place_above b [] n h k = absurd (omega arith)
 place_above b (r ∷ rs) n h k =
-    let f = both_are (int_lt b r.0) (int_le r.0 r.1 && are_ranges_above (r.1 +ℤ pos 1) rs) h in
-    let g = both_are (int_le r.0 r.1) (are_ranges_above (r.1 +ℤ pos 1) rs) f.1 in
+    let f = and_parts (int_lt b r.0) (int_le r.0 r.1 && are_ranges_above (r.1 +ℤ pos 1) rs) h in
+    let g = and_parts (int_le r.0 r.1) (are_ranges_above (r.1 +ℤ pos 1) rs) f.1 in
     place_by r rs n (nat_lt n (size_of r)) refl (le_fact r.0 r.1 g.0) (λ m. place_above (r.1 +ℤ pos 1) rs (n - size_of r) g.1 (omega arith))
 
 -- the number at a place below the count is in the set
@@ -57,10 +50,10 @@ place_in_set rs n h k = let b = ranges_from rs h in place_above b.0 rs n b.1 k
 pub lies_within : (rs : List (ℤ × ℤ)) (low high x : ℤ) → all_within low high rs ≡ true → has rs x ≡ true → (low ≤ℤ x) × (x ≤ℤ high)
 lies_within [] low high x h m = cc
 lies_within (r ∷ rs) low high x h m =
-    let a = both_are (int_le low r.0) (int_le r.1 high && all_within low high rs) h in
-    let b = both_are (int_le r.1 high) (all_within low high rs) a.1 in
+    let a = and_parts (int_le low r.0) (int_le r.1 high && all_within low high rs) h in
+    let b = and_parts (int_le r.1 high) (all_within low high rs) a.1 in
     either {F = (low ≤ℤ x) × (x ≤ℤ high)} (int_le r.0 x && int_le x r.1) (has rs x) m
-    (λ k. let c = both_are (int_le r.0 x) (int_le x r.1) k in
+    (λ k. let c = and_parts (int_le r.0 x) (int_le x r.1) k in
     let one = le_fact low r.0 a.0 in
     let two = le_fact r.0 x c.0 in
     let three = le_fact x r.1 c.1 in
@@ -86,8 +79,8 @@ pub record SizesFine (sizes : List (ℤ × ℤ)) : Type 0 where
 
 pub sizes_are : (sizes : List (ℤ × ℤ)) → sizes_fine sizes ≡ true → SizesFine sizes
 sizes_are sizes h =
-    let a = both_are (nat_lt 0 (length sizes)) (are_ranges sizes && all_within (pos 0) (pos 65536) sizes) h in
-    let b = both_are (are_ranges sizes) (all_within (pos 0) (pos 65536) sizes) a.1 in
+    let a = and_parts (nat_lt 0 (length sizes)) (are_ranges sizes && all_within (pos 0) (pos 65536) sizes) h in
+    let b = and_parts (are_ranges sizes) (all_within (pos 0) (pos 65536) sizes) a.1 in
     record { some = some_numbers sizes a.0; ranges = b.0; small = b.1 }
 
 abbrev pub size_number : List (ℤ × ℤ) → ℕ → ℤ
@@ -122,7 +115,7 @@ pub record OneRange (low high : ℤ) (set : List (ℤ × ℤ)) : Type 0 where
 pub one_range : (low high : ℤ) (set : List (ℤ × ℤ)) → low ≤ℤ high → is_range low high set ≡ true → OneRange low high set
 one_range low high [] o h = cc
 one_range low high (r ∷ []) o h =
-    let a = both_are (int_eq r.0 low) (int_eq r.1 high) h in
+    let a = and_parts (int_eq r.0 low) (int_eq r.1 high) h in
     let b = eq_fact r.0 low a.0 in
     let c = eq_fact r.1 high a.1 in
     record {
@@ -139,8 +132,8 @@ some_ends coding (r ∷ rs) h = omega arith
 pub item_range : (coding : NumCoding) (items : Items) (table : Option Table) (set : List (ℤ × ℤ)) → set_fine Enumerated coding items table set ≡ true
     → OneRange (pos 0) (pos (length items.items - 1)) set × (0 < length items.items)
 item_range coding items table set h =
-    let a = both_are (nat_lt 0 (length items.items)) (is_range (pos 0) (pos (length items.items - 1)) set && items_fine coding items) h in
-    let b = both_are (is_range (pos 0) (pos (length items.items - 1)) set) (items_fine coding items) a.1 in
+    let a = and_parts (nat_lt 0 (length items.items)) (is_range (pos 0) (pos (length items.items - 1)) set && items_fine coding items) h in
+    let b = and_parts (is_range (pos 0) (pos (length items.items - 1)) set) (items_fine coding items) a.1 in
     (one_range (pos 0) (pos (length items.items - 1)) set (omega (arith, ints)) b.0, less (length items.items) a.0)
   where
     less : (n : ℕ) → nat_lt 0 n ≡ true → 0 < n
@@ -150,11 +143,11 @@ item_range coding items table set h =
 pub leaf_set : (kind : NumKind) (coding : NumCoding) (items : Items) (table : Option Table) (set : List (ℤ × ℤ)) → set_fine kind coding items table set ≡ true
     → (0 < count set) × (are_ranges set ≡ true)
 leaf_set Integer coding items table set h =
-    let a = both_are (are_ranges set) (integer_set_fine coding (ends set) && no_items items) h in
-    let b = both_are (integer_set_fine coding (ends set)) (no_items items) a.1 in
+    let a = and_parts (are_ranges set) (integer_set_fine coding (ends set) && no_items items) h in
+    let b = and_parts (integer_set_fine coding (ends set)) (no_items items) a.1 in
     (some_ends coding set b.0, a.0)
-leaf_set Boolean coding items table set h = let o = one_range (pos 0) (pos 1) set (omega (arith, ints)) (both_are (is_range (pos 0) (pos 1) set) (no_items items) h).0 in (o.some, o.ranges)
-leaf_set Null coding items table set h = let o = one_range (pos 0) (pos 0) set (omega (arith, ints)) (both_are (is_range (pos 0) (pos 0) set) (no_items items) h).0 in (o.some, o.ranges)
+leaf_set Boolean coding items table set h = let o = one_range (pos 0) (pos 1) set (omega (arith, ints)) (and_parts (is_range (pos 0) (pos 1) set) (no_items items) h).0 in (o.some, o.ranges)
+leaf_set Null coding items table set h = let o = one_range (pos 0) (pos 0) set (omega (arith, ints)) (and_parts (is_range (pos 0) (pos 0) set) (no_items items) h).0 in (o.some, o.ranges)
 leaf_set Enumerated coding items table set h = let o = item_range coding items table set h in (o.0.some, o.0.ranges)
 
 -- the index of an item
@@ -178,10 +171,10 @@ pub record AlphabetFine (alphabet : List (ℤ × ℤ)) : Type 0 where
 
 pub alphabet_is : (leaf : TextLeaf) → text_fine leaf ≡ true → (sizes_fine leaf.sized.sizes ≡ true) × AlphabetFine leaf.alphabet
 alphabet_is leaf h =
-    let a = both_are (sizes_fine leaf.sized.sizes) (nat_lt 0 (length leaf.alphabet) && (are_ranges leaf.alphabet && (all_within (pos 0) (pos 127) leaf.alphabet && end_fine leaf.ended leaf))) h in
-    let b = both_are (nat_lt 0 (length leaf.alphabet)) (are_ranges leaf.alphabet && (all_within (pos 0) (pos 127) leaf.alphabet && end_fine leaf.ended leaf)) a.1 in
-    let c = both_are (are_ranges leaf.alphabet) (all_within (pos 0) (pos 127) leaf.alphabet && end_fine leaf.ended leaf) b.1 in
-    let d = both_are (all_within (pos 0) (pos 127) leaf.alphabet) (end_fine leaf.ended leaf) c.1 in
+    let a = and_parts (sizes_fine leaf.sized.sizes) (nat_lt 0 (length leaf.alphabet) && (are_ranges leaf.alphabet && (all_within (pos 0) (pos 127) leaf.alphabet && end_fine leaf.ended leaf))) h in
+    let b = and_parts (nat_lt 0 (length leaf.alphabet)) (are_ranges leaf.alphabet && (all_within (pos 0) (pos 127) leaf.alphabet && end_fine leaf.ended leaf)) a.1 in
+    let c = and_parts (are_ranges leaf.alphabet) (all_within (pos 0) (pos 127) leaf.alphabet && end_fine leaf.ended leaf) b.1 in
+    let d = and_parts (all_within (pos 0) (pos 127) leaf.alphabet) (end_fine leaf.ended leaf) c.1 in
     (a.0, record { some = some_numbers leaf.alphabet b.0; ranges = c.0; small = d.0 })
 
 pub character_small : (alphabet : List (ℤ × ℤ)) (s : ℕ) → AlphabetFine alphabet → (pos 0 ≤ℤ (number alphabet s).value) × ((number alphabet s).value ≤ℤ pos 127)

@@ -12,7 +12,7 @@ use Rattle.acn_grammar.specs.declared.node.Alternative.{Alternative}
 use Rattle.acn_grammar.specs.declared.node.Body.{the_lemmas as node_lemmas}
 use Rattle.acn_grammar.specs.declared.node.Field.{Field}
 use Rattle.acn_grammar.specs.declared.node.Presence.{Presence}
-use Rattle.acn_grammar.proofs.Codings.{both_are}
+use Rattle.std.proofs.lemmas.Bool.{and_parts}
 
 -- Elements.
 
@@ -92,15 +92,15 @@ pub can_component : (left rest : Fields) (name : List ℕ) (g : Grammar) (p : Pr
 can_component left rest name g p default own e h = (subst FieldsCanDraw e h).0
 
 pub named_component : (left rest : Fields) (name : List ℕ) (g : Grammar) (p : Presence) (default : Option (List ℕ)) (own : Option ℕ) → left ≡ with_field (a_component name g p default own) rest → FieldsItemsNamed left → ItemsNamed g
-named_component left rest name g p default own e h = (both_are (items_named g) (fields_items_named rest) (subst FieldsItemsNamed e h)).0
+named_component left rest name g p default own e h = (and_parts (items_named g) (fields_items_named rest) (subst FieldsItemsNamed e h)).0
 
 can_rest : (f : OneField) (rest : Fields) → FieldsCanDraw (with_field f rest) → FieldsCanDraw rest
 can_rest (a_component name g p default own) rest h = h.1
 can_rest (an_inserted name g slot) rest h = h
 
 named_rest : (f : OneField) (rest : Fields) → FieldsItemsNamed (with_field f rest) → FieldsItemsNamed rest
-named_rest (a_component name g p default own) rest h = (both_are (items_named g) (fields_items_named rest) h).1
-named_rest (an_inserted name g slot) rest h = (both_are (items_named g) (fields_items_named rest) h).1
+named_rest (a_component name g p default own) rest h = (and_parts (items_named g) (fields_items_named rest) h).1
+named_rest (an_inserted name g slot) rest h = (and_parts (items_named g) (fields_items_named rest) h).1
 
 pub can_turn : (f : OneField) (left rest : Fields) → left ≡ with_field f rest → FieldsCanDraw left → FieldsCanDraw rest
 can_turn f left rest e h = can_rest f rest (subst FieldsCanDraw e h)
@@ -129,5 +129,5 @@ can_at (x ∷ xs) (suc i) a h k = can_at xs i a (omega arith) k.1
 
 pub named_at : (as' : List Alternative) (i : ℕ) (a : Alternative) → i < length as' → AlternativesItemsNamed (alternatives_view as') → ItemsNamed (grammar_of (get_or as' i a).node)
 named_at [] i a h k = absurd (omega arith)
-named_at (x ∷ xs) zero a h k = subst ItemsNamed (view_alternative x) (both_are (items_named (alternative_of x).grammar) (alternatives_items_named (alternatives_view xs)) k).0
-named_at (x ∷ xs) (suc i) a h k = named_at xs i a (omega arith) (both_are (items_named (alternative_of x).grammar) (alternatives_items_named (alternatives_view xs)) k).1
+named_at (x ∷ xs) zero a h k = subst ItemsNamed (view_alternative x) (and_parts (items_named (alternative_of x).grammar) (alternatives_items_named (alternatives_view xs)) k).0
+named_at (x ∷ xs) (suc i) a h k = named_at xs i a (omega arith) (and_parts (items_named (alternative_of x).grammar) (alternatives_items_named (alternatives_view xs)) k).1

@@ -27,9 +27,9 @@ use Rattle.acn_grammar.specs.declared.node.Sizing.{Sizing}
 use Rattle.acn_grammar.specs.declared.node.Table.{Table}
 use Rattle.acn_grammar.specs.declared.node.TextLeaf.{TextLeaf}
 use Rattle.acn_tree.proofs.CanDrawLaw.{tree_can_draw}
-use Rattle.acn_grammar.proofs.Codings.{both_are}
 use Rattle.acn_tree.proofs.Drawn.{number_in, leaf_set, item_small, one_range, lies_within, sizes_are, size_in, size_small, size_number, alphabet_is, character_small}
 use Rattle.acn_grammar.proofs.FineLeaves.{rules_of}
+use Rattle.std.proofs.lemmas.Bool.{lt-ltb, and_parts}
 
 -- Parts.
 
@@ -53,14 +53,11 @@ elements_length each (suc n) s = ap suc (elements_length each n (each s).state)
 octets_small : (os : List ℕ) → list_all (λ o. nat_lt o 256) os ≡ true → are_octets os ≡ true
 octets_small [] h = refl
 octets_small (o ∷ os) h =
-    let b = both_are (nat_lt o 256) (list_all (λ x. nat_lt x 256) os) h in
+    let b = and_parts (nat_lt o 256) (list_all (λ x. nat_lt x 256) os) h in
     rw b.0 (octets_small os b.1)
 
-below_test : (a b : ℕ) → a < b → nat_lt a b ≡ true
-below_test a b h = grind (arith, nat_tests)
-
 small_character : (x : ℤ) → pos 0 ≤ℤ x → x ≤ℤ pos 127 → nat_lt (nat_abs x) 256 ≡ true
-small_character x h k = below_test (nat_abs x) 256 (omega (arith, ints))
+small_character x h k = lt-ltb (nat_abs x) 256 (omega (arith, ints))
 
 natural_is : (x : ℤ) → pos 0 ≤ℤ x → pos (nat_abs x) ≡ x
 natural_is x h = omega (arith, ints)
@@ -74,7 +71,7 @@ number_shaped Boolean coding items table set s h = refl
 number_shaped Null coding items table set s h = refl
 number_shaped Enumerated coding items table set s h =
     let k = item_small coding items table set s h in
-    below_test (nat_abs (number set s).value) (length items.items) (small (number set s).value (length items.items) k.0 k.1)
+    lt-ltb (nat_abs (number set s).value) (length items.items) (small (number set s).value (length items.items) k.0 k.1)
   where
     small : (x : ℤ) (n : ℕ) → pos 0 ≤ℤ x → x <ℤ pos n → nat_abs x < n
     small x n h k = omega (arith, ints)
@@ -90,11 +87,11 @@ number_back : (kind : NumKind) (coding : NumCoding) (items : Items) (table : Opt
     → number_of (number_data kind (number set s).value) ≡ (number set s).value
 number_back Integer coding items table set s h = refl
 number_back Boolean coding items table set s h =
-    let o = one_range (pos 0) (pos 1) set (omega (arith, ints)) (both_are (is_range (pos 0) (pos 1) set) (no_items items) h).0 in
+    let o = one_range (pos 0) (pos 1) set (omega (arith, ints)) (and_parts (is_range (pos 0) (pos 1) set) (no_items items) h).0 in
     let w = lies_within set (pos 0) (pos 1) (number set s).value o.within (number_in set s o.ranges o.some) in
     bit_number (number set s).value w.0 w.1
 number_back Null coding items table set s h =
-    let o = one_range (pos 0) (pos 0) set (omega (arith, ints)) (both_are (is_range (pos 0) (pos 0) set) (no_items items) h).0 in
+    let o = one_range (pos 0) (pos 0) set (omega (arith, ints)) (and_parts (is_range (pos 0) (pos 0) set) (no_items items) h).0 in
     let w = lies_within set (pos 0) (pos 0) (number set s).value o.within (number_in set s o.ranges o.some) in
     zero_is (number set s).value w.0 w.1
   where
@@ -123,7 +120,7 @@ mutual
   shaped_form (num leaf) s h = number_shaped leaf.kind leaf.coding leaf.items leaf.table leaf.set s (rules_of leaf h).set
   shaped_form (octets sizing) s h =
       let n = size sizing.sizes s in
-      octets_small (parts (pick 256) n.value n.state).value (parts_keep (λ o. nat_lt o 256) (pick 256) (λ t. below_test (pick 256 t).value 256 (mod-lt _ (omega arith))) n.value n.state)
+      octets_small (parts (pick 256) n.value n.state).value (parts_keep (λ o. nat_lt o 256) (pick 256) (λ t. lt-ltb (pick 256 t).value 256 (mod-lt _ (omega arith))) n.value n.state)
   shaped_form (bits sizing) s h = refl
   shaped_form (text leaf) s h =
       let n = size leaf.sized.sizes s in
@@ -159,7 +156,7 @@ both_end us vs h k = list_all-append (λ (u : Unfit). is_end_inside u.why) us vs
 whys_end : (path : List ℕ) (whys : List Why) → list_all is_end_inside whys ≡ true → Ends (at_path path whys)
 whys_end path [] h = refl
 whys_end path (why ∷ whys) h =
-    let b = both_are (is_end_inside why) (list_all is_end_inside whys) h in
+    let b = and_parts (is_end_inside why) (list_all is_end_inside whys) h in
     rw b.0 (whys_end path whys b.1)
 
 no_breach : (b : Bool) (why : Why) → b ≡ true → list_all is_end_inside (unless b why) ≡ true
@@ -186,7 +183,7 @@ none_out p cs h = by_place (position_or_len p cs) (length cs) (past p cs h)
     past : (p : ℕ → Bool) (cs : List ℕ) → list_all (λ c. not (p c)) cs ≡ true → length cs ≤ position_or_len p cs
     past p [] h = omega arith
     past p (c ∷ cs) h =
-        let b = both_are (not (p c)) (list_all (λ x. not (p x)) cs) h in
+        let b = and_parts (not (p c)) (list_all (λ x. not (p x)) cs) h in
         let more = past p cs b.1 in
         rw b.0 (omega arith)
 

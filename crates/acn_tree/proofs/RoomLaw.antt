@@ -13,12 +13,9 @@ use Rattle.acn_tree.specs.Room.{InTree, HasRoom, FormHasRoom, FieldsHaveRoom, Al
 use Rattle.acn_grammar.specs.Tree.{IsTree, form_fine, stand_rules, all_true, same_numbers, slots_of}
 use Rattle.acn_grammar.specs.Walk.{Stand, Role, a_component, an_inserted, an_alternative, an_element, a_content, root_node, nodes, form_nodes, field_nodes, alternative_nodes, nodes_of}
 use Rattle.acn_grammar.specs.declared.node.Sizing.{Sizing}
-use Rattle.acn_grammar.proofs.Codings.{both_are}
 use Rattle.acn_grammar.proofs.TreeRules.{stand_fine, list_all-append}
 use Rattle.acn_grammar.proofs.Within.{between}
-
-at_most : (a b : ℕ) → nat_le a b ≡ true → a ≤ b
-at_most a b h = grind (arith, nat_tests)
+use Rattle.std.proofs.lemmas.Bool.{leb-true, and_parts}
 
 or_cases : {F : Type 0} (a b : Bool) → (a || b) ≡ true → (a ≡ true → F) → (b ≡ true → F) → F
 or_cases true b h f g = f refl
@@ -27,8 +24,8 @@ or_cases false b h f g = g h
 within_end : (rs : List (ℤ × ℤ)) (low high x : ℤ) → all_within low high rs ≡ true → has rs x ≡ true → x ≤ℤ high
 within_end [] low high x h m = cc
 within_end (r ∷ rs) low high x h m =
-    let a = both_are (int_le low r.0) (int_le r.1 high && all_within low high rs) h in
-    let b = both_are (int_le r.1 high) (all_within low high rs) a.1 in
+    let a = and_parts (int_le low r.0) (int_le r.1 high && all_within low high rs) h in
+    let b = and_parts (int_le r.1 high) (all_within low high rs) a.1 in
     or_cases {F = x ≤ℤ high} (int_le r.0 x && int_le x r.1) (has rs x) m
     (λ k. under x r.1 high (between r.0 r.1 x k).1 b.0)
     (λ k. within_end rs low high x b.1 k)
@@ -38,9 +35,9 @@ within_end (r ∷ rs) low high x h m =
 
 small_sizes : (sizing : Sizing) → list_fine sizing ≡ true → SizesAreSmall sizing
 small_sizes sizing h n m =
-    let a = both_are (sizes_fine sizing.sizes) (list_rule_fine (ending sizing.rule) sizing) h in
-    let b = both_are (nat_lt 0 (length sizing.sizes)) (are_ranges sizing.sizes && all_within (pos 0) (pos 65536) sizing.sizes) a.0 in
-    let c = both_are (are_ranges sizing.sizes) (all_within (pos 0) (pos 65536) sizing.sizes) b.1 in
+    let a = and_parts (sizes_fine sizing.sizes) (list_rule_fine (ending sizing.rule) sizing) h in
+    let b = and_parts (nat_lt 0 (length sizing.sizes)) (are_ranges sizing.sizes && all_within (pos 0) (pos 65536) sizing.sizes) a.0 in
+    let c = and_parts (are_ranges sizing.sizes) (all_within (pos 0) (pos 65536) sizing.sizes) b.1 in
     let e = within_end sizing.sizes (pos 0) (pos 65536) (pos n) c.1 m in
     omega (arith, ints)
 
@@ -68,9 +65,9 @@ module _ (all : List Stand) where
     room_node : (g : Grammar) (role : Role) (path around : List ℕ) (m : ℕ) → m ≡ length path → list_all passes (nodes role path around g) ≡ true → length (nodes role path around g) ≤ 65536 → HasRoom m g
     room_node (node align form) role path around m e h n =
         let here : Stand = record { path = path; around = around; role = role; align = align; form = form } in
-        let p = both_are (passes here) (list_all passes (form_nodes path around form)) h in
+        let p = and_parts (passes here) (list_all passes (form_nodes path around form)) h in
         let s = stand_fine all here p.0 in
-        let d = at_most (length path) 64 s.depth in
+        let d = leb-true (length path) 64 s.depth in
         (omega arith, room_form form path around m e s.form p.1 (omega arith))
 
     room_form : (form : Form) (path around : List ℕ) (m : ℕ) → m ≡ length path → form_fine form ≡ true → list_all passes (form_nodes path around form) ≡ true → length (form_nodes path around form) ≤ 65536 → FormHasRoom m form
@@ -106,9 +103,9 @@ module _ (all : List Stand) where
 room_root : (root : Grammar) → IsTree root → HasRoom 0 root
 room_root root h =
     let all = nodes_of root in
-    let a = both_are (nat_le (length all) 65536) (same_numbers (slots_of all) (range_with_len 0 (length (slots_of all))) && list_all (λ at. all_true (stand_rules all at)) all) h in
-    let b = both_are (same_numbers (slots_of all) (range_with_len 0 (length (slots_of all)))) (list_all (λ at. all_true (stand_rules all at)) all) a.1 in
-    room_node all root root_node [] [] 0 refl b.1 (at_most (length all) 65536 a.0)
+    let a = and_parts (nat_le (length all) 65536) (same_numbers (slots_of all) (range_with_len 0 (length (slots_of all))) && list_all (λ at. all_true (stand_rules all at)) all) h in
+    let b = and_parts (same_numbers (slots_of all) (range_with_len 0 (length (slots_of all)))) (list_all (λ at. all_true (stand_rules all at)) all) a.1 in
+    room_node all root root_node [] [] 0 refl b.1 (leb-true (length all) 65536 a.0)
 
 -- with fewer steps before it there is room too
 mutual

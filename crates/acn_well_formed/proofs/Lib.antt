@@ -1,8 +1,10 @@
+-- for acn_check
 pub mod AlternativeRows
 mod Blocks
-pub mod KeptRuns
+mod KeptRuns
+-- for acn_check
 pub mod Listed
-pub mod RangeSteps
-pub mod SeenRuns
-pub mod TallyRuns
-pub mod WellFormed
+mod RangeSteps
+mod SeenRuns
+mod TallyRuns
+mod WellFormed

@@ -5,14 +5,14 @@ use Rattle.std.specs.List.{range_with_len}
 use Rattle.std.proofs.lemmas.Bool.Decides.{nat_tests}
 use Rattle.acn_well_formed.specs.Kept.{all_below, rises_from}
 use Rattle.acn_grammar.specs.Tree.{holds, same_numbers}
-use Rattle.acn_grammar.proofs.Codings.{both_are}
+use Rattle.std.proofs.lemmas.Bool.{and_parts}
 
 pub same_is : (xs ys : List ℕ) → same_numbers xs ys ≡ true → xs ≡ ys
 same_is [] [] h = refl
 same_is [] (y ∷ ys) h = cc
 same_is (x ∷ xs) [] h = cc
 same_is (x ∷ xs) (y ∷ ys) h =
-    let p = both_are (nat_eq x y) (same_numbers xs ys) h in
+    let p = and_parts (nat_eq x y) (same_numbers xs ys) h in
     let e : x ≡ y = grind (arith, nat_tests) in
     let f = same_is xs ys p.1 in
     rw (e, f) refl
@@ -24,14 +24,14 @@ same_refl (x ∷ xs) = (let e : nat_eq x x ≡ true = grind (arith, nat_tests) i
 later : (a b : ℕ) (xs : List ℕ) → a ≤ b → rises_from b xs ≡ true → rises_from a xs ≡ true
 later a b [] le h = refl
 later a b (x ∷ xs) le h =
-    let p = both_are (nat_le b x) (rises_from (x + 1) xs) h in
+    let p = and_parts (nat_le b x) (rises_from (x + 1) xs) h in
     let e : nat_le a x ≡ true = grind (arith, nat_tests) in
     rw e p.1
 
 above_not : (xs : List ℕ) (a : ℕ) → rises_from (a + 1) xs ≡ true → holds xs a ≡ false
 above_not [] a h = refl
 above_not (x ∷ xs) a h =
-    let q = both_are (nat_le (a + 1) x) (rises_from (x + 1) xs) h in
+    let q = and_parts (nat_le (a + 1) x) (rises_from (x + 1) xs) h in
     let e : nat_eq x a ≡ false = not_same x a q.0 in
     let g : a + 1 ≤ x + 1 = at_most x a q.0 in
     rw e (above_not xs a (later (a + 1) (x + 1) xs g q.1))
@@ -45,7 +45,7 @@ above_not (x ∷ xs) a h =
 rise_on : (a : ℕ) (xs : List ℕ) → rises_from a xs ≡ true → holds xs a ≡ false → rises_from (a + 1) xs ≡ true
 rise_on a [] h g = refl
 rise_on a (x ∷ xs) h g =
-    let q = both_are (nat_le a x) (rises_from (x + 1) xs) h in
+    let q = and_parts (nat_le a x) (rises_from (x + 1) xs) h in
     let e : nat_le (a + 1) x ≡ true = next_up a x (holds xs a) q.0 g in
     rw e q.1
   where
@@ -138,8 +138,8 @@ module _ (p : ℕ → Bool) where
           → xs ≡ a ∷ filter p (range_with_len (a + 1) k)
       there a k [] h b t same ih = cc
       there a k (x ∷ ys) h b t same ih =
-          let q = both_are (nat_le a x) (rises_from (x + 1) ys) h in
-          let r = both_are (nat_lt x (a + suc k)) (all_below (a + suc k) ys) b in
+          let q = and_parts (nat_le a x) (rises_from (x + 1) ys) h in
+          let r = and_parts (nat_lt x (a + suc k)) (all_below (a + suc k) ys) b in
           let m : a + suc k ≡ (a + 1) + k = omega arith in
           let e : x ≡ a = is_first a x ys q.0 q.1 t in
           let f = ih ys (rw e at q.1) (rw m at r.1) (λ s low high. behind_first a x s ys e low ∙ same s (omega arith) (omega arith)) in
@@ -149,8 +149,8 @@ module _ (p : ℕ → Bool) where
   pub listed : (a k : ℕ) (xs : List ℕ) → rises_from a xs ≡ true → all_below (a + k) xs ≡ true → ((s : ℕ) → a ≤ s → s < a + k → holds xs s ≡ p s) → xs ≡ filter p (range_with_len a k)
   listed a zero [] h b same = refl
   listed a zero (x ∷ xs) h b same =
-      let q = both_are (nat_le a x) (rises_from (x + 1) xs) h in
-      let r = both_are (nat_lt x (a + 0)) (all_below (a + 0) xs) b in
+      let q = and_parts (nat_le a x) (rises_from (x + 1) xs) h in
+      let r = and_parts (nat_lt x (a + 0)) (all_below (a + 0) xs) b in
       absurd (no_room a x q.0 r.0)
     where
       no_room : (a x : ℕ) → nat_le a x ≡ true → nat_lt x (a + 0) ≡ true → ⊥

@@ -8,7 +8,7 @@ use Rattle.acn_well_formed.specs.Tallies.{spent, numbered, then_tally, tally, fo
 use Rattle.acn_grammar.specs.Tree.{same_numbers, slots_of}
 use Rattle.acn_grammar.specs.Walk.{Stand, Role, a_component, an_inserted, an_alternative, an_element, a_content, nodes, form_nodes, field_nodes, alternative_nodes, slot_here}
 use Rattle.acn_well_formed.specs.declared.tallies.Tally.{Tally}
-use Rattle.acn_grammar.proofs.Codings.{both_are}
+use Rattle.std.proofs.lemmas.Bool.{and_parts}
 
 abbrev pub deep : Stand → Bool
 deep at = nat_le (length at.path) 64
@@ -176,7 +176,7 @@ some_left t h = (let e : nat_lt 0 t.left ≡ true = grind (arith, nat_tests) in 
 begin : (o : Option ℕ) (d : Bool) (ss : List ℕ) (n : ℕ) (t : Tally) → suc n ≤ t.left → same_numbers (cons_option o ss) (range_with_len t.next (length (cons_option o ss))) ≡ true → d ≡ true → Begun o d ss n t
 begin None d ss n t a b c = record { slotted = t; behind = fewer t; is_slotted = refl; is_behind = rw c (some_left t (omega arith)); fits = omega arith; slots = b }
 begin (Some s) d ss n t a b c =
-    let p = both_are (nat_eq s t.next) (same_numbers ss (range_with_len (t.next + 1) (length ss))) b in
+    let p = and_parts (nat_eq s t.next) (same_numbers ss (range_with_len (t.next + 1) (length ss))) b in
     let e : suc t.next ≡ t.next + 1 = omega arith in
     record { slotted = one_on t; behind = fewer (one_on t); is_slotted = rw p.0 refl; is_behind = rw c (some_left (one_on t) (omega arith)); fits = omega arith; slots = rw e p.1 }
 
@@ -187,7 +187,7 @@ pub record Ended (xs : List Stand) (t : Tally) : Type 0 where
 pub runs_some : (xs : List Stand) (t : Tally) → length xs ≤ t.left → same_numbers (slots_of xs) (range_with_len t.next (length (slots_of xs))) ≡ true → list_all deep xs ≡ true → Ended xs t
 runs_some [] t a b c = record { end' = t; is_end = refl }
 runs_some (x ∷ xs) t a b c =
-    let p = both_are (deep x) (list_all deep xs) c in
+    let p = and_parts (deep x) (list_all deep xs) c in
     let q = begin (slot_here x.role) (deep x) (slots_of xs) (length xs) t a b p.0 in
     let r = runs_some xs q.behind q.fits q.slots p.1 in
     record { end' = r.end'; is_end = rw (q.is_slotted, q.is_behind) r.is_end }

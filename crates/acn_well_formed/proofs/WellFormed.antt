@@ -12,7 +12,6 @@ use Rattle.acn_grammar.specs.Tree.{is_tree, is_align, form_fine, role_fine, own_
 use Rattle.acn_grammar.specs.Walk.{Stand, Role, root_node, a_component, an_inserted, an_alternative, an_element, a_content, nodes, form_nodes, field_nodes, alternative_nodes, nodes_of, inside, uses, slot_of, slot_here, own_tests, form_uses, Use, condition}
 use Rattle.acn_grammar.specs.declared.node.Test.{Test}
 use Rattle.acn_grammar.specs.declared.node.Test.TheVariants.{Flag, Equals}
-use Rattle.acn_grammar.proofs.Codings.{both_are}
 use Rattle.acn_well_formed.proofs.TallyRuns.{run, runs_node, runs_some, ran, Ended, deep}
 use Rattle.std.proofs.lemmas.List.Sums.{count_by-le-length}
 use Rattle.acn_well_formed.specs.Tallies.{tally}
@@ -21,6 +20,7 @@ use Rattle.acn_well_formed.proofs.KeptRuns.{home_low, kept_of, kept_node}
 use Rattle.acn_grammar.proofs.TreeRules.{StandFine, stand_fine, list_all-append}
 use Rattle.acn_well_formed.proofs.Listed.{same_is, same_refl, chosen_holds, chosen_rise, chosen_below, listed}
 use Rattle.acn_well_formed.proofs.SeenRuns.{sees_grammar, slot_right, role_right, own_slot, home_right, has_all, enough, uses_named}
+use Rattle.std.proofs.lemmas.Bool.{eqb-true, ltb-true, lt-ltb, or_right, and_parts}
 
 pub not_true : (b : Bool) → (b ≡ true → ⊥) → false ≡ b
 not_true true h = absurd (h refl)
@@ -77,18 +77,15 @@ same_truth_refl false false h = refl
 
 -- Uses and the homes round them.
 
-equal_is : (s t : ℕ) → nat_eq s t ≡ true → s ≡ t
-equal_is s t h = grind (arith, nat_tests)
-
 open_step : (b : Bool) (around ss : List ℕ) (s t : ℕ) → nat_eq s t ≡ b → holds around t ≡ true → (b || list_any (nat_eq s) ss) ≡ true → (list_any (nat_eq s) ss ≡ true → holds around s ≡ true) → holds around s ≡ true
-open_step true around ss s t e h g ih = rw (equal_is s t e) h
+open_step true around ss s t e h g ih = rw (eqb-true s t e) h
 open_step false around ss s t e h g ih = ih g
 
 -- where all of these are at home around, one of them is
 pub open_here : (around ss : List ℕ) (s : ℕ) → list_all (holds around) ss ≡ true → list_any (nat_eq s) ss ≡ true → holds around s ≡ true
 open_here around [] s h g = cc
 open_here around (t ∷ ss) s h g =
-    let p = both_are (holds around t) (list_all (holds around) ss) h in
+    let p = and_parts (holds around t) (list_all (holds around) ss) h in
     open_step (nat_eq s t) around ss s t refl p.0 g (λ k. open_here around ss s p.1 k)
 
 implies_true : (a b : Bool) → (a ≡ true → b ≡ true) → implies a b ≡ true
@@ -100,13 +97,13 @@ implies_gives true b h k = h
 implies_gives false b h k = cc
 
 member_step : (b : Bool) (ns home : List ℕ) (s t : ℕ) → nat_eq t s ≡ b → holds ns t ≡ true → (b || holds home s) ≡ true → (holds home s ≡ true → holds ns s ≡ true) → holds ns s ≡ true
-member_step true ns home s t e h g ih = rw (← equal_is t s e) h
+member_step true ns home s t e h g ih = rw (← eqb-true t s e) h
 member_step false ns home s t e h g ih = ih g
 
 pub near_member : (ns home : List ℕ) (s : ℕ) → list_all (holds ns) home ≡ true → holds home s ≡ true → holds ns s ≡ true
 near_member ns [] s h g = cc
 near_member ns (t ∷ home) s h g =
-    let p = both_are (holds ns t) (list_all (holds ns) home) h in
+    let p = and_parts (holds ns t) (list_all (holds ns) home) h in
     member_step (nat_eq t s) ns home s t refl p.0 g (λ k. near_member ns home s p.1 k)
 
 -- From the definition to the test of a slot.
@@ -115,7 +112,7 @@ module _ (all : List Stand) (n : ℕ) (numbered : slots_of all ≡ range_with_le
   home_part : (s : ℕ) → count_by (is_about s) all ≤ 65536 → s < n → (at : Stand) (form : Form) → is_seq at.form ≡ is_seq form → home_fine all at form ≡ true
       → home_right s (min (count_by (is_about s) all) (2 ^ 32 - 1)) form (inside at) ≡ true
   home_part s few l at (seq fs home) e h =
-      let p = both_are (same_numbers home (filter (λ t. is_home all t at) (slots_of all))) (list_all (holds (near fs)) home) h in
+      let p = and_parts (same_numbers home (filter (λ t. is_home all t at) (slots_of all))) (list_all (holds (near fs)) home) h in
       let q : home ≡ filter (λ (t : ℕ). is_home all t at) (range_with_len 0 n) = same_is home (filter (λ (t : ℕ). is_home all t at) (slots_of all)) p.0 ∙ ap (λ (ss : List ℕ). filter (λ (t : ℕ). is_home all t at) ss) numbered in
       let r : holds home s ≡ is_home all s at = ap (λ (ss : List ℕ). holds ss s) q ∙ chosen_holds (λ (t : ℕ). is_home all t at) 0 n s (omega arith) (omega arith) in
       home_right_is all s few at fs home e
@@ -136,7 +133,7 @@ module _ (all : List Stand) (n : ℕ) (numbered : slots_of all ≡ range_with_le
       two c k = grind (arith, nat_tests)
 
       own_case : (b : Bool) → nat_eq t s ≡ b → implies b (nat_lt 1 (min (count_by (is_about s) all) (2 ^ 32 - 1))) ≡ true
-      own_case true e = two (count_by (is_about s) all) (subst (λ (r : ℕ). nat_lt 1 (count_by (is_about r) all) ≡ true) (equal_is t s e) h)
+      own_case true e = two (count_by (is_about s) all) (subst (λ (r : ℕ). nat_lt 1 (count_by (is_about r) all) ≡ true) (eqb-true t s e) h)
       own_case false e = refl
   own_part s root_node h = refl
   own_part s (an_inserted name slot) h = refl
@@ -153,12 +150,6 @@ module _ (all : List Stand) (n : ℕ) (numbered : slots_of all ≡ range_with_le
 
 -- Numbers below another.
 
-less_is : (a n : ℕ) → nat_lt a n ≡ true → a < n
-less_is a n h = grind (arith, nat_tests)
-
-less_test : (a n : ℕ) → a < n → nat_lt a n ≡ true
-less_test a n h = grind (arith, nat_tests)
-
 equal_test : (a : ℕ) → nat_eq a a ≡ true
 equal_test a = grind (arith, nat_tests)
 
@@ -168,40 +159,36 @@ head_holds t home = rw (equal_test t) refl
 head_any : (t : ℕ) (ss : List ℕ) → list_any (nat_eq t) (t ∷ ss) ≡ true
 head_any t ss = rw (equal_test t) refl
 
-tail_holds : (a b : Bool) → b ≡ true → (a || b) ≡ true
-tail_holds true b h = refl
-tail_holds false b h = h
-
 test_is : (t : Test) → slot_of (condition t) ≡ test_slot t
 test_is (Flag s) = refl
 test_is (Equals s k) = refl
 
 below_forms : (n : ℕ) (us : List Use) → list_all (λ u. nat_lt (slot_of u) n) us ≡ true → list_all (λ t. nat_lt t n) (map slot_of us) ≡ true
 below_forms n [] h = refl
-below_forms n (u ∷ us) h = (let p = both_are (nat_lt (slot_of u) n) (list_all (λ v. nat_lt (slot_of v) n) us) h in rw p.0 (below_forms n us p.1))
+below_forms n (u ∷ us) h = (let p = and_parts (nat_lt (slot_of u) n) (list_all (λ v. nat_lt (slot_of v) n) us) h in rw p.0 (below_forms n us p.1))
 
 below_mapped : (n : ℕ) (ts : List Test) (us : List Use) → tests_below n ts ≡ true → list_all (λ u. nat_lt (slot_of u) n) us ≡ true → list_all (λ t. nat_lt t n) (map slot_of (map condition ts ++ us)) ≡ true
 below_mapped n [] us a b = below_forms n us b
-below_mapped n (t ∷ ts) us a b = (let p = both_are (nat_lt (test_slot t) n) (tests_below n ts) a in rw (test_is t, p.0) (below_mapped n ts us p.1 b))
+below_mapped n (t ∷ ts) us a b = (let p = and_parts (nat_lt (test_slot t) n) (tests_below n ts) a in rw (test_is t, p.0) (below_mapped n ts us p.1 b))
 
 -- the same back, where each is at home around and these are below n
 below_held : (n : ℕ) (around : List ℕ) (s : ℕ) → all_below n around ≡ true → holds around s ≡ true → nat_lt s n ≡ true
 below_held n [] s h g = cc
-below_held n (t ∷ around) s h g = (let p = both_are (nat_lt t n) (all_below n around) h in held_step (nat_eq t s) n around s t refl p.0 g (λ k. below_held n around s p.1 k))
+below_held n (t ∷ around) s h g = (let p = and_parts (nat_lt t n) (all_below n around) h in held_step (nat_eq t s) n around s t refl p.0 g (λ k. below_held n around s p.1 k))
   where
     held_step : (b : Bool) (n : ℕ) (around : List ℕ) (s t : ℕ) → nat_eq t s ≡ b → nat_lt t n ≡ true → (b || holds around s) ≡ true → (holds around s ≡ true → nat_lt s n ≡ true) → nat_lt s n ≡ true
-    held_step true n around s t e h g ih = rw (← equal_is t s e) h
+    held_step true n around s t e h g ih = rw (← eqb-true t s e) h
     held_step false n around s t e h g ih = ih g
 
 uses_back : (n : ℕ) (around : List ℕ) (us : List Use) → all_below n around ≡ true → list_all (holds around) (map slot_of us) ≡ true → list_all (λ u. nat_lt (slot_of u) n) us ≡ true
 uses_back n around [] b h = refl
-uses_back n around (u ∷ us) b h = (let p = both_are (holds around (slot_of u)) (list_all (holds around) (map slot_of us)) h in rw (below_held n around (slot_of u) b p.0) (uses_back n around us b p.1))
+uses_back n around (u ∷ us) b h = (let p = and_parts (holds around (slot_of u)) (list_all (holds around) (map slot_of us)) h in rw (below_held n around (slot_of u) b p.0) (uses_back n around us b p.1))
 
 all_back : (n : ℕ) (around : List ℕ) (ts : List Test) (us : List Use) → all_below n around ≡ true → list_all (holds around) (map slot_of (map condition ts ++ us)) ≡ true
     → (tests_below n ts ≡ true) × (list_all (λ u. nat_lt (slot_of u) n) us ≡ true)
 all_back n around [] us b h = (refl, uses_back n around us b h)
 all_back n around (t ∷ ts) us b h =
-    let p = both_are (holds around (slot_of (condition t))) (list_all (holds around) (map slot_of (map condition ts ++ us))) h in
+    let p = and_parts (holds around (slot_of (condition t))) (list_all (holds around) (map slot_of (map condition ts ++ us))) h in
     let q = all_back n around ts us b p.1 in
     let r : nat_lt (test_slot t) n ≡ true = below_held n around (test_slot t) b (rw (test_is t) at p.0) in
     (rw r q.0, q.1)
@@ -215,18 +202,18 @@ module _ (all : List Stand) (n : ℕ) (numbered : slots_of all ≡ range_with_le
   truth_of : (s : ℕ) (at : Stand) (fs : Fields) (home : List ℕ) → is_seq at.form ≡ true → home_right s (min (count_by (is_about s) all) (2 ^ 32 - 1)) (seq fs home) (inside at) ≡ true
       → (holds home s ≡ is_home all s at) × (holds home s ≡ true → holds (near fs) s ≡ true)
   truth_of s at fs home e h =
-      let p = both_are (same_truth (holds home s) (is_home all s at)) (implies (holds home s) (holds (near fs) s)) (sym (home_right_is all s (few s) at fs home e) ∙ h) in
+      let p = and_parts (same_truth (holds home s) (is_home all s at)) (implies (holds home s) (holds (near fs) s)) (sym (home_right_is all s (few s) at fs home e) ∙ h) in
       (same_truth_is (holds home s) (is_home all s at) p.0, λ k. implies_gives (holds home s) (holds (near fs) s) p.1 k)
 
   near_all : (ns home : List ℕ) → all_below n home ≡ true → ((s : ℕ) → s < n → holds home s ≡ true → holds ns s ≡ true) → list_all (holds ns) home ≡ true
   near_all ns [] b f = refl
   near_all ns (t ∷ home) b f =
-      let p = both_are (nat_lt t n) (all_below n home) b in
-      rw (f t (less_is t n p.0) (head_holds t home), near_all ns home p.1 (λ s l k. f s l (tail_holds (nat_eq t s) (holds home s) k))) refl
+      let p = and_parts (nat_lt t n) (all_below n home) b in
+      rw (f t (ltb-true t n p.0) (head_holds t home), near_all ns home p.1 (λ s l k. f s l (or_right (nat_eq t s) (holds home s) k))) refl
 
   pub home_from : (at : Stand) (form : Form) → is_seq at.form ≡ is_seq form → home_low n form ≡ true → ((s : ℕ) → s < n → home_right s (min (count_by (is_about s) all) (2 ^ 32 - 1)) form (inside at) ≡ true) → home_fine all at form ≡ true
   home_from at (seq fs home) e low f =
-      let p = both_are (rises_from 0 home) (all_below n home) low in
+      let p = and_parts (rises_from 0 home) (all_below n home) low in
       let test : ℕ → Bool = λ t. is_home all t at in
       let q : home ≡ filter test (range_with_len 0 n) = listed test 0 n home p.0 (let z : 0 + n ≡ n = omega arith in rw z p.1) (λ s a b. (let l : s < n = omega arith in (truth_of s at fs home e (f s l)).0)) in
       let r : filter test (slots_of all) ≡ home = ap (λ (ss : List ℕ). filter test ss) numbered ∙ sym q in
@@ -242,16 +229,16 @@ module _ (all : List Stand) (n : ℕ) (numbered : slots_of all ≡ range_with_le
   all_open : (around ss : List ℕ) → list_all (λ t. nat_lt t n) ss ≡ true → ((s : ℕ) → s < n → list_any (nat_eq s) ss ≡ true → holds around s ≡ true) → list_all (holds around) ss ≡ true
   all_open around [] b f = refl
   all_open around (t ∷ ss) b f =
-      let p = both_are (nat_lt t n) (list_all (λ u. nat_lt u n) ss) b in
-      rw (f t (less_is t n p.0) (head_any t ss), all_open around ss p.1 (λ s l k. f s l (tail_holds (nat_eq s t) (list_any (nat_eq s) ss) k))) refl
+      let p = and_parts (nat_lt t n) (list_all (λ u. nat_lt u n) ss) b in
+      rw (f t (ltb-true t n p.0) (head_any t ss), all_open around ss p.1 (λ s l k. f s l (or_right (nat_eq s t) (list_any (nat_eq s) ss) k))) refl
 
   -- the parts of what is right at a node
   pub right_parts : (s : ℕ) (at : Stand) → slot_right s (min (count_by (is_about s) all) (2 ^ 32 - 1)) at ≡ true
       → (implies (tests_name s (own_tests at.role) || form_names s at.form) (holds at.around s) ≡ true) × (role_right s (min (count_by (is_about s) all) (2 ^ 32 - 1)) at.role ≡ true) × (home_right s (min (count_by (is_about s) all) (2 ^ 32 - 1)) at.form (inside at) ≡ true)
   right_parts s at h =
       let total = min (count_by (is_about s) all) (2 ^ 32 - 1) in
-      let p = both_are (implies (tests_name s (own_tests at.role) || form_names s at.form) (holds at.around s) && role_right s total at.role) (home_right s total at.form (inside at)) h in
-      let q = both_are (implies (tests_name s (own_tests at.role) || form_names s at.form) (holds at.around s)) (role_right s total at.role) p.0 in
+      let p = and_parts (implies (tests_name s (own_tests at.role) || form_names s at.form) (holds at.around s) && role_right s total at.role) (home_right s total at.form (inside at)) h in
+      let q = and_parts (implies (tests_name s (own_tests at.role) || form_names s at.form) (holds at.around s)) (role_right s total at.role) p.0 in
       (q.0, q.1, p.1)
 
   -- a component's slot is below n, and so it is tested
@@ -281,7 +268,7 @@ module _ (all : List Stand) (n : ℕ) (numbered : slots_of all ≡ range_with_le
 
 below-append : (n : ℕ) (xs ys : List ℕ) → all_below n xs ≡ true → all_below n ys ≡ true → all_below n (xs ++ ys) ≡ true
 below-append n [] ys a b = b
-below-append n (x ∷ xs) ys a b = (let p = both_are (nat_lt x n) (all_below n xs) a in rw p.0 (below-append n xs ys p.1 b))
+below-append n (x ∷ xs) ys a b = (let p = and_parts (nat_lt x n) (all_below n xs) a in rw p.0 (below-append n xs ys p.1 b))
 
 module _ (all : List Stand) (n : ℕ) (numbered : slots_of all ≡ range_with_len 0 n) where
   abbrev passes : Stand → Bool
@@ -289,7 +276,7 @@ module _ (all : List Stand) (n : ℕ) (numbered : slots_of all ≡ range_with_le
 
   low_from : (at : Stand) (form : Form) → home_fine all at form ≡ true → home_low n form ≡ true
   low_from at (seq fs home) h =
-      let p = both_are (same_numbers home (filter (λ t. is_home all t at) (slots_of all))) (list_all (holds (near fs)) home) h in
+      let p = and_parts (same_numbers home (filter (λ t. is_home all t at) (slots_of all))) (list_all (holds (near fs)) home) h in
       let test : ℕ → Bool = λ t. is_home all t at in
       let q : home ≡ filter test (range_with_len 0 n) = same_is home (filter test (slots_of all)) p.0 ∙ ap (λ (ss : List ℕ). filter test ss) numbered in
       rw q (rw (chosen_rise test 0 n, chosen_below test 0 n n (omega arith)) refl)
@@ -309,13 +296,13 @@ module _ (all : List Stand) (n : ℕ) (numbered : slots_of all ≡ range_with_le
 
   both_lists : (xs ys : List Stand) → list_all (kept_of n) xs ≡ true → list_all (kept_of n) ys ≡ true → list_all (kept_of n) (xs ++ ys) ≡ true
   both_lists [] ys a b = b
-  both_lists (x ∷ xs) ys a b = (let p = both_are (kept_of n x) (list_all (kept_of n) xs) a in rw p.0 (both_lists xs ys p.1 b))
+  both_lists (x ∷ xs) ys a b = (let p = and_parts (kept_of n x) (list_all (kept_of n) xs) a in rw p.0 (both_lists xs ys p.1 b))
 
   mutual
     pub from_node : (g : Grammar) (role : Role) (path around : List ℕ) → all_below n around ≡ true → list_all passes (nodes role path around g) ≡ true → list_all (kept_of n) (nodes role path around g) ≡ true
     from_node (node align form) role path around b h =
         let here : Stand = record { path = path; around = around; role = role; align = align; form = form } in
-        let p = both_are (passes here) (list_all passes (form_nodes path around form)) h in
+        let p = and_parts (passes here) (list_all passes (form_nodes path around form)) h in
         let f = stand_fine all here p.0 in
         let k = kept_here here b f in
         rw k (from_form form path around b (low_from here form f.home) p.1)
@@ -325,7 +312,7 @@ module _ (all : List Stand) (n : ℕ) (numbered : slots_of all ≡ range_with_le
     from_form (octets sizing) path around b l h = refl
     from_form (bits sizing) path around b l h = refl
     from_form (text leaf) path around b l h = refl
-    from_form (seq fs home) path around b l h = from_fields fs path (home ++ around) 0 (below-append n home around (both_are (rises_from 0 home) (all_below n home) l).1 b) h
+    from_form (seq fs home) path around b l h = from_fields fs path (home ++ around) 0 (below-append n home around (and_parts (rises_from 0 home) (all_below n home) l).1 b) h
     from_form (list sizing g) path around b l h = from_node g an_element (path ++ 0 ∷ []) around b h
     from_form (choice cases rule) path around b l h = from_alternatives cases path around 0 b h
     from_form (contained sizing g) path around b l h = from_node g a_content (path ++ 0 ∷ []) around b h
@@ -349,7 +336,7 @@ module _ (all : List Stand) (n : ℕ) (numbered : slots_of all ≡ range_with_le
 
 all_as : {A : Type 0} (p q : A → Bool) → ((x : A) → p x ≡ true → q x ≡ true) → (xs : List A) → list_all p xs ≡ true → list_all q xs ≡ true
 all_as p q f [] h = refl
-all_as p q f (x ∷ xs) h = (let r = both_are (p x) (list_all p xs) h in rw (f x r.0, all_as p q f xs r.1) refl)
+all_as p q f (x ∷ xs) h = (let r = and_parts (p x) (list_all p xs) h in rw (f x r.0, all_as p q f xs r.1) refl)
 
 all_range : (p : ℕ → Bool) (a k : ℕ) → ((s : ℕ) → s < a + k → p s ≡ true) → list_all p (range_with_len a k) ≡ true
 all_range p a zero f = refl
@@ -358,10 +345,10 @@ all_range p a (suc k) f = (let r = f a (omega arith) in rw r (all_range p (a + 1
 range_gives : (p : ℕ → Bool) (a k s : ℕ) → list_all p (range_with_len a k) ≡ true → a ≤ s → s < a + k → p s ≡ true
 range_gives p a zero s h low high = absurd (omega arith)
 range_gives p a (suc k) s h low high = range_case (nat_eq a s) refl
-    (both_are (p a) (list_all p (range_with_len (a + 1) k)) h).0 (λ l. range_gives p (a + 1) k s (both_are (p a) (list_all p (range_with_len (a + 1) k)) h).1 l (omega arith))
+    (and_parts (p a) (list_all p (range_with_len (a + 1) k)) h).0 (λ l. range_gives p (a + 1) k s (and_parts (p a) (list_all p (range_with_len (a + 1) k)) h).1 l (omega arith))
   where
     range_case : (b : Bool) → nat_eq a s ≡ b → p a ≡ true → (a + 1 ≤ s → p s ≡ true) → p s ≡ true
-    range_case true e r f = rw (← equal_is a s e) r
+    range_case true e r f = rw (← eqb-true a s e) r
     range_case false e r f = f (further a s low e)
       where
         further : (a s : ℕ) → a ≤ s → nat_eq a s ≡ false → a + 1 ≤ s
@@ -400,8 +387,8 @@ module _ (root : Grammar) where
 
   parts : is_tree root ≡ true → Parts
   parts h =
-      let a = both_are (nat_le (length (nodes_of root)) 65536) (same_numbers (slots_of (nodes_of root)) (range_with_len 0 (length (slots_of (nodes_of root)))) && list_all (λ at. all_true (stand_rules (nodes_of root) at)) (nodes_of root)) h in
-      let b = both_are (same_numbers (slots_of (nodes_of root)) (range_with_len 0 (length (slots_of (nodes_of root))))) (list_all (λ at. all_true (stand_rules (nodes_of root) at)) (nodes_of root)) a.1 in
+      let a = and_parts (nat_le (length (nodes_of root)) 65536) (same_numbers (slots_of (nodes_of root)) (range_with_len 0 (length (slots_of (nodes_of root)))) && list_all (λ at. all_true (stand_rules (nodes_of root) at)) (nodes_of root)) h in
+      let b = and_parts (same_numbers (slots_of (nodes_of root)) (range_with_len 0 (length (slots_of (nodes_of root))))) (list_all (λ at. all_true (stand_rules (nodes_of root) at)) (nodes_of root)) a.1 in
       record { size = at_most (length (nodes_of root)) a.0; order = b.0; each = b.1 }
     where
       at_most : (n : ℕ) → nat_le n 65536 ≡ true → n ≤ 65536
@@ -447,20 +434,20 @@ module _ (root : Grammar) where
   low_step : (n : ℕ) (o : Option ℕ) (ss : List ℕ) → list_all (λ t. nat_lt t n) (cons_option o ss) ≡ true → ((t : ℕ) → o ≡ Some t → t < n) × (list_all (λ t. nat_lt t n) ss ≡ true)
   low_step n None ss h = ((λ t e. cc), h)
   low_step n (Some u) ss h =
-      let p = both_are (nat_lt u n) (list_all (λ t. nat_lt t n) ss) h in
-      ((λ t e. (let is : u ≡ t = cc in rw (← is) (less_is u n p.0))), p.1)
+      let p = and_parts (nat_lt u n) (list_all (λ t. nat_lt t n) ss) h in
+      ((λ t e. (let is : u ≡ t = cc in rw (← is) (ltb-true u n p.0))), p.1)
 
   all_low : (n : ℕ) → list_all (λ t. nat_lt t n) (range_with_len 0 n) ≡ true
-  all_low n = all_range (λ t. nat_lt t n) 0 n (λ s l. less_test s n (omega arith))
+  all_low n = all_range (λ t. nat_lt t n) 0 n (λ s l. lt-ltb s n (omega arith))
 
   fine_here : (n : ℕ) → slots_of (nodes_of root) ≡ range_with_len 0 n → (few : (s : ℕ) → count_by (is_about s) (nodes_of root) ≤ 65536) → (at : Stand) → deep at ≡ true → kept_of n at ≡ true → ((t : ℕ) → slot_here at.role ≡ Some t → t < n)
       → ((s : ℕ) → s < n → slot_right s (min (count_by (is_about s) (nodes_of root)) (2 ^ 32 - 1)) at ≡ true) → all_true (stand_rules (nodes_of root) at) ≡ true
   fine_here n numbered few at d k low f =
-      let a = both_are (role_fine at.role at.form) (tests_below n (own_tests at.role) && (is_align at.align && (form_fine at.form && (uses_below n at.form && home_low n at.form)))) k in
-      let b = both_are (tests_below n (own_tests at.role)) (is_align at.align && (form_fine at.form && (uses_below n at.form && home_low n at.form))) a.1 in
-      let c = both_are (is_align at.align) (form_fine at.form && (uses_below n at.form && home_low n at.form)) b.1 in
-      let e = both_are (form_fine at.form) (uses_below n at.form && home_low n at.form) c.1 in
-      let g = both_are (uses_below n at.form) (home_low n at.form) e.1 in
+      let a = and_parts (role_fine at.role at.form) (tests_below n (own_tests at.role) && (is_align at.align && (form_fine at.form && (uses_below n at.form && home_low n at.form)))) k in
+      let b = and_parts (tests_below n (own_tests at.role)) (is_align at.align && (form_fine at.form && (uses_below n at.form && home_low n at.form))) a.1 in
+      let c = and_parts (is_align at.align) (form_fine at.form && (uses_below n at.form && home_low n at.form)) b.1 in
+      let e = and_parts (form_fine at.form) (uses_below n at.form && home_low n at.form) c.1 in
+      let g = and_parts (uses_below n at.form) (home_low n at.form) e.1 in
       let opened = open_from (nodes_of root) n numbered few at b.0 g.0 f in
       let home = home_from (nodes_of root) n numbered few at at.form refl g.1
       (λ s l. (right_parts (nodes_of root) n numbered few s at (f s l)).2) in
@@ -471,12 +458,12 @@ module _ (root : Grammar) where
       → ((s : ℕ) → s < n → list_all (slot_right s (min (count_by (is_about s) (nodes_of root)) (2 ^ 32 - 1))) xs ≡ true) → list_all (λ at. all_true (stand_rules (nodes_of root) at)) xs ≡ true
   each_fine n numbered few [] d k low f = refl
   each_fine n numbered few (x ∷ xs) d k low f =
-      let p = both_are (deep x) (list_all deep xs) d in
-      let q = both_are (kept_of n x) (list_all (kept_of n) xs) k in
-      let r : (s : ℕ) → s < n → slot_right s (min (count_by (is_about s) (nodes_of root)) (2 ^ 32 - 1)) x ≡ true = λ s l. (both_are (slot_right s (min (count_by (is_about s) (nodes_of root)) (2 ^ 32 - 1)) x) (list_all (slot_right s (min (count_by (is_about s) (nodes_of root)) (2 ^ 32 - 1))) xs) (f s l)).0 in
+      let p = and_parts (deep x) (list_all deep xs) d in
+      let q = and_parts (kept_of n x) (list_all (kept_of n) xs) k in
+      let r : (s : ℕ) → s < n → slot_right s (min (count_by (is_about s) (nodes_of root)) (2 ^ 32 - 1)) x ≡ true = λ s l. (and_parts (slot_right s (min (count_by (is_about s) (nodes_of root)) (2 ^ 32 - 1)) x) (list_all (slot_right s (min (count_by (is_about s) (nodes_of root)) (2 ^ 32 - 1))) xs) (f s l)).0 in
       let o = low_step n (slot_here x.role) (slots_of xs) low in
       let head = fine_here n numbered few x p.0 q.0 o.0 r in
-      rw head (each_fine n numbered few xs p.1 q.1 o.1 (λ s l. (both_are (slot_right s (min (count_by (is_about s) (nodes_of root)) (2 ^ 32 - 1)) x) (list_all (slot_right s (min (count_by (is_about s) (nodes_of root)) (2 ^ 32 - 1))) xs) (f s l)).1))
+      rw head (each_fine n numbered few xs p.1 q.1 o.1 (λ s l. (and_parts (slot_right s (min (count_by (is_about s) (nodes_of root)) (2 ^ 32 - 1)) x) (list_all (slot_right s (min (count_by (is_about s) (nodes_of root)) (2 ^ 32 - 1))) xs) (f s l)).1))
 
   pub tree_from : (u : Tally) → tally 0 root begin ≡ Some u → kept u.next root ≡ true → list_all (slot_kept root) (range_with_len 0 u.next) ≡ true → is_tree root ≡ true
   tree_from u e k l =

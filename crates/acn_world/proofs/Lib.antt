@@ -1,15 +1,16 @@
-pub mod Rows
-pub mod Sizes
-pub mod Following
+mod Rows
+mod Sizes
+mod Following
+-- for acn_names
 pub mod ValueSteps
-pub mod ChainSteps
-pub mod Reversed
-pub mod TypeThere
-pub mod LawProofs
-pub mod ParameterSteps
-pub mod Marks
-pub mod KeyedLaws
-pub mod Mapped
-pub mod FoundTypes
+mod ChainSteps
+mod Reversed
+mod TypeThere
+mod LawProofs
+mod ParameterSteps
+mod Marks
+mod KeyedLaws
+mod Mapped
+mod FoundTypes
 mod EntryPlaces
 mod AssignedChains
