@@ -1,6 +1,6 @@
 -- Where a node stands in a tree, and what the rules of a tree say of the slots there.
 use Rattle.std.proofs.Common.{◌≡◌, ℕ, zero, suc, ◌+◌, ◌≤◌, Bool, true, false, not, List, [], ◌∷◌, ◌++◌, length, Option, Some, None, refl, sym, ap, ◌∙◌, arith, append_assoc, append-nil, inl, inr, ◌⊎◌, nat_eq, nat_le, ◌&&◌, ◌||◌}
-pub use Rattle.std.proofs.lemmas.Bool.{or_left, or_right}
+use Rattle.std.proofs.lemmas.Bool.{or_left, or_right}
 use Rattle.std.specs.Prelude.{cond, filter}
 use Rattle.std.specs.List.{list_any, list_all, range_with_len, cons_option}
 use Rattle.acn_grammar.specs.Asks.{same_name}
