@@ -13,7 +13,7 @@ use acn_asn_syntax::{AsnBase, AsnModule, AsnType, AsnValue, Assign, Import, Item
 use acn_mentions::{Mention, push_type};
 use acn_num::{Name, NoMemory, Row};
 use acn_repeated::{Blame, Kind, push_blames};
-use acn_world::chain::{Link, base_of};
+use acn_world::chain::{base_of, written};
 use acn_world::index::Index;
 use acn_world::lookup::{Sort, found, imports_of, module_named, same};
 use acn_world::references::{type_named, value_named};
@@ -78,12 +78,7 @@ fn is_base_name(name: &[u8], base: &AsnBase) -> bool
 fn is_name_of(index: &Index, k: u32, of: &AsnType, name: &[u8]) -> bool
     ensures { result ≡ repeated.is_among name.now (spec.names_of (index_view index.now) k (type_view of.now)) }
 {
-    let link = Link {
-        owner: k,
-        of,
-        assigned: None,
-    };
-    is_base_name(name, base_of(index, link))
+    is_base_name(name, base_of(index, written(k, of)))
 }
 
 /// Whether the type that a constraint is of gives this name to a number or an item.
@@ -103,7 +98,8 @@ fn is_value_named(index: &Index, k: u32, name: &[u8]) -> bool
     value_named(index, k, name).is_some()
 }
 
-// Whether what is mentioned in a module is there.
+// Whether what is mentioned in a module is there. Values are looked up first, since the numbers and items of a type
+// cost a walk to its base.
 #[tactic(auto, unfolding(acn_world::specs::Unknown::is_known))]
 fn is_known(index: &Index, k: u32, mention: Mention<'_>) -> bool
     ensures { result ≡ spec.is_known (index_view index.now) k (mention_view mention.entry) }
@@ -111,10 +107,10 @@ fn is_known(index: &Index, k: u32, mention: Mention<'_>) -> bool
     match mention {
         Mention::Type { from, name } => type_named(index, k, from, name.bytes()).is_some(),
         Mention::Constraint { governor, name, .. } => {
-            is_governed(index, k, governor, name.bytes()) || is_value_named(index, k, name.bytes())
+            is_value_named(index, k, name.bytes()) || is_governed(index, k, governor, name.bytes())
         }
         Mention::Default { of, name } => {
-            is_name_of(index, k, of, name.bytes()) || is_value_named(index, k, name.bytes())
+            is_value_named(index, k, name.bytes()) || is_name_of(index, k, of, name.bytes())
         }
         Mention::Assignment { name } => is_value_named(index, k, name.bytes()),
     }

@@ -21,7 +21,7 @@ use acn_mentions::{AcnMention, Mention, Role, push_entry};
 use acn_num::{Name, NoMemory};
 use acn_repeated::{Blame, Kind, push_blames};
 use acn_world::NameFault;
-use acn_world::chain::{Link, assigned_link, base_of};
+use acn_world::chain::{assigned_link, base_of, written};
 use acn_world::index::Index;
 use acn_world::values::leads_to_number;
 use std::alloc::Global;
@@ -92,14 +92,7 @@ fn is_integer_type(index: &Index, k: u32, governor: Option<&AsnType>) -> bool
 {
     match governor {
         None => false,
-        Some(of) => {
-            let link = Link {
-                owner: k,
-                of,
-                assigned: None,
-            };
-            is_integer(base_of(index, link))
-        }
+        Some(of) => is_integer(base_of(index, written(k, of))),
     }
 }
 
@@ -134,11 +127,12 @@ fn is_as_number(index: &Index, k: u32, mention: Mention<'_>) -> bool
     }
 }
 
-// Whether what is mentioned is used as a number and leads to none.
+// Whether what is mentioned is used as a number and leads to none. Where it leads to a number its type isn't walked
+// to its base.
 fn is_wrong(index: &Index, k: u32, mention: Mention<'_>) -> bool
     ensures { result ≡ spec.is_wrong (index_view index.now) k (mention_view mention.entry) }
 {
-    is_as_number(index, k, mention) && !leads_to_number(index, k, mention_name(mention).bytes())
+    !leads_to_number(index, k, mention_name(mention).bytes()) && is_as_number(index, k, mention)
 }
 
 // Adds the names that are mentioned and are of the wrong kind.
