@@ -6,11 +6,10 @@ ghost use Rattle.acn_world.specs.World.{IsType};
 
 use crate::names::push_full_name;
 use crate::trouble::Trouble;
-use acn_acn_syntax::AcnEntry;
 use acn_asn_syntax::Constraint;
 use acn_case_lines::{small, word};
 use acn_source_printer::{base_in_words, constraint_in_words, value_in_words};
-use acn_world::{Chain, TypeId, World};
+use acn_world::{Chain, EntryAt, TypeId, World};
 use std::alloc::Global;
 
 // The names of types, each behind that of its module.
@@ -27,7 +26,7 @@ fn push_types(world: &World, types: &[TypeId], words: &mut Vec<u8>) -> Result<()
 /// The roots by name.
 pub fn roots_told(alloc: Global, world: &World) -> Result<String, Trouble> {
     let mut words = Vec::new(alloc);
-    push_types(world, world.roots(alloc)?.items(), &mut words)?;
+    push_types(world, world.roots(alloc)?.as_slice(), &mut words)?;
     if words.is_empty() {
         return Ok(format!(in alloc; "no roots")?);
     }
@@ -79,16 +78,22 @@ pub fn value_told(alloc: Global, world: &World, words: &[&str]) -> Result<String
     }
 }
 
-/// The name of the entry at the place with these numbers.
+/// The entry of the type at the place with these numbers, with its place in the text.
 pub fn entry_told(alloc: Global, world: &World, words: &[&str]) -> Result<String, Trouble> {
     let place = TypeId {
         module: small(words, 0),
         item: small(words, 1),
     };
     match world.entry_at(place) {
-        Some(entry) => Ok(String::from_utf8_lossy(alloc, entry.name.bytes())?),
+        Some(entry) => entry_in_words(alloc, &entry),
         None => Err(Trouble::Absent),
     }
+}
+
+// The name of an entry, the number of its ACN module and its own number there.
+fn entry_in_words(alloc: Global, entry: &EntryAt<'_>) -> Result<String, Trouble> {
+    let name = String::from_utf8_lossy(alloc, entry.is.name.bytes())?;
+    Ok(format!(in alloc; "{name} at {} {}", entry.acn, entry.entry)?)
 }
 
 /// How many lines the table with the first word's name has.
@@ -112,14 +117,10 @@ fn push_constraints(
     Ok(())
 }
 
-fn push_entries(
-    alloc: Global,
-    entries: &[(u32, &AcnEntry)],
-    words: &mut String,
-) -> Result<(), Trouble> {
-    for (module, entry) in entries {
-        let name = String::from_utf8_lossy(alloc, entry.name.bytes())?;
-        write!(words, ", {module} {name} []")?;
+fn push_entries(alloc: Global, entries: &[EntryAt<'_>], words: &mut String) -> Result<(), Trouble> {
+    for entry in entries {
+        let text = entry_in_words(alloc, entry)?;
+        write!(words, ", {} {text}", entry.module)?;
     }
     Ok(())
 }
