@@ -1,5 +1,6 @@
 //! The answer to a case.
 
+use crate::filing::{files_told, kind_told};
 use crate::graph::{long_ring_told, ring_told};
 use crate::looking::{
     chain_told, entry_told, find_told, lookup_told, roots_told, table_told, value_told,
@@ -59,6 +60,8 @@ fn found(alloc: Global, sheet: &Sheet, parts: &[&str], words: &[&str]) -> Result
             let _all = sources(alloc, sheet, parts, true)?;
             Ok(format!(in alloc; "Ok")?)
         }
+        Question::Files => files_told(alloc, sheet, parts),
+        Question::Kind => Ok(kind_told(alloc, parts.first().copied().unwrap_or(""))?),
         Question::Ring => Ok(ring_told(alloc, words)?),
         Question::LongRing => Ok(long_ring_told(alloc, words)?),
         Question::Names => told(alloc, sources(alloc, sheet, parts, false)?),

@@ -8,6 +8,7 @@
 #![tactic(auto)]
 
 mod answer;
+mod filing;
 mod graph;
 mod looking;
 mod measure;

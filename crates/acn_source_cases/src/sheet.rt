@@ -8,8 +8,12 @@ use std::alloc::Global;
 pub enum Question {
     /// The tokens of the first file.
     Tokens,
-    /// The fault of the first file that isn't read, or `Ok`.
+    /// The fault of the first file that isn't read, with the number of its token, or `Ok`.
     Read,
+    /// The first file that is refused and its fault, with places in bytes, or `Ok`.
+    Files,
+    /// What a file of a name holds.
+    Kind,
     /// The tree of the first file, printed as a text.
     Print,
     /// Whether the tree of the first file has the tokens of its text.
@@ -77,6 +81,8 @@ fn question_of(word: &str) -> Option<Question> {
     match word {
         "tokens" => Some(Question::Tokens),
         "read" => Some(Question::Read),
+        "files" => Some(Question::Files),
+        "kind" => Some(Question::Kind),
         "print" => Some(Question::Print),
         "kept" => Some(Question::Kept),
         "names" => Some(Question::Names),
