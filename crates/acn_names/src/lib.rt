@@ -1,4 +1,5 @@
-//! Resolves the names of the sources: the index of what they say, and the first fault of a name.
+//! Resolves the names of the sources: the world of what they say, or the first fault of a name. A world and its types are
+//! handed on from acn_world.
 #![tactic(auto)]
 
 mod early;
@@ -11,6 +12,7 @@ mod unknown;
 mod unknown_acn;
 mod wrong;
 
+pub use acn_world::{Chain, EntryAt, NameFault, Sources, TypeId, World};
 pub use early::early_fault;
 pub use few::are_few;
 pub use gathering::gather;

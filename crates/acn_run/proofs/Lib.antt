@@ -8,3 +8,4 @@ mod Digits
 mod Steps
 mod Faults
 mod Statuses
+mod ByteOrder

@@ -6,6 +6,7 @@ use Rattle.std.specs.Fmt.{decimal}
 use Rattle.acn_lex.specs.declared.Kind.TheVariants.{Word, Number, Mark}
 use Rattle.acn_lex.specs.Lexeme.{Lexeme, Placed}
 use Rattle.acn_lex.specs.Lexes.{Lexes}
+use Rattle.acn_lex.specs.declared.lexing.TheConstants.{MOST_TOKENS}
 use Rattle.acn_cursor.specs.Steps.{token}
 use Rattle.acn_cursor.specs.declared.fault.ParseFault.{ParseFault}
 use Rattle.acn_cursor.specs.declared.fault.ParseFault.TheVariants as parse
@@ -102,7 +103,7 @@ without_place t = record { kind = t.kind; text = t.text }
 pub record HasTokens (bytes : List ℕ) (ts : List Lexeme) : Type 0 where
   pub places : List Placed
   pub lexes : Lexes 0 bytes places
-  pub few : length places ≤ 1000000
+  pub few : length places ≤ MOST_TOKENS
   pub tokens : map without_place places ≡ ts
 
 -- these components are written in the file

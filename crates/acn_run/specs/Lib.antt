@@ -9,3 +9,4 @@ pub mod Recording
 pub mod Run
 pub mod Text
 pub mod Words
+pub mod Laws

@@ -1,5 +1,6 @@
 ghost use Rattle.std.specs.Prelude.{◌≡◌, ◌≤◌, ◌∷◌, length, IfOk};
 ghost use Rattle.acn_lex.specs.Lexeme.{lexemes};
+ghost use Rattle.acn_lex.specs.declared.lexing.TheConstants.{MOST_TOKENS};
 ghost use Rattle.acn_cursor.specs.Steps.{Reads, Whole, many, word};
 ghost use Rattle.acn_run.specs.Form.{least_width};
 ghost use Rattle.acn_run.specs.Parsing as spec;
@@ -156,7 +157,7 @@ pub fn read_components(
     owner: &[u8],
     name: &[u8],
 ) -> Result<Row<Component>, ParseFault>
-    requires { length tokens.now ≤ 1000000 }
+    requires { length tokens.now ≤ MOST_TOKENS }
     ensures { Whole (spec.form owner.now name.now (lexemes tokens.now)) result }
 {
     let mut cursor = Cursor::new(tokens);

@@ -6,12 +6,14 @@ mod decode;
 mod form;
 mod grammar;
 mod input;
+mod laws;
 mod line;
 mod order;
 mod packet;
 mod top_call;
 mod words;
 
+pub use laws::members_are_printed_in_byte_order;
 pub use top_call::run;
 
 #[cfg(test)]
