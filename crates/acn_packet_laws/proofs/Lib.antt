@@ -3,6 +3,7 @@ mod Answering
 mod AskHomes
 mod AskRows
 mod BoundsLaw
+mod ChoiceRows
 -- for acn_check
 pub mod Codes
 mod Contents

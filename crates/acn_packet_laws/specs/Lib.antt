@@ -1,3 +1,4 @@
+pub mod ChoiceRows
 pub mod Laws
 pub mod RequestRows
 pub mod WorkedRows

@@ -1,5 +1,6 @@
 //! Packets that are worked by hand, as laws of the definitions.
 
+ghost use Rattle.acn_packet_laws.specs.ChoiceRows.{AnIndexChooses, ConditionsChoose, AnItemChooses};
 ghost use Rattle.acn_packet_laws.specs.RequestRows.{APatternEndsTheList, AComponentDetermines, UnsoundNodesAreTold};
 ghost use Rattle.acn_packet_laws.specs.WorkedRows.{FieldsFollowEachOther, AnEndOfBitsIsShort, ASizeStandsInItsField, SizesInOneFieldAgree, WhatNothingAsksAboutIsLeast, EachDigitIsBelowTen, ATerminatorEndsTheText, ConditionsThatAreMissedAreAvoided, PaddingIsReadInAnyWay, ACountIsTheLeast, APatternHasAComplement, ZeroHasNoMinus, DigitsWithAnEndAreLeast, CharactersStandByTheirPlaces, PresenceBitsStandInFront, ASizeStandsInFront, ContentsFillTheirOctets};
 
@@ -101,4 +102,19 @@ pub fn a_component_determines()
 /// A node that a reader can't follow isn't sound.
 pub fn unsound_nodes_are_told()
     ensures { UnsoundNodesAreTold }
+{}
+
+/// The index of an alternative stands in front of it, and one that no alternative has is refused.
+pub fn an_index_chooses()
+    ensures { AnIndexChooses }
+{}
+
+/// An alternative stands behind a number that meets its conditions, and a number that meets none is refused.
+pub fn conditions_choose()
+    ensures { ConditionsChoose }
+{}
+
+/// An alternative stands behind the item of its name, and an item whose name no alternative has is refused.
+pub fn an_item_chooses()
+    ensures { AnItemChooses }
 {}
