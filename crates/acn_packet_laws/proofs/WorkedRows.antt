@@ -452,11 +452,9 @@ in_packet k code behind fault more f = inr (record {
   );
 })
 
-three_octets : (env : Env) (bs : List Bool) → Spell telemetry Any body env (record_of (filled (int (pos 1000)) (filled (item 2) (filled (int (pos 1)) no_places)))) 48 bs → length bs ≡ 32 → ⊥
-three_octets env bs w h = let l = length_law telemetry Any body (refl, (refl, (refl, tt))) env (record_of (filled (int (pos 1000)) (filled (item 2) (filled (int (pos 1)) no_places)))) 48 bs w in differ (length bs) l h
-  where
-    differ : (n : ℕ) → n ≡ 24 → n ≡ 32 → ⊥
-    differ n e f = absurd (omega arith)
+-- the contents never stand in another number of bits than three octets
+pub three_octets : (env : Env) (bs : List Bool) (n : ℕ) → (n ≡ 24 → ⊥) → Spell telemetry Any body env (record_of (filled (int (pos 1000)) (filled (item 2) (filled (int (pos 1)) no_places)))) 48 bs → length bs ≡ n → ⊥
+three_octets env bs n other w h = other (sym h ∙ length_law telemetry Any body (refl, (refl, (refl, tt))) env (record_of (filled (int (pos 1000)) (filled (item 2) (filled (int (pos 1)) no_places)))) 48 bs w)
 
 four_octets : LengthCode 3
 four_octets = record { permitted = refl; image = pos 3; maps = refl; spelled = (refl, refl) }
@@ -465,5 +463,5 @@ pub contents_fill_their_octets_law : rows.ContentsFillTheirOctets
 contents_fill_their_octets_law = record {
   refused = in_packet 3 four_octets (bits_of (62 ∷ 137 ∷ 72 ∷ 0 ∷ [])) (record { path = 7 ∷ []; reason = content_size 4 21; at = 48 }) 32 telemetry_rows.overlong;
   cut = in_packet 3 four_octets (bits_of (62 ∷ 137 ∷ 72 ∷ [])) (record { path = 7 ∷ []; reason = short; at = 48 }) 24 telemetry_rows.cut_short;
-  never = three_octets;
+  never = λ env bs. three_octets env bs 32 (λ e. absurd (omega (arith, e)));
 }

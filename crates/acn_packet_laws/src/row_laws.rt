@@ -1,6 +1,7 @@
 //! Packets that are worked by hand, as laws of the definitions.
 
 ghost use Rattle.acn_packet_laws.specs.ChoiceRows.{AnIndexChooses, ConditionsChoose, AnItemChooses};
+ghost use Rattle.acn_packet_laws.specs.ContentRows.{AHeaderAndItsContents, ContentsEndInsideAField};
 ghost use Rattle.acn_packet_laws.specs.RequestRows.{APatternEndsTheList, AComponentDetermines, UnsoundNodesAreTold};
 ghost use Rattle.acn_packet_laws.specs.WorkedRows.{FieldsFollowEachOther, AnEndOfBitsIsShort, ASizeStandsInItsField, SizesInOneFieldAgree, WhatNothingAsksAboutIsLeast, EachDigitIsBelowTen, ATerminatorEndsTheText, ConditionsThatAreMissedAreAvoided, PaddingIsReadInAnyWay, ACountIsTheLeast, APatternHasAComplement, ZeroHasNoMinus, DigitsWithAnEndAreLeast, CharactersStandByTheirPlaces, PresenceBitsStandInFront, ASizeStandsInFront, ContentsFillTheirOctets};
 
@@ -117,4 +118,14 @@ pub fn conditions_choose()
 /// An alternative stands behind the item of its name, and an item whose name no alternative has is refused.
 pub fn an_item_chooses()
     ensures { AnItemChooses }
+{}
+
+/// A header says how many octets its contents fill, and the bits behind the contents are written as zeros and read in any way.
+pub fn a_header_and_its_contents()
+    ensures { AHeaderAndItsContents }
+{}
+
+/// Contents that end inside a field are refused at that field, and a header of another version at its first bits.
+pub fn contents_end_inside_a_field()
+    ensures { ContentsEndInsideAField }
 {}
