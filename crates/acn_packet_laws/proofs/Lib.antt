@@ -46,6 +46,7 @@ mod NodeExclusion
 mod NodeLaws
 mod NodeParts
 mod NodeTotal
+mod NumberRows
 mod NumberTotal
 mod Occurrences
 mod OneFault

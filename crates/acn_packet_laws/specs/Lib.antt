@@ -1,5 +1,6 @@
 pub mod ChoiceRows
 pub mod ContentRows
 pub mod Laws
+pub mod NumberRows
 pub mod RequestRows
 pub mod WorkedRows

@@ -2,6 +2,7 @@
 
 ghost use Rattle.acn_packet_laws.specs.ChoiceRows.{AnIndexChooses, ConditionsChoose, AnItemChooses};
 ghost use Rattle.acn_packet_laws.specs.ContentRows.{AHeaderAndItsContents, ContentsEndInsideAField};
+ghost use Rattle.acn_packet_laws.specs.NumberRows.{LittleTurnsTheOctets, TwosComplementHasASign, ACountBeginsAtTheLowest, CharactersWithAnEndAreLeast, ItemsHavePlacesAndNumbers};
 ghost use Rattle.acn_packet_laws.specs.RequestRows.{APatternEndsTheList, AComponentDetermines, UnsoundNodesAreTold};
 ghost use Rattle.acn_packet_laws.specs.WorkedRows.{FieldsFollowEachOther, AnEndOfBitsIsShort, ASizeStandsInItsField, SizesInOneFieldAgree, WhatNothingAsksAboutIsLeast, EachDigitIsBelowTen, ATerminatorEndsTheText, ConditionsThatAreMissedAreAvoided, PaddingIsReadInAnyWay, ACountIsTheLeast, APatternHasAComplement, ZeroHasNoMinus, DigitsWithAnEndAreLeast, CharactersStandByTheirPlaces, PresenceBitsStandInFront, ASizeStandsInFront, ContentsFillTheirOctets};
 
@@ -128,4 +129,29 @@ pub fn a_header_and_its_contents()
 /// Contents that end inside a field are refused at that field, and a header of another version at its first bits.
 pub fn contents_end_inside_a_field()
     ensures { ContentsEndInsideAField }
+{}
+
+/// A number whose octets are in the other order has its least octet in front.
+pub fn little_turns_the_octets()
+    ensures { LittleTurnsTheOctets }
+{}
+
+/// A number in two's complement has its sign in its first bit, and one outside its range is refused.
+pub fn twos_complement_has_a_sign()
+    ensures { TwosComplementHasASign }
+{}
+
+/// Behind a count of octets stands the difference from the lowest number, in as few octets as hold it.
+pub fn a_count_begins_at_the_lowest()
+    ensures { ACountBeginsAtTheLowest }
+{}
+
+/// A number in characters with an end has a sign where it may be negative, no zero in front, and no minus before zero.
+pub fn characters_with_an_end_are_least()
+    ensures { CharactersWithAnEndAreLeast }
+{}
+
+/// An item is written as its place in the order of the numbers, or as its own number where values are encoded.
+pub fn items_have_places_and_numbers()
+    ensures { ItemsHavePlacesAndNumbers }
 {}
