@@ -55,6 +55,7 @@ mod OneWriting
 mod OpenFields
 mod Overlaps
 mod PathSlots
+mod PlaceRows
 -- for acn_check
 pub mod Placed
 mod PrefixNodes

@@ -26,7 +26,7 @@ truly : (b : Bool) → b ≡ true → IsFalse b → ⊥
 truly b t f = cc
 
 -- a number outside a range is the image of none of its numbers, where each is written as itself
-none_is : (low high k : ℤ) → IsFalse (has ((low, high) ∷ []) k) → (x : ℤ) → In ((low, high) ∷ []) x → Some x ≡ Some k → ⊥
+pub none_is : (low high k : ℤ) → IsFalse (has ((low, high) ∷ []) k) → (x : ℤ) → In ((low, high) ∷ []) x → Some x ≡ Some k → ⊥
 none_is low high k f x p e = truly (has ((low, high) ∷ []) k) (subst (λ y. In ((low, high) ∷ []) y) (same x k e) p) f
 
 -- Octets in the other order.

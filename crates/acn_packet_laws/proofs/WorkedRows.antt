@@ -1,5 +1,5 @@
 -- The worked packets: each as it is stated, and why its last case can't hold.
-use Rattle.std.proofs.Common.{◌≡◌, ℕ, suc, ◌+◌, ◌≤◌, pos, Bool, true, false, List, [], ◌∷◌, ◌++◌, length, take, replicate, Some, None, refl, sym, ap, inl, inr, subst, ◌∙◌, arith}
+use Rattle.std.proofs.Common.{◌≡◌, ℕ, suc, ◌+◌, ◌<◌, ◌≤◌, pos, Bool, true, false, List, [], ◌∷◌, ◌++◌, length, take, replicate, Some, None, refl, sym, ap, inl, inr, subst, ◌∙◌, arith}
 use Rattle.std.proofs.lemmas.Int.{ints}
 use Rattle.std.proofs.lemmas.List.{append-nil, length-take-le}
 use Rattle.acn_num.specs.Bits.{low_bits, bits as bits_of}
@@ -12,7 +12,10 @@ use Rattle.acn_grammar.specs.declared.node.NumKind.TheVariants.{Integer, Null}
 use Rattle.acn_grammar.specs.declared.node.NumCoding.TheVariants.{PosInt, Fixed}
 use Rattle.acn_grammar.specs.Front.{IsWritten, Front}
 use Rattle.acn_grammar.specs.Grammar.{Grammar, Data, node, num, int, boolean, item, null, characters, octet_string, record_of, list_of, no_places, empty, filled}
+use Rattle.acn_grammar.specs.Interval.{span}
 use Rattle.acn_grammar.specs.Spell.{Spell, Padding}
+use Rattle.acn_grammar.specs.Tree.{IsTree}
+use Rattle.acn_grammar.specs.declared.limits.TheConstants.{MOST_PACKET_BITS}
 use Rattle.acn_packet_laws.specs.WorkedRows as rows
 use Rattle.acn_packet_laws.specs.WorkedRows.{two, two_integers, sized_octets, one_size, uneven, flagged, ended_text, one_of_two, aligned, optional, up_to_five, zeros, body, telemetry}
 use Rattle.acn_packet_laws.proofs.AskRows as ask_rows
@@ -38,18 +41,16 @@ nine_never bs w =
 pub fields_follow_each_other_law : rows.FieldsFollowEachOther
 fields_follow_each_other_law = record { written = packet_rows.five_three; bounds = refl; never = nine_never }
 
-eight_few : (d : Data) (n : ℕ) → Front two_integers (bits_of (5 ∷ [])) d n → ⊥
-eight_few d n f =
+-- no value stands at the front of fewer bits than the least of its tree
+pub few_bits : (root : Grammar) → IsTree root → (span root).greatest ≤ MOST_PACKET_BITS → (input : List Bool) → length input < (span root).least → (d : Data) (n : ℕ) → Front root input d n → ⊥
+few_bits root tree most input fewer d n f =
     let within = f.within in
-    let b = bounds_hold two_integers Any d (take n (bits_of (5 ∷ []))) refl (omega arith) f.spelled in
-    let l = length-take-le n (bits_of (5 ∷ [])) f.within in
-    few n within (subst (λ m. 11 ≤ m) l b.0)
-  where
-    few : (n : ℕ) → n ≤ 8 → 11 ≤ n → ⊥
-    few n h k = omega arith
+    let b = bounds_hold root Any d (take n input) tree most f.spelled in
+    let l = length-take-le n input f.within in
+    absurd (omega (arith, l, b.0))
 
 pub an_end_of_bits_is_short_law : rows.AnEndOfBitsIsShort
-an_end_of_bits_is_short_law = record { refused = packet_rows.one_octet; never = eight_few }
+an_end_of_bits_is_short_law = record { refused = packet_rows.one_octet; never = few_bits two_integers refl (omega arith) (bits_of (5 ∷ [])) (omega arith) }
 
 -- Determinants.
 

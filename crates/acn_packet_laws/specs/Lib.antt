@@ -2,5 +2,6 @@ pub mod ChoiceRows
 pub mod ContentRows
 pub mod Laws
 pub mod NumberRows
+pub mod PlaceRows
 pub mod RequestRows
 pub mod WorkedRows

@@ -3,6 +3,7 @@
 ghost use Rattle.acn_packet_laws.specs.ChoiceRows.{AnIndexChooses, ConditionsChoose, AnItemChooses};
 ghost use Rattle.acn_packet_laws.specs.ContentRows.{AHeaderAndItsContents, ContentsEndInsideAField};
 ghost use Rattle.acn_packet_laws.specs.NumberRows.{LittleTurnsTheOctets, TwosComplementHasASign, ACountBeginsAtTheLowest, CharactersWithAnEndAreLeast, ItemsHavePlacesAndNumbers};
+ghost use Rattle.acn_packet_laws.specs.PlaceRows.{PresenceBitsMayBeShort, PaddingMayBeShort, AnElementIsNamedByItsPlace};
 ghost use Rattle.acn_packet_laws.specs.RequestRows.{APatternEndsTheList, AComponentDetermines, UnsoundNodesAreTold};
 ghost use Rattle.acn_packet_laws.specs.WorkedRows.{FieldsFollowEachOther, AnEndOfBitsIsShort, ASizeStandsInItsField, SizesInOneFieldAgree, WhatNothingAsksAboutIsLeast, EachDigitIsBelowTen, ATerminatorEndsTheText, ConditionsThatAreMissedAreAvoided, PaddingIsReadInAnyWay, ACountIsTheLeast, APatternHasAComplement, ZeroHasNoMinus, DigitsWithAnEndAreLeast, CharactersStandByTheirPlaces, PresenceBitsStandInFront, ASizeStandsInFront, ContentsFillTheirOctets};
 
@@ -154,4 +155,19 @@ pub fn characters_with_an_end_are_least()
 /// An item is written as its place in the order of the numbers, or as its own number where values are encoded.
 pub fn items_have_places_and_numbers()
     ensures { ItemsHavePlacesAndNumbers }
+{}
+
+/// Bits that end inside presence bits are Short at their SEQUENCE, and no value stands at their front.
+pub fn presence_bits_may_be_short()
+    ensures { PresenceBitsMayBeShort }
+{}
+
+/// Bits that end inside padding are Short at the node behind it, where the padding begins.
+pub fn padding_may_be_short()
+    ensures { PaddingMayBeShort }
+{}
+
+/// An element that can't be read is named by its place in the list and by its first bit.
+pub fn an_element_is_named_by_its_place()
+    ensures { AnElementIsNamedByItsPlace }
 {}
