@@ -41,6 +41,7 @@ mod LeafTotal
 mod LeastAnswers
 mod LengthLaw
 mod Lengths
+mod ListRows
 mod Moves
 mod NodeExclusion
 mod NodeLaws

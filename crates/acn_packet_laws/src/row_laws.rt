@@ -2,6 +2,7 @@
 
 ghost use Rattle.acn_packet_laws.specs.ChoiceRows.{AnIndexChooses, ConditionsChoose, AnItemChooses};
 ghost use Rattle.acn_packet_laws.specs.ContentRows.{AHeaderAndItsContents, ContentsEndInsideAField};
+ghost use Rattle.acn_packet_laws.specs.ListRows.{AnEndedListNamesItsElements, EachElementHasItsSize};
 ghost use Rattle.acn_packet_laws.specs.NumberRows.{LittleTurnsTheOctets, TwosComplementHasASign, ACountBeginsAtTheLowest, CharactersWithAnEndAreLeast, ItemsHavePlacesAndNumbers};
 ghost use Rattle.acn_packet_laws.specs.PlaceRows.{PresenceBitsMayBeShort, PaddingMayBeShort, AnElementIsNamedByItsPlace};
 ghost use Rattle.acn_packet_laws.specs.RequestRows.{APatternEndsTheList, AComponentDetermines, UnsoundNodesAreTold};
@@ -170,4 +171,14 @@ pub fn padding_may_be_short()
 /// An element that can't be read is named by its place in the list and by its first bit.
 pub fn an_element_is_named_by_its_place()
     ensures { AnElementIsNamedByItsPlace }
+{}
+
+/// An element of a list that a pattern ends is named by its place, also where its bits and those of the pattern are wanting.
+pub fn an_ended_list_names_its_elements()
+    ensures { AnEndedListNamesItsElements }
+{}
+
+/// Each element of a list has the determinants that are at home in it.
+pub fn each_element_has_its_size()
+    ensures { EachElementHasItsSize }
 {}
