@@ -17,23 +17,23 @@ use Rattle.acn_grammar.specs.declared.node.NumCoding.{NumCoding}
 use Rattle.acn_grammar.specs.declared.node.NumCoding.TheVariants.{CountedSigned, Bcd, BcdEnded, Ascii, Flag}
 use Rattle.acn_grammar.proofs.Numbers.{signed-below}
 
-abbrev integer : (low high : ℤ) → NumCoding → NumLeaf
+abbrev pub integer : (low high : ℤ) → NumCoding → NumLeaf
 integer low high coding = record { kind = Integer; set = (low, high) ∷ []; coding = coding; little = false; table = None; items = record { items = []; values = false } }
 
 abbrev flag_leaf : NumCoding → NumLeaf
 flag_leaf coding = record { kind = Boolean; set = (pos 0, pos 1) ∷ []; coding = coding; little = false; table = None; items = record { items = []; values = false } }
 
-abbrev root_of : NumLeaf → Grammar
+abbrev pub root_of : NumLeaf → Grammar
 root_of leaf = node 1 (num leaf)
 
-no_padding : (mode : Mode) → Padding mode 1 0 []
+pub no_padding : (mode : Mode) → Padding mode 1 0 []
 no_padding mode = record { aligned = omega arith; fewest = omega arith; zeros = λ _. refl }
 
 -- a packet of one number
-leaf_spelled : (mode : Mode) (leaf : NumLeaf) (d : Data) (x : ℤ) (bs : List Bool) → NumberOf leaf.kind d x → Code mode leaf x bs → Spell (root_of leaf) mode (root_of leaf) [] d 0 bs
+pub leaf_spelled : (mode : Mode) (leaf : NumLeaf) (d : Data) (x : ℤ) (bs : List Bool) → NumberOf leaf.kind d x → Code mode leaf x bs → Spell (root_of leaf) mode (root_of leaf) [] d 0 bs
 leaf_spelled mode leaf d x bs n c = record { front = []; back = bs; whole = refl; first = no_padding mode; second = (x, n, c) }
 
-leaf_fails : (leaf : NumLeaf) (bs : List Bool) (r : Reason) (reach : ℕ) → LeafFails leaf bs r reach → Refusal (root_of leaf) bs (record { path = []; reason = r; at = 0 }) reach
+pub leaf_fails : (leaf : NumLeaf) (bs : List Bool) (r : Reason) (reach : ℕ) → LeafFails leaf bs r reach → Refusal (root_of leaf) bs (record { path = []; reason = r; at = 0 }) reach
 leaf_fails leaf bs r reach f = inr (record { front = []; back = bs; whole = refl; spelled = no_padding Any; more = reach; reaches = omega arith; fails = (r, f, refl) })
 
 -- INTEGER (0..999) in three decimal digits of 4 bits: 42 is 042

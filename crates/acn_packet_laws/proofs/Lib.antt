@@ -3,8 +3,10 @@ mod Answering
 mod AskHomes
 mod AskRows
 mod BoundsLaw
+mod ChoiceRows
 -- for acn_check
 pub mod Codes
+mod ContentRows
 mod Contents
 mod CountedTotal
 mod EachWritten
@@ -39,11 +41,13 @@ mod LeafTotal
 mod LeastAnswers
 mod LengthLaw
 mod Lengths
+mod ListRows
 mod Moves
 mod NodeExclusion
 mod NodeLaws
 mod NodeParts
 mod NodeTotal
+mod NumberRows
 mod NumberTotal
 mod Occurrences
 mod OneFault
@@ -52,6 +56,7 @@ mod OneWriting
 mod OpenFields
 mod Overlaps
 mod PathSlots
+mod PlaceRows
 -- for acn_check
 pub mod Placed
 mod PrefixNodes

@@ -9,9 +9,11 @@ use Rattle.acn_grammar.specs.Asks.{Ask}
 use Rattle.acn_grammar.specs.Code.{Written, Code, CodingCode, Counted, AreDigits, SignOctet, FlagCode, decimal_number, nibbles, digit_octets, in_order}
 use Rattle.acn_grammar.specs.Env.{Env, at_slot}
 use Rattle.acn_grammar.specs.Grammar.{Grammar, Form, Fields, Alternatives, Data, Places, Elements, node, num, octets, bits, text, seq, list, choice, contained, no_fields, component, inserted, no_alternatives, alternative, octet_string, bit_string, characters, record_of, list_of, alt, null, no_places, empty, filled, no_elements, element}
+use Rattle.acn_grammar.specs.Front.{IsWritten}
 use Rattle.acn_grammar.specs.Leaves.{num_fine, implies, can_be_little}
 use Rattle.acn_grammar.specs.Length.{ending}
 use Rattle.acn_grammar.specs.Spell.{Part, ◌then◌, Padding, Fill, Spell, FormPart, FieldsPart, SlotField, RulePart, SizePart, RunPart, ListPart, CharactersPart, EndedPart, Window, IndexPart, AlternativePart, with_home}
+use Rattle.acn_grammar.specs.Tree.{IsTree}
 use Rattle.acn_grammar.specs.declared.node.ChoiceRule.{ChoiceRule}
 use Rattle.acn_grammar.specs.declared.node.ChoiceRule.TheVariants.{Index, Tests, Item}
 use Rattle.acn_grammar.specs.declared.node.NumCoding.{NumCoding}
@@ -334,5 +336,9 @@ module _ (root : Grammar) where
     case_one (alternative name g tests more) f rule env (suc i) d at a b t u = case_one more f.1 rule env i d at a b t u
     case_one no_alternatives f rule env i d at a b t u = absurd t.0
 
+-- a tree that is well formed writes a value in one way
+pub writing_of_a_tree : (root : Grammar) → IsTree root → (d : Data) (a b : List Bool) → IsWritten root d a → IsWritten root d b → a ≡ b
+writing_of_a_tree root tree d a b t u = node_one root root (tree_fine root tree) [] d 0 a b t u
+
 pub one_writing : OneWriting
-one_writing root d a b tree t u = node_one root root (tree_fine root tree.formed) [] d 0 a b t u
+one_writing root d a b accepted t u = writing_of_a_tree root accepted.formed d a b t u

@@ -210,7 +210,7 @@ past_inside = inr (record {
 abbrev narrow : List Bool
 narrow = bits_of (62 ∷ 137 ∷ [])
 
-past : Fails packet body ((0, pos 2) ∷ []) false 0 (7 ∷ []) 48 narrow (record { path = 7 ∷ 0 ∷ 2 ∷ []; reason = past_content; at = 62 }) 16
+pub past : Fails packet body ((0, pos 2) ∷ []) false 0 (7 ∷ []) 48 narrow (record { path = 7 ∷ 0 ∷ 2 ∷ []; reason = past_content; at = 62 }) 16
 past = inr (record {
   front = [];
   back = narrow;
@@ -233,8 +233,8 @@ past = inr (record {
 })
 
 -- the first octet is 20: version isn't 000
-bad_version : Refusal packet (bits_of (32 ∷ 100 ∷ [])) (record { path = 0 ∷ []; reason = bad_pattern; at = 0 }) 3
-bad_version = inr (record {
+pub bad_version : (rest : List Bool) → Refusal packet (bits_of (32 ∷ []) ++ rest) (record { path = 0 ∷ []; reason = bad_pattern; at = 0 }) 3
+bad_version rest = inr (record {
   front = [];
   back = _;
   whole = refl;

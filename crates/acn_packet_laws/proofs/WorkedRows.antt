@@ -1,18 +1,21 @@
 -- The worked packets: each as it is stated, and why its last case can't hold.
-use Rattle.std.proofs.Common.{◌≡◌, ℕ, ◌+◌, ◌≤◌, pos, Bool, true, false, List, [], ◌∷◌, ◌++◌, length, take, replicate, Some, None, refl, sym, ap, inl, inr, subst, ◌∙◌, arith}
+use Rattle.std.proofs.Common.{◌≡◌, ℕ, suc, ◌+◌, ◌<◌, ◌≤◌, pos, Bool, true, false, List, [], ◌∷◌, ◌++◌, length, take, replicate, Some, None, refl, sym, ap, inl, inr, subst, ◌∙◌, arith}
 use Rattle.std.proofs.lemmas.Int.{ints}
 use Rattle.std.proofs.lemmas.List.{append-nil, length-take-le}
 use Rattle.acn_num.specs.Bits.{low_bits, bits as bits_of}
 use Rattle.acn_num.specs.Ranges.{In}
-use Rattle.acn_grammar.specs.Code.{Mode, Written, Any}
+use Rattle.acn_grammar.specs.Code.{Mode, Written, Any, Code}
 use Rattle.acn_grammar.specs.Env.{Env}
 use Rattle.acn_grammar.specs.Fails.{Fault, Fails, Refusal}
 use Rattle.acn_grammar.specs.LeafFails.{short, size_out_of_range, content_size}
-use Rattle.acn_grammar.specs.declared.node.NumKind.TheVariants.{Null}
-use Rattle.acn_grammar.specs.declared.node.NumCoding.TheVariants.{Fixed}
+use Rattle.acn_grammar.specs.declared.node.NumKind.TheVariants.{Integer, Null}
+use Rattle.acn_grammar.specs.declared.node.NumCoding.TheVariants.{PosInt, Fixed}
 use Rattle.acn_grammar.specs.Front.{IsWritten, Front}
 use Rattle.acn_grammar.specs.Grammar.{Grammar, Data, node, num, int, boolean, item, null, characters, octet_string, record_of, list_of, no_places, empty, filled}
+use Rattle.acn_grammar.specs.Interval.{span}
 use Rattle.acn_grammar.specs.Spell.{Spell, Padding}
+use Rattle.acn_grammar.specs.Tree.{IsTree}
+use Rattle.acn_grammar.specs.declared.limits.TheConstants.{MOST_PACKET_BITS}
 use Rattle.acn_packet_laws.specs.WorkedRows as rows
 use Rattle.acn_packet_laws.specs.WorkedRows.{two, two_integers, sized_octets, one_size, uneven, flagged, ended_text, one_of_two, aligned, optional, up_to_five, zeros, body, telemetry}
 use Rattle.acn_packet_laws.proofs.AskRows as ask_rows
@@ -24,7 +27,7 @@ use Rattle.acn_packet_laws.proofs.TelemetryRows as telemetry_rows
 use Rattle.acn_packet_laws.proofs.TextRows as text_rows
 use Rattle.acn_packet_laws.proofs.BoundsLaw.{bounds_hold}
 
-none : (mode : Mode) (at : ℕ) → Padding mode 1 at []
+pub none : (mode : Mode) (at : ℕ) → Padding mode 1 at []
 none mode at = record { aligned = omega arith; fewest = omega arith; zeros = λ _. refl }
 
 -- SEQUENCEs.
@@ -38,18 +41,16 @@ nine_never bs w =
 pub fields_follow_each_other_law : rows.FieldsFollowEachOther
 fields_follow_each_other_law = record { written = packet_rows.five_three; bounds = refl; never = nine_never }
 
-eight_few : (d : Data) (n : ℕ) → Front two_integers (bits_of (5 ∷ [])) d n → ⊥
-eight_few d n f =
+-- no value stands at the front of fewer bits than the least of its tree
+pub few_bits : (root : Grammar) → IsTree root → (span root).greatest ≤ MOST_PACKET_BITS → (input : List Bool) → length input < (span root).least → (d : Data) (n : ℕ) → Front root input d n → ⊥
+few_bits root tree most input fewer d n f =
     let within = f.within in
-    let b = bounds_hold two_integers Any d (take n (bits_of (5 ∷ []))) refl (omega arith) f.spelled in
-    let l = length-take-le n (bits_of (5 ∷ [])) f.within in
-    few n within (subst (λ m. 11 ≤ m) l b.0)
-  where
-    few : (n : ℕ) → n ≤ 8 → 11 ≤ n → ⊥
-    few n h k = omega arith
+    let b = bounds_hold root Any d (take n input) tree most f.spelled in
+    let l = length-take-le n input f.within in
+    absurd (omega (arith, l, b.0))
 
 pub an_end_of_bits_is_short_law : rows.AnEndOfBitsIsShort
-an_end_of_bits_is_short_law = record { refused = packet_rows.one_octet; never = eight_few }
+an_end_of_bits_is_short_law = record { refused = packet_rows.one_octet; never = few_bits two_integers refl (omega arith) (bits_of (5 ∷ [])) (omega arith) }
 
 -- Determinants.
 
@@ -356,12 +357,13 @@ module _ (root : Grammar) (env : Env) where
   fixed_part : (pattern : List Bool) (at : ℕ) → Spell root Any (node 1 (num (record { kind = Null; set = (pos 0, pos 0) ∷ []; coding = Fixed pattern; little = false; table = None; items = record { items = []; values = false } }))) env null at pattern
   fixed_part pattern at = record { front = []; back = _; whole = refl; first = none Any at; second = (pos 0, refl, record { permitted = refl; image = pos 0; maps = refl; spelled = (refl, refl) }) }
 
--- what fails in the body fails in the packet, behind a header that says four octets
-abbrev header : List Bool
-header = bits_of (0 ∷ 100 ∷ 192 ∷ 7 ∷ 0 ∷ 3 ∷ [])
+abbrev pub LengthCode : ℕ → Type 0
+LengthCode k = Code Any (record { kind = Integer; set = (pos 1, pos 65536) ∷ []; coding = PosInt 16; little = false; table = Some (record { name = 109 ∷ []; lines = (pos 1, pos 65536, pos 0) ∷ [] }); items = record { items = []; values = false } }) (pos (suc k)) (low_bits 16 k)
 
-in_packet : (behind : List Bool) (fault : Fault) (more : ℕ) → Fails telemetry body ((0, pos 4) ∷ []) false 0 (7 ∷ []) 48 behind fault more → Refusal telemetry (header ++ behind) fault (48 + more)
-in_packet behind fault more f = inr (record {
+-- what fails in the body fails in the packet, behind a header that says k and one more octets
+pub in_packet : (k : ℕ) → LengthCode k → (behind : List Bool) (fault : Fault) (more : ℕ) → Fails telemetry body ((0, pos (suc k)) ∷ []) false 0 (7 ∷ []) 48 behind fault more
+    → Refusal telemetry (bits_of (0 ∷ 100 ∷ 192 ∷ 7 ∷ []) ++ (low_bits 16 k ++ behind)) fault (48 + more)
+in_packet k code behind fault more f = inr (record {
   front = [];
   back = _;
   whole = refl;
@@ -369,9 +371,9 @@ in_packet behind fault more f = inr (record {
   more = 48 + more;
   reaches = omega arith;
   fails = inr (
-    pos 4 ∷ [],
+    pos (suc k) ∷ [],
     refl,
-    (refl, tt),
+    (code.permitted, tt),
     (
       omega arith,
       (
@@ -380,21 +382,21 @@ in_packet behind fault more f = inr (record {
           front = false ∷ false ∷ false ∷ [];
           back = _;
           whole = refl;
-          spelled = fixed_part telemetry ((0, pos 4) ∷ []) (false ∷ false ∷ false ∷ []) 0;
+          spelled = fixed_part telemetry ((0, pos (suc k)) ∷ []) (false ∷ false ∷ false ∷ []) 0;
           more = 45 + more;
           reaches = omega arith;
           fails = inr (record {
             front = false ∷ [];
             back = _;
             whole = refl;
-            spelled = fixed_part telemetry ((0, pos 4) ∷ []) (false ∷ []) 3;
+            spelled = fixed_part telemetry ((0, pos (suc k)) ∷ []) (false ∷ []) 3;
             more = 44 + more;
             reaches = omega arith;
             fails = inr (record {
               front = false ∷ [];
               back = _;
               whole = refl;
-              spelled = fixed_part telemetry ((0, pos 4) ∷ []) (false ∷ []) 4;
+              spelled = fixed_part telemetry ((0, pos (suc k)) ∷ []) (false ∷ []) 4;
               more = 43 + more;
               reaches = omega arith;
               fails = inl (
@@ -412,7 +414,7 @@ in_packet behind fault more f = inr (record {
                       front = true ∷ true ∷ [];
                       back = _;
                       whole = refl;
-                      spelled = fixed_part telemetry ((0, pos 4) ∷ []) (true ∷ true ∷ []) 16;
+                      spelled = fixed_part telemetry ((0, pos (suc k)) ∷ []) (true ∷ true ∷ []) 16;
                       more = 30 + more;
                       reaches = omega arith;
                       fails = inl (
@@ -427,10 +429,10 @@ in_packet behind fault more f = inr (record {
                             more = 16 + more;
                             reaches = omega arith;
                             fails = inr (record {
-                              front = low_bits 16 3;
+                              front = low_bits 16 k;
                               back = behind;
                               whole = refl;
-                              spelled = (pos 4, refl, record { front = []; back = _; whole = refl; first = none Any 32; second = record { permitted = refl; image = pos 3; maps = refl; spelled = (refl, refl) } });
+                              spelled = (pos (suc k), refl, record { front = []; back = _; whole = refl; first = none Any 32; second = code });
                               more = more;
                               reaches = omega arith;
                               fails = inl (tt, inl f);
@@ -451,15 +453,16 @@ in_packet behind fault more f = inr (record {
   );
 })
 
-three_octets : (env : Env) (bs : List Bool) → Spell telemetry Any body env (record_of (filled (int (pos 1000)) (filled (item 2) (filled (int (pos 1)) no_places)))) 48 bs → length bs ≡ 32 → ⊥
-three_octets env bs w h = let l = length_law telemetry Any body (refl, (refl, (refl, tt))) env (record_of (filled (int (pos 1000)) (filled (item 2) (filled (int (pos 1)) no_places)))) 48 bs w in differ (length bs) l h
-  where
-    differ : (n : ℕ) → n ≡ 24 → n ≡ 32 → ⊥
-    differ n e f = absurd (omega arith)
+-- the contents never stand in another number of bits than three octets
+pub three_octets : (env : Env) (bs : List Bool) (n : ℕ) → (n ≡ 24 → ⊥) → Spell telemetry Any body env (record_of (filled (int (pos 1000)) (filled (item 2) (filled (int (pos 1)) no_places)))) 48 bs → length bs ≡ n → ⊥
+three_octets env bs n other w h = other (sym h ∙ length_law telemetry Any body (refl, (refl, (refl, tt))) env (record_of (filled (int (pos 1000)) (filled (item 2) (filled (int (pos 1)) no_places)))) 48 bs w)
+
+four_octets : LengthCode 3
+four_octets = record { permitted = refl; image = pos 3; maps = refl; spelled = (refl, refl) }
 
 pub contents_fill_their_octets_law : rows.ContentsFillTheirOctets
 contents_fill_their_octets_law = record {
-  refused = in_packet (bits_of (62 ∷ 137 ∷ 72 ∷ 0 ∷ [])) (record { path = 7 ∷ []; reason = content_size 4 21; at = 48 }) 32 telemetry_rows.overlong;
-  cut = in_packet (bits_of (62 ∷ 137 ∷ 72 ∷ [])) (record { path = 7 ∷ []; reason = short; at = 48 }) 24 telemetry_rows.cut_short;
-  never = three_octets;
+  refused = in_packet 3 four_octets (bits_of (62 ∷ 137 ∷ 72 ∷ 0 ∷ [])) (record { path = 7 ∷ []; reason = content_size 4 21; at = 48 }) 32 telemetry_rows.overlong;
+  cut = in_packet 3 four_octets (bits_of (62 ∷ 137 ∷ 72 ∷ [])) (record { path = 7 ∷ []; reason = short; at = 48 }) 24 telemetry_rows.cut_short;
+  never = λ env bs. three_octets env bs 32 (λ e. absurd (omega (arith, e)));
 }

@@ -17,11 +17,16 @@ pub use laws::{
     written_is_read,
 };
 pub use row_laws::{
-    a_component_determines, a_count_is_the_least, a_pattern_ends_the_list,
-    a_pattern_has_a_complement, a_size_stands_in_front, a_size_stands_in_its_field,
-    a_terminator_ends_the_text, an_end_of_bits_is_short, characters_stand_by_their_places,
-    conditions_that_are_missed_are_avoided, contents_fill_their_octets,
-    digits_with_an_end_are_least, each_digit_is_below_ten, fields_follow_each_other,
-    padding_is_read_in_any_way, presence_bits_stand_in_front, sizes_in_one_field_agree,
-    unsound_nodes_are_told, what_nothing_asks_about_is_least, zero_has_no_minus,
+    a_component_determines, a_count_begins_at_the_lowest, a_count_is_the_least,
+    a_header_and_its_contents, a_pattern_ends_the_list, a_pattern_has_a_complement,
+    a_size_stands_in_front, a_size_stands_in_its_field, a_terminator_ends_the_text,
+    an_element_is_named_by_its_place, an_end_of_bits_is_short, an_ended_list_names_its_elements,
+    an_index_chooses, an_item_chooses, characters_stand_by_their_places,
+    characters_with_an_end_are_least, conditions_choose, conditions_that_are_missed_are_avoided,
+    contents_end_inside_a_field, contents_fill_their_octets, digits_with_an_end_are_least,
+    each_digit_is_below_ten, each_element_has_its_size, fields_follow_each_other,
+    items_have_places_and_numbers, little_turns_the_octets, padding_is_read_in_any_way,
+    padding_may_be_short, presence_bits_may_be_short, presence_bits_stand_in_front,
+    sizes_in_one_field_agree, twos_complement_has_a_sign, unsound_nodes_are_told,
+    what_nothing_asks_about_is_least, zero_has_no_minus,
 };

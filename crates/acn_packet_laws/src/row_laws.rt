@@ -1,5 +1,10 @@
 //! Packets that are worked by hand, as laws of the definitions.
 
+ghost use Rattle.acn_packet_laws.specs.ChoiceRows.{AnIndexChooses, ConditionsChoose, AnItemChooses};
+ghost use Rattle.acn_packet_laws.specs.ContentRows.{AHeaderAndItsContents, ContentsEndInsideAField};
+ghost use Rattle.acn_packet_laws.specs.ListRows.{AnEndedListNamesItsElements, EachElementHasItsSize};
+ghost use Rattle.acn_packet_laws.specs.NumberRows.{LittleTurnsTheOctets, TwosComplementHasASign, ACountBeginsAtTheLowest, CharactersWithAnEndAreLeast, ItemsHavePlacesAndNumbers};
+ghost use Rattle.acn_packet_laws.specs.PlaceRows.{PresenceBitsMayBeShort, PaddingMayBeShort, AnElementIsNamedByItsPlace};
 ghost use Rattle.acn_packet_laws.specs.RequestRows.{APatternEndsTheList, AComponentDetermines, UnsoundNodesAreTold};
 ghost use Rattle.acn_packet_laws.specs.WorkedRows.{FieldsFollowEachOther, AnEndOfBitsIsShort, ASizeStandsInItsField, SizesInOneFieldAgree, WhatNothingAsksAboutIsLeast, EachDigitIsBelowTen, ATerminatorEndsTheText, ConditionsThatAreMissedAreAvoided, PaddingIsReadInAnyWay, ACountIsTheLeast, APatternHasAComplement, ZeroHasNoMinus, DigitsWithAnEndAreLeast, CharactersStandByTheirPlaces, PresenceBitsStandInFront, ASizeStandsInFront, ContentsFillTheirOctets};
 
@@ -101,4 +106,79 @@ pub fn a_component_determines()
 /// A node that a reader can't follow isn't sound.
 pub fn unsound_nodes_are_told()
     ensures { UnsoundNodesAreTold }
+{}
+
+/// The index of an alternative stands in front of it, and one that no alternative has is refused.
+pub fn an_index_chooses()
+    ensures { AnIndexChooses }
+{}
+
+/// An alternative stands behind a number that meets its conditions, and a number that meets none is refused.
+pub fn conditions_choose()
+    ensures { ConditionsChoose }
+{}
+
+/// An alternative stands behind the item of its name, and an item whose name no alternative has is refused.
+pub fn an_item_chooses()
+    ensures { AnItemChooses }
+{}
+
+/// A header says how many octets its contents fill, and the bits behind the contents are written as zeros and read in any way.
+pub fn a_header_and_its_contents()
+    ensures { AHeaderAndItsContents }
+{}
+
+/// Contents that end inside a field are refused at that field, and a header of another version at its first bits.
+pub fn contents_end_inside_a_field()
+    ensures { ContentsEndInsideAField }
+{}
+
+/// A number whose octets are in the other order has its least octet in front.
+pub fn little_turns_the_octets()
+    ensures { LittleTurnsTheOctets }
+{}
+
+/// A number in two's complement has its sign in its first bit, and one outside its range is refused.
+pub fn twos_complement_has_a_sign()
+    ensures { TwosComplementHasASign }
+{}
+
+/// Behind a count of octets stands the difference from the lowest number, in as few octets as hold it.
+pub fn a_count_begins_at_the_lowest()
+    ensures { ACountBeginsAtTheLowest }
+{}
+
+/// A number in characters with an end has a sign where it may be negative, no zero in front, and no minus before zero.
+pub fn characters_with_an_end_are_least()
+    ensures { CharactersWithAnEndAreLeast }
+{}
+
+/// An item is written as its place in the order of the numbers, or as its own number where values are encoded.
+pub fn items_have_places_and_numbers()
+    ensures { ItemsHavePlacesAndNumbers }
+{}
+
+/// Bits that end inside presence bits are Short at their SEQUENCE, and no value stands at their front.
+pub fn presence_bits_may_be_short()
+    ensures { PresenceBitsMayBeShort }
+{}
+
+/// Bits that end inside padding are Short at the node behind it, where the padding begins.
+pub fn padding_may_be_short()
+    ensures { PaddingMayBeShort }
+{}
+
+/// An element that can't be read is named by its place in the list and by its first bit.
+pub fn an_element_is_named_by_its_place()
+    ensures { AnElementIsNamedByItsPlace }
+{}
+
+/// An element of a list that a pattern ends is named by its place, also where its bits and those of the pattern are wanting.
+pub fn an_ended_list_names_its_elements()
+    ensures { AnEndedListNamesItsElements }
+{}
+
+/// Each element of a list has the determinants that are at home in it.
+pub fn each_element_has_its_size()
+    ensures { EachElementHasItsSize }
 {}

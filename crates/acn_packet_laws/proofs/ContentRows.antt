@@ -1,0 +1,190 @@
+-- A packet of telemetry as it is written and read, and contents that end inside a field.
+use Rattle.std.proofs.Common.{◌≡◌, ℕ, pos, Bool, true, false, List, [], ◌∷◌, ◌++◌, drop, Some, None, refl, ap, arith}
+use Rattle.std.proofs.lemmas.Int.{ints}
+use Rattle.acn_num.specs.Bits.{number, low_bits, bits as bits_of}
+use Rattle.acn_grammar.specs.Code.{Mode, Written, Any}
+use Rattle.acn_grammar.specs.Env.{Env, at_slot}
+use Rattle.acn_grammar.specs.Grammar.{node, num, null}
+use Rattle.acn_grammar.specs.LeafFails.{past_content}
+use Rattle.acn_grammar.specs.Spell.{Spell, Fill}
+use Rattle.acn_grammar.specs.declared.node.NumCoding.TheVariants.{Fixed}
+use Rattle.acn_grammar.specs.declared.node.NumKind.TheVariants.{Null}
+use Rattle.acn_packet_laws.specs.ContentRows.{warm, seventh, AHeaderAndItsContents, ContentsEndInsideAField}
+use Rattle.acn_packet_laws.specs.WorkedRows.{body, housekeeping, telemetry}
+use Rattle.acn_packet_laws.proofs.OneWriting.{writing_of_a_tree}
+use Rattle.acn_packet_laws.proofs.TelemetryRows.{past, bad_version}
+use Rattle.acn_packet_laws.proofs.WorkedRows.{none, LengthCode, in_packet, three_octets}
+
+module _ (mode : Mode) (env : Env) where
+  fixed_part : (pattern : List Bool) (at : ℕ) → Spell telemetry mode (node 1 (num (record { kind = Null; set = (pos 0, pos 0) ∷ []; coding = Fixed pattern; little = false; table = None; items = record { items = []; values = false } }))) env null at pattern
+  fixed_part pattern at = record { front = []; back = _; whole = refl; first = none mode at; second = (pos 0, refl, record { permitted = refl; image = pos 0; maps = refl; spelled = (refl, refl) }) }
+
+  contents : Spell telemetry mode housekeeping env warm 0 (low_bits 12 1000 ++ (low_bits 2 2 ++ low_bits 7 41))
+  contents = record {
+    front = [];
+    back = _;
+    whole = refl;
+    first = none mode 0;
+    second = record {
+      numbers = [];
+      fine = record { count = refl; permitted = tt; least = λ _. tt };
+      spelled = record {
+        front = [];
+        back = _;
+        whole = refl;
+        first = refl;
+        second = record {
+          front = low_bits 12 1000;
+          back = low_bits 2 2 ++ low_bits 7 41;
+          whole = refl;
+          first = record {
+            given = (tt, tt);
+            spelled = record { front = []; back = _; whole = refl; first = none mode 0; second = (pos 1000, refl, record { permitted = refl; image = pos 1000; maps = refl; spelled = (1000, refl, record { width = refl; value = refl }) }) };
+          };
+          second = record {
+            front = low_bits 2 2;
+            back = low_bits 7 41;
+            whole = refl;
+            first = record {
+              given = (tt, tt);
+              spelled = record { front = []; back = _; whole = refl; first = none mode 12; second = (pos 2, refl, record { permitted = refl; image = pos 2; maps = refl; spelled = (2, refl, record { width = refl; value = refl }) }) };
+            };
+            second = record {
+              front = low_bits 7 41;
+              back = [];
+              whole = refl;
+              first = record {
+                given = (tt, tt);
+                spelled = record { front = []; back = _; whole = refl; first = none mode 14; second = (pos 1, refl, record { permitted = refl; image = pos 1; maps = refl; spelled = (41, refl, record { width = refl; value = refl }) }) };
+              };
+              second = refl;
+            };
+          };
+        };
+      };
+    };
+  }
+
+  in_body : (a b c : Bool) → at_slot env 0 ≡ Some (pos 3) → Fill mode 21 (a ∷ b ∷ c ∷ []) → Spell telemetry mode body env warm 48 ((low_bits 12 1000 ++ (low_bits 2 2 ++ low_bits 7 41)) ++ a ∷ b ∷ c ∷ [])
+  in_body a b c three fill = record {
+    front = [];
+    back = _;
+    whole = refl;
+    first = none mode 48;
+    second = record {
+      some = 3;
+      spelled = record {
+        front = [];
+        back = _;
+        whole = refl;
+        first = record { given = refl; spelled = (three, refl) };
+        second = record { size = refl; inside = record { front = low_bits 12 1000 ++ (low_bits 2 2 ++ low_bits 7 41); back = a ∷ b ∷ c ∷ []; whole = refl; first = contents; second = fill } };
+      };
+    };
+  }
+
+in_three_octets : (mode : Mode) (a b c : Bool) → Fill mode 21 (a ∷ b ∷ c ∷ [])
+    → Spell telemetry mode telemetry [] seventh 0 (bits_of (0 ∷ 100 ∷ 192 ∷ 7 ∷ 0 ∷ 2 ∷ []) ++ ((low_bits 12 1000 ++ (low_bits 2 2 ++ low_bits 7 41)) ++ a ∷ b ∷ c ∷ []))
+in_three_octets mode a b c fill = record {
+  front = [];
+  back = _;
+  whole = refl;
+  first = none mode 0;
+  second = record {
+    numbers = pos 3 ∷ [];
+    fine = record {
+      count = refl;
+      permitted = (refl, tt);
+      least = λ _. (record { answers = record { permitted = refl; meets = (refl, tt) }; first = λ y e. omega (arith, ints, e.meets.0) }, tt);
+    };
+    spelled = record {
+      front = [];
+      back = _;
+      whole = refl;
+      first = refl;
+      second = record {
+        front = false ∷ false ∷ false ∷ [];
+        back = _;
+        whole = refl;
+        first = fixed_part mode ((0, pos 3) ∷ []) (false ∷ false ∷ false ∷ []) 0;
+        second = record {
+          front = false ∷ [];
+          back = _;
+          whole = refl;
+          first = fixed_part mode ((0, pos 3) ∷ []) (false ∷ []) 3;
+          second = record {
+            front = false ∷ [];
+            back = _;
+            whole = refl;
+            first = fixed_part mode ((0, pos 3) ∷ []) (false ∷ []) 4;
+            second = record {
+              front = low_bits 11 100;
+              back = _;
+              whole = refl;
+              first = record {
+                given = (tt, tt);
+                spelled = record { front = []; back = _; whole = refl; first = none mode 5; second = (pos 100, refl, record { permitted = refl; image = pos 100; maps = refl; spelled = (refl, refl) }) };
+              };
+              second = record {
+                front = true ∷ true ∷ [];
+                back = _;
+                whole = refl;
+                first = fixed_part mode ((0, pos 3) ∷ []) (true ∷ true ∷ []) 16;
+                second = record {
+                  front = low_bits 14 7;
+                  back = _;
+                  whole = refl;
+                  first = record {
+                    given = (tt, tt);
+                    spelled = record { front = []; back = _; whole = refl; first = none mode 18; second = (pos 7, refl, record { permitted = refl; image = pos 7; maps = refl; spelled = (refl, refl) }) };
+                  };
+                  second = record {
+                    front = low_bits 16 2;
+                    back = _;
+                    whole = refl;
+                    first = (pos 3, refl, record { front = []; back = _; whole = refl; first = none mode 32; second = record { permitted = refl; image = pos 2; maps = refl; spelled = (refl, refl) } });
+                    second = record {
+                      front = (low_bits 12 1000 ++ (low_bits 2 2 ++ low_bits 7 41)) ++ a ∷ b ∷ c ∷ [];
+                      back = [];
+                      whole = refl;
+                      first = record { given = (tt, tt); spelled = in_body mode ((0, pos 3) ∷ []) a b c refl fill };
+                      second = refl;
+                    };
+                  };
+                };
+              };
+            };
+          };
+        };
+      };
+    };
+  };
+}
+
+zeros : Fill Written 21 (false ∷ false ∷ false ∷ [])
+zeros = record { aligned = refl; few = omega arith; zeros = λ _. refl }
+
+any : Fill Any 21 (true ∷ true ∷ true ∷ [])
+any = record { aligned = refl; few = omega arith; zeros = λ e. cc }
+
+last_octet : bits_of (0 ∷ 100 ∷ 192 ∷ 7 ∷ 0 ∷ 2 ∷ 62 ∷ 137 ∷ 72 ∷ []) ≡ bits_of (0 ∷ 100 ∷ 192 ∷ 7 ∷ 0 ∷ 2 ∷ 62 ∷ 137 ∷ 79 ∷ []) → ⊥
+last_octet e = absurd (let q : 72 ≡ 79 = ap (λ (z : List Bool). number (drop 64 z)) e in omega (arith, q))
+
+pub a_header_and_its_contents_law : AHeaderAndItsContents
+a_header_and_its_contents_law = record {
+  tree = refl;
+  bounds = refl;
+  written = in_three_octets Written false false false zeros;
+  read = record { within = omega arith; spelled = in_three_octets Any true true true any };
+  never = λ w. last_octet (writing_of_a_tree telemetry refl seventh _ _ (in_three_octets Written false false false zeros) w);
+}
+
+two_octets : LengthCode 1
+two_octets = record { permitted = refl; image = pos 1; maps = refl; spelled = (refl, refl) }
+
+pub contents_end_inside_a_field_law : ContentsEndInsideAField
+contents_end_inside_a_field_law = record {
+  refused = in_packet 1 two_octets (bits_of (62 ∷ 137 ∷ [])) (record { path = 7 ∷ 0 ∷ 2 ∷ []; reason = past_content; at = 62 }) 16 past;
+  version = bad_version;
+  never = λ env bs. three_octets env bs 16 (λ e. absurd (omega (arith, e)));
+}
