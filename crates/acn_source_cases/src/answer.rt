@@ -5,7 +5,9 @@ use crate::graph::{long_ring_told, ring_told};
 use crate::looking::{
     chain_told, entry_told, find_told, lookup_told, roots_told, table_told, value_told,
 };
-use crate::measure::{chain_of_t, characters_of_t, count_of_t, numbers_of_t, sizes_of_t};
+use crate::measure::{
+    chain_of_t, characters_of_t, count_of_t, numbers_of_t, sizes_of_t, text_of_t,
+};
 use crate::names::told;
 use crate::reading::{kept_told, print_told, tokens_told};
 use crate::sheet::{Question, Sheet};
@@ -35,6 +37,7 @@ fn looked_up(
         Question::Count => count_of_t(alloc, world),
         Question::Sizes => sizes_of_t(alloc, world),
         Question::Characters => characters_of_t(alloc, world),
+        Question::Text => text_of_t(alloc, world),
         _ => Err(Trouble::Absent),
     }
 }

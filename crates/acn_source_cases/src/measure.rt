@@ -2,7 +2,7 @@
 
 use crate::trouble::Trouble;
 use acn_asn_syntax::AsnValue;
-use acn_constraint::{ConstraintFault, OpenSet, alphabet_of, range_of, size_of};
+use acn_constraint::{ConstraintFault, OpenSet, TextSets, alphabet_of, range_of, size_of, text_of};
 use acn_num::RangeSet;
 use acn_world::{Chain, World};
 use std::alloc::Global;
@@ -102,6 +102,22 @@ pub fn characters_of_t(alloc: Global, world: &World) -> Result<String, Trouble> 
     let chain = chain_of_t(alloc, world)?;
     match alphabet_of(alloc, world, &chain) {
         Ok(characters) => ranges_in_words(alloc, &characters),
+        Err(fault) => fault_in_words(alloc, fault),
+    }
+}
+
+// The sizes and the characters.
+fn text_in_words(alloc: Global, sets: &TextSets) -> Result<String, Trouble> {
+    let sizes = ranges_in_words(alloc, &sets.sizes)?;
+    let characters = ranges_in_words(alloc, &sets.characters)?;
+    Ok(format!(in alloc; "{sizes} of {characters}")?)
+}
+
+/// The sizes and the characters of the type of t in this world in words, or the one fault of both.
+pub fn text_of_t(alloc: Global, world: &World) -> Result<String, Trouble> {
+    let chain = chain_of_t(alloc, world)?;
+    match text_of(alloc, world, &chain) {
+        Ok(sets) => text_in_words(alloc, &sets),
         Err(fault) => fault_in_words(alloc, fault),
     }
 }

@@ -42,6 +42,8 @@ pub enum Question {
     Sizes,
     /// Its characters.
     Characters,
+    /// Its sizes and characters together.
+    Text,
     /// The way of the first node of a graph that leads to itself.
     Ring,
     /// The same in a long chain.
@@ -103,6 +105,7 @@ fn more_questions_of(word: &str) -> Option<Question> {
         "count" => Some(Question::Count),
         "sizes" => Some(Question::Sizes),
         "characters" => Some(Question::Characters),
+        "text" => Some(Question::Text),
         "ring" => Some(Question::Ring),
         "long-ring" => Some(Question::LongRing),
         _ => None,
