@@ -67,6 +67,7 @@ mod Rows
 mod Scoping
 mod ShortLeaves
 mod ShortNear
+mod SizeRows
 mod SlotLeaves
 mod SoundLaws
 mod SoundNodes

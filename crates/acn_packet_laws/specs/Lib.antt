@@ -5,4 +5,5 @@ pub mod ListRows
 pub mod NumberRows
 pub mod PlaceRows
 pub mod RequestRows
+pub mod SizeRows
 pub mod WorkedRows

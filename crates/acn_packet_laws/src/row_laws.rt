@@ -6,6 +6,7 @@ ghost use Rattle.acn_packet_laws.specs.ListRows.{AnEndedListNamesItsElements, Ea
 ghost use Rattle.acn_packet_laws.specs.NumberRows.{LittleTurnsTheOctets, TwosComplementHasASign, ACountBeginsAtTheLowest, CharactersWithAnEndAreLeast, ItemsHavePlacesAndNumbers};
 ghost use Rattle.acn_packet_laws.specs.PlaceRows.{PresenceBitsMayBeShort, PaddingMayBeShort, AnElementIsNamedByItsPlace};
 ghost use Rattle.acn_packet_laws.specs.RequestRows.{APatternEndsTheList, AComponentDetermines, UnsoundNodesAreTold};
+ghost use Rattle.acn_packet_laws.specs.SizeRows.{SizesStandInFrontOfStrings, ASizeStandsInAnInnerSequence, ASizeNeedsItsNumber};
 ghost use Rattle.acn_packet_laws.specs.WorkedRows.{FieldsFollowEachOther, AnEndOfBitsIsShort, ASizeStandsInItsField, SizesInOneFieldAgree, WhatNothingAsksAboutIsLeast, EachDigitIsBelowTen, ATerminatorEndsTheText, ConditionsThatAreMissedAreAvoided, PaddingIsReadInAnyWay, ACountIsTheLeast, APatternHasAComplement, ZeroHasNoMinus, DigitsWithAnEndAreLeast, CharactersStandByTheirPlaces, PresenceBitsStandInFront, ASizeStandsInFront, ContentsFillTheirOctets};
 
 /// The fields of a SEQUENCE follow each other, and a number that isn't permitted is never written.
@@ -181,4 +182,19 @@ pub fn an_ended_list_names_its_elements()
 /// Each element of a list has the determinants that are at home in it.
 pub fn each_element_has_its_size()
     ensures { EachElementHasItsSize }
+{}
+
+/// The size of a string of bits or octets stands in front of it, and one that isn't permitted is refused.
+pub fn sizes_stand_in_front_of_strings()
+    ensures { SizesStandInFrontOfStrings }
+{}
+
+/// A size may stand in a field of an inner SEQUENCE, in front of what it determines.
+pub fn a_size_stands_in_an_inner_sequence()
+    ensures { ASizeStandsInAnInnerSequence }
+{}
+
+/// A size that is no permitted number of its field is refused and never written.
+pub fn a_size_needs_its_number()
+    ensures { ASizeNeedsItsNumber }
 {}
