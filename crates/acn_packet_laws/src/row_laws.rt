@@ -3,7 +3,7 @@
 ghost use Rattle.acn_packet_laws.specs.ChoiceRows.{AnIndexChooses, ConditionsChoose, AnItemChooses};
 ghost use Rattle.acn_packet_laws.specs.ContentRows.{AHeaderAndItsContents, ContentsEndInsideAField};
 ghost use Rattle.acn_packet_laws.specs.ListRows.{AnEndedListNamesItsElements, EachElementHasItsSize};
-ghost use Rattle.acn_packet_laws.specs.NumberRows.{LittleTurnsTheOctets, TwosComplementHasASign, ACountBeginsAtTheLowest, CharactersWithAnEndAreLeast, ItemsHavePlacesAndNumbers};
+ghost use Rattle.acn_packet_laws.specs.NumberRows.{LittleTurnsTheOctets, TwosComplementHasASign, ACountBeginsAtTheLowest, CharactersWithAnEndAreLeast, ItemsHavePlacesAndNumbers, DigitsHaveAnEnd, ATableMapsTheNumbers};
 ghost use Rattle.acn_packet_laws.specs.PlaceRows.{PresenceBitsMayBeShort, PaddingMayBeShort, AnElementIsNamedByItsPlace};
 ghost use Rattle.acn_packet_laws.specs.RequestRows.{APatternEndsTheList, AComponentDetermines, UnsoundNodesAreTold};
 ghost use Rattle.acn_packet_laws.specs.SizeRows.{SizesStandInFrontOfStrings, ASizeStandsInAnInnerSequence, ASizeNeedsItsNumber};
@@ -197,4 +197,14 @@ pub fn a_size_stands_in_an_inner_sequence()
 /// A size that is no permitted number of its field is refused and never written.
 pub fn a_size_needs_its_number()
     ensures { ASizeNeedsItsNumber }
+{}
+
+/// Decimal digits with an end have one, have a digit in front of it, and no more digits than the greatest number.
+pub fn digits_have_an_end()
+    ensures { DigitsHaveAnEnd }
+{}
+
+/// A number under a table is written as its image, and one that is no image is refused as it stands.
+pub fn a_table_maps_the_numbers()
+    ensures { ATableMapsTheNumbers }
 {}
