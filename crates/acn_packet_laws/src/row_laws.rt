@@ -1,7 +1,7 @@
 //! Packets that are worked by hand, as laws of the definitions.
 
 ghost use Rattle.acn_packet_laws.specs.ChoiceRows.{AnIndexChooses, ConditionsChoose, AnItemChooses};
-ghost use Rattle.acn_packet_laws.specs.ContentRows.{AHeaderAndItsContents, ContentsEndInsideAField};
+ghost use Rattle.acn_packet_laws.specs.ContentRows.{AHeaderAndItsContents, ContentsEndInsideAField, ContentsBeginAtZero};
 ghost use Rattle.acn_packet_laws.specs.ListRows.{AnEndedListNamesItsElements, EachElementHasItsSize};
 ghost use Rattle.acn_packet_laws.specs.NumberRows.{LittleTurnsTheOctets, TwosComplementHasASign, ACountBeginsAtTheLowest, CharactersWithAnEndAreLeast, ItemsHavePlacesAndNumbers, DigitsHaveAnEnd, ATableMapsTheNumbers};
 ghost use Rattle.acn_packet_laws.specs.PlaceRows.{PresenceBitsMayBeShort, PaddingMayBeShort, AnElementIsNamedByItsPlace};
@@ -207,4 +207,9 @@ pub fn digits_have_an_end()
 /// A number under a table is written as its image, and one that is no image is refused as it stands.
 pub fn a_table_maps_the_numbers()
     ensures { ATableMapsTheNumbers }
+{}
+
+/// Positions inside contents begin at zero, and a failure in them is named by its bit in the packet.
+pub fn contents_begin_at_zero()
+    ensures { ContentsBeginAtZero }
 {}
