@@ -6,6 +6,7 @@ mod BoundsLaw
 mod ChoiceRows
 -- for acn_check
 pub mod Codes
+mod ConditionRows
 mod ContentRows
 mod Contents
 mod CountedTotal

@@ -1,4 +1,5 @@
 pub mod ChoiceRows
+pub mod ConditionRows
 pub mod ContentRows
 pub mod Laws
 pub mod ListRows

@@ -1,6 +1,7 @@
 //! Packets that are worked by hand, as laws of the definitions.
 
 ghost use Rattle.acn_packet_laws.specs.ChoiceRows.{AnIndexChooses, ConditionsChoose, AnItemChooses};
+ghost use Rattle.acn_packet_laws.specs.ConditionRows.{TheLeastThatIsMissed, ASizeMeetsACondition};
 ghost use Rattle.acn_packet_laws.specs.ContentRows.{AHeaderAndItsContents, ContentsEndInsideAField, ContentsBeginAtZero};
 ghost use Rattle.acn_packet_laws.specs.ListRows.{AnEndedListNamesItsElements, EachElementHasItsSize};
 ghost use Rattle.acn_packet_laws.specs.NumberRows.{LittleTurnsTheOctets, TwosComplementHasASign, ACountBeginsAtTheLowest, CharactersWithAnEndAreLeast, ItemsHavePlacesAndNumbers, DigitsHaveAnEnd, ATableMapsTheNumbers};
@@ -212,4 +213,14 @@ pub fn a_table_maps_the_numbers()
 /// Positions inside contents begin at zero, and a failure in them is named by its bit in the packet.
 pub fn contents_begin_at_zero()
     ensures { ContentsBeginAtZero }
+{}
+
+/// A number that conditions avoid is written as the least that they leave, and read as any of these.
+pub fn the_least_that_is_missed()
+    ensures { TheLeastThatIsMissed }
+{}
+
+/// A size that would meet the condition of a component that is absent is refused and never written.
+pub fn a_size_meets_a_condition()
+    ensures { ASizeMeetsACondition }
 {}
