@@ -11,6 +11,7 @@ mod ContentRows
 mod Contents
 mod CountedTotal
 mod EachWritten
+mod EndRows
 mod EndedExclusion
 mod EndedListFails
 mod EndedLists

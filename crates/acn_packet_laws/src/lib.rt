@@ -22,7 +22,7 @@ pub use row_laws::{
     a_size_meets_a_condition, a_size_needs_its_number, a_size_stands_in_an_inner_sequence,
     a_size_stands_in_front, a_size_stands_in_its_field, a_table_maps_the_numbers,
     a_terminator_ends_the_text, an_element_is_named_by_its_place, an_end_of_bits_is_short,
-    an_ended_list_names_its_elements, an_index_chooses, an_item_chooses,
+    an_end_of_two_octets, an_ended_list_names_its_elements, an_index_chooses, an_item_chooses,
     characters_stand_by_their_places, characters_with_an_end_are_least, conditions_choose,
     conditions_that_are_missed_are_avoided, contents_begin_at_zero, contents_end_inside_a_field,
     contents_fill_their_octets, digits_have_an_end, digits_with_an_end_are_least,

@@ -3,6 +3,7 @@
 ghost use Rattle.acn_packet_laws.specs.ChoiceRows.{AnIndexChooses, ConditionsChoose, AnItemChooses};
 ghost use Rattle.acn_packet_laws.specs.ConditionRows.{TheLeastThatIsMissed, ASizeMeetsACondition};
 ghost use Rattle.acn_packet_laws.specs.ContentRows.{AHeaderAndItsContents, ContentsEndInsideAField, ContentsBeginAtZero};
+ghost use Rattle.acn_packet_laws.specs.EndRows.{AnEndOfTwoOctets};
 ghost use Rattle.acn_packet_laws.specs.ListRows.{AnEndedListNamesItsElements, EachElementHasItsSize};
 ghost use Rattle.acn_packet_laws.specs.NumberRows.{LittleTurnsTheOctets, TwosComplementHasASign, ACountBeginsAtTheLowest, CharactersWithAnEndAreLeast, ItemsHavePlacesAndNumbers, DigitsHaveAnEnd, ATableMapsTheNumbers};
 ghost use Rattle.acn_packet_laws.specs.PlaceRows.{PresenceBitsMayBeShort, PaddingMayBeShort, AnElementIsNamedByItsPlace};
@@ -223,4 +224,9 @@ pub fn the_least_that_is_missed()
 /// A size that would meet the condition of a component that is absent is refused and never written.
 pub fn a_size_meets_a_condition()
     ensures { ASizeMeetsACondition }
+{}
+
+/// A text ends where all octets of its terminator first stand together.
+pub fn an_end_of_two_octets()
+    ensures { AnEndOfTwoOctets }
 {}
