@@ -10,6 +10,7 @@ mod ConditionRows
 mod ContentRows
 mod Contents
 mod CountedTotal
+mod CutRows
 mod EachWritten
 mod EndRows
 mod EndedExclusion

@@ -354,7 +354,7 @@ presence_bits_stand_in_front_law = record { absent = truth_alone; present = both
 -- Telemetry.
 
 module _ (root : Grammar) (env : Env) where
-  fixed_part : (pattern : List Bool) (at : ℕ) → Spell root Any (node 1 (num (record { kind = Null; set = (pos 0, pos 0) ∷ []; coding = Fixed pattern; little = false; table = None; items = record { items = []; values = false } }))) env null at pattern
+  pub fixed_part : (pattern : List Bool) (at : ℕ) → Spell root Any (node 1 (num (record { kind = Null; set = (pos 0, pos 0) ∷ []; coding = Fixed pattern; little = false; table = None; items = record { items = []; values = false } }))) env null at pattern
   fixed_part pattern at = record { front = []; back = _; whole = refl; first = none Any at; second = (pos 0, refl, record { permitted = refl; image = pos 0; maps = refl; spelled = (refl, refl) }) }
 
 abbrev pub LengthCode : ℕ → Type 0

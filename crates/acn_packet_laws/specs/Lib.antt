@@ -1,6 +1,7 @@
 pub mod ChoiceRows
 pub mod ConditionRows
 pub mod ContentRows
+pub mod CutRows
 pub mod EndRows
 pub mod Laws
 pub mod ListRows

@@ -3,6 +3,7 @@
 ghost use Rattle.acn_packet_laws.specs.ChoiceRows.{AnIndexChooses, ConditionsChoose, AnItemChooses};
 ghost use Rattle.acn_packet_laws.specs.ConditionRows.{TheLeastThatIsMissed, ASizeMeetsACondition};
 ghost use Rattle.acn_packet_laws.specs.ContentRows.{AHeaderAndItsContents, ContentsEndInsideAField, ContentsBeginAtZero};
+ghost use Rattle.acn_packet_laws.specs.CutRows.{ACutIsNamedByItsField};
 ghost use Rattle.acn_packet_laws.specs.EndRows.{AnEndOfTwoOctets};
 ghost use Rattle.acn_packet_laws.specs.ListRows.{AnEndedListNamesItsElements, EachElementHasItsSize};
 ghost use Rattle.acn_packet_laws.specs.NumberRows.{LittleTurnsTheOctets, TwosComplementHasASign, ACountBeginsAtTheLowest, CharactersWithAnEndAreLeast, ItemsHavePlacesAndNumbers, DigitsHaveAnEnd, ATableMapsTheNumbers};
@@ -229,4 +230,9 @@ pub fn a_size_meets_a_condition()
 /// A text ends where all octets of its terminator first stand together.
 pub fn an_end_of_two_octets()
     ensures { AnEndOfTwoOctets }
+{}
+
+/// A packet that is cut is Short at the field that it ends in, and no value stands at its front.
+pub fn a_cut_is_named_by_its_field()
+    ensures { ACutIsNamedByItsField }
 {}
