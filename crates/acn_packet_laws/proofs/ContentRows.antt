@@ -5,21 +5,17 @@ use Rattle.acn_num.specs.Bits.{number, low_bits, bits as bits_of}
 use Rattle.acn_grammar.specs.Code.{Mode, Written, Any}
 use Rattle.acn_grammar.specs.Env.{Env, at_slot}
 use Rattle.acn_grammar.specs.Fails.{Fails, Refusal}
-use Rattle.acn_grammar.specs.Grammar.{node, num, int, boolean, null}
+use Rattle.acn_grammar.specs.Grammar.{int, boolean}
 use Rattle.acn_grammar.specs.LeafFails.{short, past_content}
 use Rattle.acn_grammar.specs.Spell.{Spell, Padding, Fill}
-use Rattle.acn_grammar.specs.declared.node.NumCoding.TheVariants.{Range, Fixed}
-use Rattle.acn_grammar.specs.declared.node.NumKind.TheVariants.{Null}
+use Rattle.acn_grammar.specs.declared.node.NumCoding.TheVariants.{Range}
 use Rattle.acn_packet_laws.specs.ContentRows.{warm, seventh, inner, windowed, aligned_inside, AHeaderAndItsContents, ContentsEndInsideAField, ContentsBeginAtZero}
 use Rattle.acn_packet_laws.specs.WorkedRows.{integer, truth, two, body, housekeeping, telemetry}
 use Rattle.acn_packet_laws.proofs.OneWriting.{writing_of_a_tree}
 use Rattle.acn_packet_laws.proofs.TelemetryRows.{past, bad_version}
-use Rattle.acn_packet_laws.proofs.WorkedRows.{none, LengthCode, in_packet, three_octets}
+use Rattle.acn_packet_laws.proofs.WorkedRows.{none, fixed_part, LengthCode, in_packet, three_octets}
 
 module _ (mode : Mode) (env : Env) where
-  fixed_part : (pattern : List Bool) (at : ℕ) → Spell telemetry mode (node 1 (num (record { kind = Null; set = (pos 0, pos 0) ∷ []; coding = Fixed pattern; little = false; table = None; items = record { items = []; values = false } }))) env null at pattern
-  fixed_part pattern at = record { front = []; back = _; whole = refl; first = none mode at; second = (pos 0, refl, record { permitted = refl; image = pos 0; maps = refl; spelled = (refl, refl) }) }
-
   contents : Spell telemetry mode housekeeping env warm 0 (low_bits 12 1000 ++ (low_bits 2 2 ++ low_bits 7 41))
   contents = record {
     front = [];
@@ -107,17 +103,17 @@ in_three_octets mode a b c fill = record {
         front = false ∷ false ∷ false ∷ [];
         back = _;
         whole = refl;
-        first = fixed_part mode ((0, pos 3) ∷ []) (false ∷ false ∷ false ∷ []) 0;
+        first = fixed_part telemetry mode ((0, pos 3) ∷ []) (false ∷ false ∷ false ∷ []) 0;
         second = record {
           front = false ∷ [];
           back = _;
           whole = refl;
-          first = fixed_part mode ((0, pos 3) ∷ []) (false ∷ []) 3;
+          first = fixed_part telemetry mode ((0, pos 3) ∷ []) (false ∷ []) 3;
           second = record {
             front = false ∷ [];
             back = _;
             whole = refl;
-            first = fixed_part mode ((0, pos 3) ∷ []) (false ∷ []) 4;
+            first = fixed_part telemetry mode ((0, pos 3) ∷ []) (false ∷ []) 4;
             second = record {
               front = low_bits 11 100;
               back = _;
@@ -130,7 +126,7 @@ in_three_octets mode a b c fill = record {
                 front = true ∷ true ∷ [];
                 back = _;
                 whole = refl;
-                first = fixed_part mode ((0, pos 3) ∷ []) (true ∷ true ∷ []) 16;
+                first = fixed_part telemetry mode ((0, pos 3) ∷ []) (true ∷ true ∷ []) 16;
                 second = record {
                   front = low_bits 14 7;
                   back = _;

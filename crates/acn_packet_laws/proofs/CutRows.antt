@@ -48,17 +48,17 @@ at_apid rest fault more f = inr (record {
           front = false ∷ false ∷ false ∷ [];
           back = _;
           whole = refl;
-          spelled = fixed_part telemetry ((0, pos 1) ∷ []) (false ∷ false ∷ false ∷ []) 0;
+          spelled = fixed_part telemetry Any ((0, pos 1) ∷ []) (false ∷ false ∷ false ∷ []) 0;
           more = 2 + more;
           reaches = omega arith;
           fails = inr (record {
             front = false ∷ [];
             back = _;
             whole = refl;
-            spelled = fixed_part telemetry ((0, pos 1) ∷ []) (false ∷ []) 3;
+            spelled = fixed_part telemetry Any ((0, pos 1) ∷ []) (false ∷ []) 3;
             more = 1 + more;
             reaches = omega arith;
-            fails = inr (record { front = false ∷ []; back = rest; whole = refl; spelled = fixed_part telemetry ((0, pos 1) ∷ []) (false ∷ []) 4; more = more; reaches = omega arith; fails = f });
+            fails = inr (record { front = false ∷ []; back = rest; whole = refl; spelled = fixed_part telemetry Any ((0, pos 1) ∷ []) (false ∷ []) 4; more = more; reaches = omega arith; fails = f });
           });
         }),
         omega arith,
@@ -86,7 +86,7 @@ at_flags rest fault more f = at_apid (low_bits 11 100 ++ rest) fault (11 + more)
 
 at_count : (rest : List Bool) (fault : Fault) (more : ℕ) → LaterFails from_count 5 18 rest fault more → Refusal telemetry (low_bits 5 0 ++ (low_bits 11 100 ++ (true ∷ true ∷ rest))) fault (5 + (11 + (2 + more)))
 at_count rest fault more f = at_flags (true ∷ true ∷ rest) fault (2 + more)
-    (inr (record { front = true ∷ true ∷ []; back = rest; whole = refl; spelled = fixed_part telemetry ((0, pos 1) ∷ []) (true ∷ true ∷ []) 16; more = more; reaches = omega arith; fails = f }))
+    (inr (record { front = true ∷ true ∷ []; back = rest; whole = refl; spelled = fixed_part telemetry Any ((0, pos 1) ∷ []) (true ∷ true ∷ []) 16; more = more; reaches = omega arith; fails = f }))
 
 at_length : (rest : List Bool) (fault : Fault) (more : ℕ) → LaterFails from_length 6 32 rest fault more
     → Refusal telemetry (low_bits 5 0 ++ (low_bits 11 100 ++ (true ∷ true ∷ (low_bits 14 7 ++ rest)))) fault (5 + (11 + (2 + (14 + more))))
