@@ -1,5 +1,5 @@
 -- Rows of a CHOICE: by its index, by conditions and by an item.
-use Rattle.std.proofs.Common.{◌≡◌, ℕ, ◌<◌, ℤ, pos, Bool, List, [], ◌∷◌, ◌++◌, Some, refl, ap, subst, arith, inl, inr}
+use Rattle.std.proofs.Common.{◌≡◌, ℕ, ◌<◌, ℤ, pos, List, [], ◌∷◌, ◌++◌, Some, refl, sym, ap, subst, arith, inl, inr}
 use Rattle.std.specs.Prelude.{slice_get}
 use Rattle.std.proofs.lemmas.Int.{ints}
 use Rattle.acn_num.specs.Bits.{low_bits, bits as bits_of}
@@ -13,6 +13,7 @@ use Rattle.acn_grammar.specs.Slots.{items_of}
 use Rattle.acn_grammar.specs.Spell.{Spell, Chosen}
 use Rattle.acn_grammar.specs.declared.node.ChoiceRule.TheVariants.{Item}
 use Rattle.acn_packet_laws.specs.ChoiceRows.{two_bits, by_index, by_conditions, chosen, by_item, two_kinds, three_kinds, AnIndexChooses, ConditionsChoose, AnItemChooses}
+use Rattle.acn_packet_laws.proofs.OneFault.{some_same}
 use Rattle.acn_packet_laws.proofs.OneWriting.{writing_of_a_tree}
 use Rattle.acn_packet_laws.proofs.WorkedRows.{none}
 
@@ -198,7 +199,7 @@ p_by_item = record {
 }
 
 same_name : (a b : List ℕ × ℤ) → Some a ≡ Some b → b.0 ≡ a.0
-same_name a b e = let same : b ≡ a = cc in ap (λ c. c.0) same
+same_name a b e = ap (λ (c : List ℕ × ℤ). c.0) (some_same b a (sym e))
 
 same_place : (i j : ℕ) → Some (pos i) ≡ Some (pos j) → j ≡ i
 same_place i j e = cc

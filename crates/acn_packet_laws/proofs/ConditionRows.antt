@@ -11,7 +11,7 @@ use Rattle.acn_grammar.specs.Front.{IsWritten}
 use Rattle.acn_grammar.specs.Grammar.{null, record_of, no_places, empty, filled}
 use Rattle.acn_grammar.specs.Refused.{CanBeMet, IsAsked}
 use Rattle.acn_grammar.specs.Spell.{Spell}
-use Rattle.acn_packet_laws.specs.ConditionRows.{zero_or_one, neither, size_and_condition, one_octet, TheLeastThatIsMissed, ASizeMeetsACondition}
+use Rattle.acn_packet_laws.specs.ConditionRows.{zero_or_one, neither, size_and_condition, TheLeastThatIsMissed, ASizeMeetsACondition}
 use Rattle.acn_packet_laws.proofs.AskRows.{only}
 use Rattle.acn_packet_laws.proofs.OneWriting.{writing_of_a_tree}
 use Rattle.acn_packet_laws.proofs.WorkedRows.{none}

@@ -1,5 +1,5 @@
 -- Rows of a packet of telemetry that is cut.
-use Rattle.std.proofs.Common.{ℕ, ◌+◌, pos, Bool, true, false, List, [], ◌∷◌, ◌++◌, Some, None, refl, arith, inl, inr}
+use Rattle.std.proofs.Common.{ℕ, ◌+◌, pos, Bool, true, false, List, [], ◌∷◌, ◌++◌, refl, arith, inl, inr}
 use Rattle.acn_num.specs.Bits.{low_bits, bits as bits_of}
 use Rattle.acn_grammar.specs.Code.{Any}
 use Rattle.acn_grammar.specs.Fails.{Fault, Fails, FieldsFail, Refusal}

@@ -1,13 +1,12 @@
 -- A row of a text that ends in two octets.
-use Rattle.std.proofs.Common.{◌≡◌, ◌∙◌, ℕ, zero, suc, pos, Bool, true, false, List, [], ◌∷◌, ◌++◌, Some, refl, sym, ap, subst, arith, inl, inr}
+use Rattle.std.proofs.Common.{◌≡◌, ◌∙◌, ℕ, zero, suc, pos, false, [], ◌∷◌, Some, refl, sym, ap, subst, arith, inl, inr}
 use Rattle.acn_num.specs.Bits.{number, low_bits, bits as bits_of}
 use Rattle.acn_num.specs.Ranges.{In}
 use Rattle.acn_grammar.proofs.Prefix.{same_front}
 use Rattle.acn_grammar.specs.Code.{Written, Any}
-use Rattle.acn_grammar.specs.Fails.{NoText, Refusal}
+use Rattle.acn_grammar.specs.Fails.{NoText}
 use Rattle.acn_grammar.specs.Front.{IsWritten}
 use Rattle.acn_grammar.specs.Grammar.{characters}
-use Rattle.acn_grammar.specs.LeafFails.{short, bad_character, size_out_of_range}
 use Rattle.acn_grammar.specs.Spell.{EndsFirst}
 use Rattle.acn_grammar.specs.declared.node.SizeRule.TheVariants.{Prefix}
 use Rattle.acn_grammar.specs.declared.node.TextLeaf.{TextLeaf}

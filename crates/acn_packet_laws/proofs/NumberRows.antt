@@ -1,12 +1,11 @@
 -- Rows of codings of numbers.
-use Rattle.std.proofs.Common.{◌≡◌, ℕ, zero, suc, ◌*◌, ◌^◌, ◌<◌, ◌≤◌, ℤ, pos, negsuc, Bool, true, false, List, [], ◌∷◌, ◌++◌, length, take, Option, Some, None, refl, ap, subst, arith, inl, inr}
+use Rattle.std.proofs.Common.{◌≡◌, ℕ, zero, suc, ◌*◌, ◌^◌, ◌<◌, ◌≤◌, ℤ, pos, negsuc, Bool, true, false, List, [], ◌∷◌, ◌++◌, length, take, Some, None, refl, ap, subst, arith, inl, inr}
 use Rattle.std.specs.Prelude.{neg_ℤ, ◌-◌, ◌⊎◌, IsFalse}
 use Rattle.std.proofs.lemmas.Int.{ints}
 use Rattle.std.proofs.lemmas.Bool.Decides.{nat_tests}
 use Rattle.acn_num.specs.Bits.{number, low_bits, bits as bits_of, IsNumber}
 use Rattle.acn_num.specs.Ranges.{In, has}
 use Rattle.acn_grammar.specs.Code.{Written, image_in, item_number, nibbles}
-use Rattle.acn_grammar.specs.Fails.{Refusal}
 use Rattle.acn_grammar.specs.Front.{IsWritten}
 use Rattle.acn_grammar.specs.Grammar.{int, item}
 use Rattle.acn_grammar.specs.LeafFails.{DigitAt, Negative, short, out_of_range, not_minimal, bad_digit, too_long, says}
@@ -18,17 +17,15 @@ use Rattle.acn_grammar.proofs.Codings.{nibble_one}
 use Rattle.acn_grammar.proofs.Numbers.{number-below}
 use Rattle.acn_packet_laws.specs.NumberRows as rows
 use Rattle.acn_packet_laws.proofs.LeafRows.{integer, leaf_spelled, leaf_fails}
+use Rattle.acn_packet_laws.proofs.OneFault.{some_same}
 use Rattle.acn_packet_laws.proofs.OneWriting.{writing_of_a_tree}
-
-same : (x k : ℤ) → Some x ≡ Some k → x ≡ k
-same x k e = cc
 
 truly : (b : Bool) → b ≡ true → IsFalse b → ⊥
 truly b t f = cc
 
 -- a number outside a range is the image of none of its numbers, where each is written as itself
 pub none_is : (low high k : ℤ) → IsFalse (has ((low, high) ∷ []) k) → (x : ℤ) → In ((low, high) ∷ []) x → Some x ≡ Some k → ⊥
-none_is low high k f x p e = truly (has ((low, high) ∷ []) k) (subst (λ y. In ((low, high) ∷ []) y) (same x k e) p) f
+none_is low high k f x p e = truly (has ((low, high) ∷ []) k) (subst (λ y. In ((low, high) ∷ []) y) (some_same x k e) p) f
 
 -- Octets in the other order.
 

@@ -11,6 +11,7 @@ use Rattle.acn_grammar.specs.Grammar.{int, bit_string, octet_string, record_of, 
 use Rattle.acn_grammar.specs.LeafFails.{short, size_out_of_range}
 use Rattle.acn_grammar.specs.Refused.{CanBeMet, IsAsked}
 use Rattle.acn_packet_laws.specs.SizeRows.{up_to_five_bits, counted_octets, by_head, headed, narrow_size, SizesStandInFrontOfStrings, ASizeStandsInAnInnerSequence, ASizeNeedsItsNumber}
+use Rattle.acn_packet_laws.proofs.OneFault.{some_same}
 use Rattle.acn_packet_laws.proofs.OneWriting.{writing_of_a_tree}
 use Rattle.acn_packet_laws.proofs.WorkedRows.{none}
 
@@ -244,14 +245,11 @@ a_size_stands_in_an_inner_sequence_law = record { tree = refl; bounds = refl; wr
 
 -- A size that no number can say.
 
-same_number : (x y : ℤ) → Some x ≡ Some y → x ≡ y
-same_number x y e = cc
-
-truly : In ((pos 0, pos 3) ∷ []) (pos 4) → ⊥
-truly h = cc
+four_permitted : In ((pos 0, pos 3) ∷ []) (pos 4) → ⊥
+four_permitted h = cc
 
 four_of : (x : ℤ) (o : Option ℤ) → In ((pos 0, pos 3) ∷ []) x → o ≡ Some x → o ≡ Some (pos 4) → ⊥
-four_of x o h e f = truly (subst (λ y. In ((pos 0, pos 3) ∷ []) y) (same_number x (pos 4) (sym e ∙ f)) h)
+four_of x o h e f = four_permitted (subst (λ y. In ((pos 0, pos 3) ∷ []) y) (some_same x (pos 4) (sym e ∙ f)) h)
 
 not_asked : (a : Ask) → IsAsked [] a → ⊥
 not_asked a b = empty_apart b.early b.late b.is
@@ -273,7 +271,7 @@ a_size_needs_its_number_law = record {
     after = [];
     whole = refl;
     met = nothing_before;
-    unmet = λ c. truly (subst (λ y. In ((pos 0, pos 3) ∷ []) y) c.1.meets.0 c.1.permitted);
+    unmet = λ c. four_permitted (subst (λ y. In ((pos 0, pos 3) ∷ []) y) c.1.meets.0 c.1.permitted);
     says = (None, (λ a b c. not_asked a b), refl);
   };
   never = λ bs w.

@@ -1,5 +1,5 @@
 -- Packets that are worked by hand: a packet of telemetry that is cut, and the field that is named for it.
-use Rattle.std.specs.Prelude.{ℕ, List, [], ◌∷◌}
+use Rattle.std.specs.Prelude.{ℕ, [], ◌∷◌}
 use Rattle.acn_num.specs.Bits.{bits as bits_of}
 use Rattle.acn_grammar.specs.Fails.{Refusal}
 use Rattle.acn_grammar.specs.Front.{Front}
