@@ -53,7 +53,8 @@ abbrev pub aligned_inside : Data
 aligned_inside = two (boolean true) (two (int (pos 5)) (int (pos 1)))
 
 -- It is 19 bits of d4 00 20: y is aligned from the first bit of the contents, and 19 bits of d4 01 00, where it is aligned from
--- that of the packet, are never written. In b4 00 the contents end behind x: what fails is y, at bit 6, where its padding begins.
+-- that of the packet, are never written. d7 e0 20, with another padding, is read as it. In b4 00 the contents end behind x: what
+-- fails is y, at bit 6, where its padding begins.
 pub record ContentsBeginAtZero : Type 0 where
   pub tree : is_tree windowed ≡ true
   pub written : IsWritten windowed aligned_inside (take 19 (bits_of (212 ∷ 0 ∷ 32 ∷ [])))

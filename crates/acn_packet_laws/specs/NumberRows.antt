@@ -75,8 +75,8 @@ pub record CharactersWithAnEndAreLeast : Type 0 where
 abbrev pub letters : NumCoding → (values : Bool) → Grammar
 letters coding values = node 1 (num (record { kind = Enumerated; set = (pos 0, pos 2) ∷ []; coding = coding; little = false; table = None; items = record { items = (98 ∷ [], pos 0) ∷ (99 ∷ [], pos 1) ∷ (97 ∷ [], pos 5) ∷ []; values = values } }))
 
--- "a" is 2 bits of 80, its place. With [encode-values, size 8, encoding pos-int] it is 05, its number, and never 02, which is
--- the number of no item.
+-- "a" is 2 bits of 80, its place, and c0 has a fourth place. With [encode-values, size 8, encoding pos-int] it is 05, its number,
+-- and never 02, which is the number of no item.
 pub record ItemsHavePlacesAndNumbers : Type 0 where
   pub tree : is_tree (letters (Range (pos 0) 2) false) ≡ true
   pub written : IsWritten (letters (Range (pos 0) 2) false) (item 2) (take 2 (bits_of (128 ∷ [])))
