@@ -14,7 +14,7 @@ use Rattle.acn_grammar.specs.declared.node.NumCoding.TheVariants.{Range, PosInt}
 use Rattle.acn_packet_laws.proofs.Trees.{shared, integer, null_as, one}
 
 -- a list of one has nothing in front of it
-only : {A : Type 0} (early late : List A) (m x : A) → x ∷ [] ≡ early ++ m ∷ late → (early ≡ []) × (m ≡ x)
+pub only : {A : Type 0} (early late : List A) (m x : A) → x ∷ [] ≡ early ++ m ∷ late → (early ≡ []) × (m ≡ x)
 only [] late m x e = (refl, cc)
 only (y ∷ []) late m x e = cc
 only (y ∷ z ∷ early) late m x e = cc

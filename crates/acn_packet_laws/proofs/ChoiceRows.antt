@@ -1,5 +1,5 @@
 -- Rows of a CHOICE: by its index, by conditions and by an item.
-use Rattle.std.proofs.Common.{◌≡◌, ℕ, ◌<◌, ℤ, pos, Bool, List, [], ◌∷◌, ◌++◌, Some, refl, ap, subst, arith, inl, inr}
+use Rattle.std.proofs.Common.{◌≡◌, ℕ, ◌<◌, ℤ, pos, List, [], ◌∷◌, ◌++◌, Some, refl, sym, ap, subst, arith, inl, inr}
 use Rattle.std.specs.Prelude.{slice_get}
 use Rattle.std.proofs.lemmas.Int.{ints}
 use Rattle.acn_num.specs.Bits.{low_bits, bits as bits_of}
@@ -8,11 +8,12 @@ use Rattle.acn_grammar.specs.Env.{Env}
 use Rattle.acn_grammar.specs.Fails.{Refusal}
 use Rattle.acn_grammar.specs.Front.{IsWritten}
 use Rattle.acn_grammar.specs.Grammar.{Grammar, int, alt}
-use Rattle.acn_grammar.specs.LeafFails.{no_alternative}
+use Rattle.acn_grammar.specs.LeafFails.{short, no_alternative}
 use Rattle.acn_grammar.specs.Slots.{items_of}
 use Rattle.acn_grammar.specs.Spell.{Spell, Chosen}
 use Rattle.acn_grammar.specs.declared.node.ChoiceRule.TheVariants.{Item}
 use Rattle.acn_packet_laws.specs.ChoiceRows.{two_bits, by_index, by_conditions, chosen, by_item, two_kinds, three_kinds, AnIndexChooses, ConditionsChoose, AnItemChooses}
+use Rattle.acn_packet_laws.proofs.OneFault.{some_same}
 use Rattle.acn_packet_laws.proofs.OneWriting.{writing_of_a_tree}
 use Rattle.acn_packet_laws.proofs.WorkedRows.{none}
 
@@ -142,12 +143,62 @@ neither_condition = inr (record {
   );
 })
 
+before_q : Refusal by_conditions (bits_of (2 ∷ [])) (record { path = 1 ∷ 1 ∷ []; reason = short; at = 8 }) 8
+before_q = inr (record {
+  front = [];
+  back = _;
+  whole = refl;
+  spelled = none Any 0;
+  more = 8;
+  reaches = refl;
+  fails = inr (
+    pos 2 ∷ [],
+    refl,
+    (refl, tt),
+    (
+      omega arith,
+      (
+        8,
+        inr (record {
+          front = low_bits 8 2;
+          back = [];
+          whole = refl;
+          spelled = (pos 2, refl, record { front = []; back = _; whole = refl; first = none Any 0; second = record { permitted = refl; image = pos 2; maps = refl; spelled = (refl, refl) } });
+          more = 0;
+          reaches = refl;
+          fails = inl (
+            tt,
+            inl (inr (record {
+              front = [];
+              back = [];
+              whole = refl;
+              spelled = none Any 8;
+              more = 0;
+              reaches = refl;
+              fails = inr (
+                1,
+                tt,
+                (
+                  omega arith,
+                  (0, ((refl, tt), inr (record { front = []; back = []; whole = refl; spelled = none Any 8; more = 0; reaches = refl; fails = (short, inl (omega arith, refl, refl), refl) })), refl),
+                ),
+              );
+            })),
+          );
+        }),
+        refl,
+      ),
+    ),
+  );
+})
+
 pub conditions_choose_law : ConditionsChoose
 conditions_choose_law = record {
   tree = refl;
   bounds = refl;
   written = q_by_conditions;
   refused = neither_condition;
+  cut = before_q;
   never = λ w. let e = writing_of_a_tree by_conditions refl (chosen 1 3) _ _ q_by_conditions w in cc;
 }
 
@@ -198,7 +249,7 @@ p_by_item = record {
 }
 
 same_name : (a b : List ℕ × ℤ) → Some a ≡ Some b → b.0 ≡ a.0
-same_name a b e = let same : b ≡ a = cc in ap (λ c. c.0) same
+same_name a b e = ap (λ (c : List ℕ × ℤ). c.0) (some_same b a (sym e))
 
 same_place : (i j : ℕ) → Some (pos i) ≡ Some (pos j) → j ≡ i
 same_place i j e = cc

@@ -1,24 +1,21 @@
 -- A packet of telemetry as it is written and read, and contents that end inside a field.
-use Rattle.std.proofs.Common.{◌≡◌, ℕ, pos, Bool, true, false, List, [], ◌∷◌, ◌++◌, drop, Some, None, refl, ap, arith}
+use Rattle.std.proofs.Common.{◌≡◌, pos, Bool, true, false, List, [], ◌∷◌, ◌++◌, take, drop, replicate, Some, None, refl, ap, arith, inl, inr}
 use Rattle.std.proofs.lemmas.Int.{ints}
 use Rattle.acn_num.specs.Bits.{number, low_bits, bits as bits_of}
 use Rattle.acn_grammar.specs.Code.{Mode, Written, Any}
 use Rattle.acn_grammar.specs.Env.{Env, at_slot}
-use Rattle.acn_grammar.specs.Grammar.{node, num, null}
-use Rattle.acn_grammar.specs.LeafFails.{past_content}
-use Rattle.acn_grammar.specs.Spell.{Spell, Fill}
-use Rattle.acn_grammar.specs.declared.node.NumCoding.TheVariants.{Fixed}
-use Rattle.acn_grammar.specs.declared.node.NumKind.TheVariants.{Null}
-use Rattle.acn_packet_laws.specs.ContentRows.{warm, seventh, AHeaderAndItsContents, ContentsEndInsideAField}
-use Rattle.acn_packet_laws.specs.WorkedRows.{body, housekeeping, telemetry}
+use Rattle.acn_grammar.specs.Fails.{Fails, Refusal}
+use Rattle.acn_grammar.specs.Grammar.{int, boolean}
+use Rattle.acn_grammar.specs.LeafFails.{short, past_content}
+use Rattle.acn_grammar.specs.Spell.{Spell, Padding, Fill}
+use Rattle.acn_grammar.specs.declared.node.NumCoding.TheVariants.{Range}
+use Rattle.acn_packet_laws.specs.ContentRows.{warm, seventh, inner, windowed, aligned_inside, AHeaderAndItsContents, ContentsEndInsideAField, ContentsBeginAtZero}
+use Rattle.acn_packet_laws.specs.WorkedRows.{integer, truth, two, body, housekeeping, telemetry}
 use Rattle.acn_packet_laws.proofs.OneWriting.{writing_of_a_tree}
 use Rattle.acn_packet_laws.proofs.TelemetryRows.{past, bad_version}
-use Rattle.acn_packet_laws.proofs.WorkedRows.{none, LengthCode, in_packet, three_octets}
+use Rattle.acn_packet_laws.proofs.WorkedRows.{none, fixed_part, LengthCode, in_packet, three_octets}
 
 module _ (mode : Mode) (env : Env) where
-  fixed_part : (pattern : List Bool) (at : ℕ) → Spell telemetry mode (node 1 (num (record { kind = Null; set = (pos 0, pos 0) ∷ []; coding = Fixed pattern; little = false; table = None; items = record { items = []; values = false } }))) env null at pattern
-  fixed_part pattern at = record { front = []; back = _; whole = refl; first = none mode at; second = (pos 0, refl, record { permitted = refl; image = pos 0; maps = refl; spelled = (refl, refl) }) }
-
   contents : Spell telemetry mode housekeeping env warm 0 (low_bits 12 1000 ++ (low_bits 2 2 ++ low_bits 7 41))
   contents = record {
     front = [];
@@ -106,17 +103,17 @@ in_three_octets mode a b c fill = record {
         front = false ∷ false ∷ false ∷ [];
         back = _;
         whole = refl;
-        first = fixed_part mode ((0, pos 3) ∷ []) (false ∷ false ∷ false ∷ []) 0;
+        first = fixed_part telemetry mode ((0, pos 3) ∷ []) (false ∷ false ∷ false ∷ []) 0;
         second = record {
           front = false ∷ [];
           back = _;
           whole = refl;
-          first = fixed_part mode ((0, pos 3) ∷ []) (false ∷ []) 3;
+          first = fixed_part telemetry mode ((0, pos 3) ∷ []) (false ∷ []) 3;
           second = record {
             front = false ∷ [];
             back = _;
             whole = refl;
-            first = fixed_part mode ((0, pos 3) ∷ []) (false ∷ []) 4;
+            first = fixed_part telemetry mode ((0, pos 3) ∷ []) (false ∷ []) 4;
             second = record {
               front = low_bits 11 100;
               back = _;
@@ -129,7 +126,7 @@ in_three_octets mode a b c fill = record {
                 front = true ∷ true ∷ [];
                 back = _;
                 whole = refl;
-                first = fixed_part mode ((0, pos 3) ∷ []) (true ∷ true ∷ []) 16;
+                first = fixed_part telemetry mode ((0, pos 3) ∷ []) (true ∷ true ∷ []) 16;
                 second = record {
                   front = low_bits 14 7;
                   back = _;
@@ -187,4 +184,235 @@ contents_end_inside_a_field_law = record {
   refused = in_packet 1 two_octets (bits_of (62 ∷ 137 ∷ [])) (record { path = 7 ∷ 0 ∷ 2 ∷ []; reason = past_content; at = 62 }) 16 past;
   version = bad_version;
   never = λ env bs. three_octets env bs 16 (λ e. absurd (omega (arith, e)));
+}
+
+-- Alignment inside contents.
+
+x_part : (mode : Mode) → Spell windowed mode (integer (pos 0) (pos 7) (Range (pos 0) 3)) [] (int (pos 5)) 0 (low_bits 3 5)
+x_part mode = record { front = []; back = _; whole = refl; first = none mode 0; second = (pos 5, refl, record { permitted = refl; image = pos 5; maps = refl; spelled = (5, refl, record { width = refl; value = refl }) }) }
+
+inner_part : (mode : Mode) (b : Bool) → Padding mode 8 3 (replicate 5 b) → Spell windowed mode inner [] (two (int (pos 5)) (int (pos 1))) 0 (low_bits 3 5 ++ (replicate 5 b ++ low_bits 8 1))
+inner_part mode b pad = record {
+  front = [];
+  back = _;
+  whole = refl;
+  first = none mode 0;
+  second = record {
+    numbers = [];
+    fine = record { count = refl; permitted = tt; least = λ _. tt };
+    spelled = record {
+      front = [];
+      back = _;
+      whole = refl;
+      first = refl;
+      second = record {
+        front = low_bits 3 5;
+        back = replicate 5 b ++ low_bits 8 1;
+        whole = refl;
+        first = record { given = (tt, tt); spelled = x_part mode };
+        second = record {
+          front = replicate 5 b ++ low_bits 8 1;
+          back = [];
+          whole = refl;
+          first = record {
+            given = (tt, tt);
+            spelled = record {
+              front = replicate 5 b;
+              back = low_bits 8 1;
+              whole = refl;
+              first = pad;
+              second = (pos 1, refl, record { permitted = refl; image = pos 1; maps = refl; spelled = (1, refl, record { width = refl; value = refl }) });
+            };
+          };
+          second = refl;
+        };
+      };
+    };
+  };
+}
+
+a_part : (mode : Mode) → Spell windowed mode (truth None None) [] (boolean true) 0 (true ∷ [])
+a_part mode = record { front = []; back = _; whole = refl; first = none mode 0; second = (pos 1, refl, record { permitted = refl; image = pos 1; maps = refl; spelled = (1, refl, record { width = refl; value = refl }) }) }
+
+in_window : (mode : Mode) (b : Bool) → Padding mode 8 3 (replicate 5 b) → Spell windowed mode windowed [] aligned_inside 0 (true ∷ [] ++ (low_bits 2 2 ++ (low_bits 3 5 ++ (replicate 5 b ++ low_bits 8 1))))
+in_window mode b pad = record {
+  front = [];
+  back = _;
+  whole = refl;
+  first = none mode 0;
+  second = record {
+    numbers = [];
+    fine = record { count = refl; permitted = tt; least = λ _. tt };
+    spelled = record {
+      front = [];
+      back = _;
+      whole = refl;
+      first = refl;
+      second = record {
+        front = true ∷ [];
+        back = low_bits 2 2 ++ (low_bits 3 5 ++ (replicate 5 b ++ low_bits 8 1));
+        whole = refl;
+        first = record { given = (tt, tt); spelled = a_part mode };
+        second = record {
+          front = low_bits 2 2 ++ (low_bits 3 5 ++ (replicate 5 b ++ low_bits 8 1));
+          back = [];
+          whole = refl;
+          first = record {
+            given = (tt, tt);
+            spelled = record {
+              front = [];
+              back = _;
+              whole = refl;
+              first = none mode 1;
+              second = record {
+                some = 2;
+                spelled = record {
+                  front = low_bits 2 2;
+                  back = low_bits 3 5 ++ (replicate 5 b ++ low_bits 8 1);
+                  whole = refl;
+                  first = record { given = refl; spelled = record { given = omega arith; spelled = record { width = refl; value = refl } } };
+                  second = record {
+                    size = refl;
+                    inside = record {
+                      front = low_bits 3 5 ++ (replicate 5 b ++ low_bits 8 1);
+                      back = [];
+                      whole = refl;
+                      first = inner_part mode b pad;
+                      second = record { aligned = refl; few = omega arith; zeros = λ _. refl };
+                    };
+                  };
+                };
+              };
+            };
+          };
+          second = refl;
+        };
+      };
+    };
+  };
+}
+
+five_zeros : Padding Written 8 3 (replicate 5 false)
+five_zeros = record { aligned = refl; fewest = omega arith; zeros = λ _. refl }
+
+five_ones : Padding Any 8 3 (replicate 5 true)
+five_ones = record { aligned = refl; fewest = omega arith; zeros = λ e. cc }
+
+behind_x : Fails windowed inner [] true 3 (1 ∷ 0 ∷ []) 0 (low_bits 3 5 ++ low_bits 5 0) (record { path = 1 ∷ 0 ∷ 1 ∷ []; reason = past_content; at = 6 }) 8
+behind_x = inr (record {
+  front = [];
+  back = _;
+  whole = refl;
+  spelled = none Any 0;
+  more = 8;
+  reaches = refl;
+  fails = inr (
+    [],
+    refl,
+    tt,
+    (
+      omega arith,
+      (
+        8,
+        inl (
+          tt,
+          inr (
+            int (pos 5),
+            record {
+              front = low_bits 3 5;
+              back = low_bits 5 0;
+              whole = refl;
+              spelled = record { given = tt; spelled = x_part Any };
+              more = 5;
+              reaches = refl;
+              fails = inl (
+                tt,
+                inl (inr (record {
+                  front = low_bits 5 0;
+                  back = [];
+                  whole = refl;
+                  spelled = record { aligned = refl; fewest = omega arith; zeros = λ e. cc };
+                  more = 0;
+                  reaches = refl;
+                  fails = (short, inl (omega arith, refl, refl), refl);
+                })),
+              );
+            },
+          ),
+        ),
+        refl,
+      ),
+    ),
+  );
+})
+
+one_octet_alone : Refusal windowed (bits_of (180 ∷ 0 ∷ [])) (record { path = 1 ∷ 0 ∷ 1 ∷ []; reason = past_content; at = 6 }) 11
+one_octet_alone = inr (record {
+  front = [];
+  back = _;
+  whole = refl;
+  spelled = none Any 0;
+  more = 11;
+  reaches = refl;
+  fails = inr (
+    [],
+    refl,
+    tt,
+    (
+      omega arith,
+      (
+        11,
+        inl (
+          tt,
+          inr (
+            boolean true,
+            record {
+              front = true ∷ [];
+              back = low_bits 2 1 ++ ((low_bits 3 5 ++ low_bits 5 0) ++ low_bits 5 0);
+              whole = refl;
+              spelled = record { given = tt; spelled = a_part Any };
+              more = 10;
+              reaches = refl;
+              fails = inl (
+                tt,
+                inl (inr (record {
+                  front = [];
+                  back = _;
+                  whole = refl;
+                  spelled = none Any 1;
+                  more = 10;
+                  reaches = refl;
+                  fails = inr (record {
+                    n = 1;
+                    behind = record {
+                      front = low_bits 2 1;
+                      back = (low_bits 3 5 ++ low_bits 5 0) ++ low_bits 5 0;
+                      whole = refl;
+                      spelled = record { given = refl; spelled = record { given = omega arith; spelled = record { width = refl; value = refl } } };
+                      more = 8;
+                      reaches = refl;
+                      fails = inr (omega arith, inl (8, behind_x), refl);
+                    };
+                  });
+                })),
+              );
+            },
+          ),
+        ),
+        refl,
+      ),
+    ),
+  );
+})
+
+from_the_packet : take 19 (bits_of (212 ∷ 0 ∷ 32 ∷ [])) ≡ take 19 (bits_of (212 ∷ 1 ∷ 0 ∷ [])) → ⊥
+from_the_packet e = absurd (let q : 1 ≡ 8 = ap (λ (z : List Bool). number (drop 11 z)) e in omega (arith, q))
+
+pub contents_begin_at_zero_law : ContentsBeginAtZero
+contents_begin_at_zero_law = record {
+  tree = refl;
+  written = in_window Written false five_zeros;
+  read = record { within = omega arith; spelled = in_window Any true five_ones };
+  refused = one_octet_alone;
+  never = λ w. from_the_packet (writing_of_a_tree windowed refl aligned_inside _ _ (in_window Written false five_zeros) w);
 }

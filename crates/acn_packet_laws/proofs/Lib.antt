@@ -6,10 +6,13 @@ mod BoundsLaw
 mod ChoiceRows
 -- for acn_check
 pub mod Codes
+mod ConditionRows
 mod ContentRows
 mod Contents
 mod CountedTotal
+mod CutRows
 mod EachWritten
+mod EndRows
 mod EndedExclusion
 mod EndedListFails
 mod EndedLists
@@ -67,6 +70,7 @@ mod Rows
 mod Scoping
 mod ShortLeaves
 mod ShortNear
+mod SizeRows
 mod SlotLeaves
 mod SoundLaws
 mod SoundNodes

@@ -1,33 +1,31 @@
 -- Rows of codings of numbers.
-use Rattle.std.proofs.Common.{◌≡◌, ℕ, zero, suc, ◌*◌, ◌^◌, ◌<◌, ◌≤◌, ℤ, pos, negsuc, Bool, true, false, List, [], ◌∷◌, ◌++◌, length, Option, Some, None, refl, ap, subst, arith, inl, inr}
+use Rattle.std.proofs.Common.{◌≡◌, ℕ, zero, suc, ◌*◌, ◌^◌, ◌<◌, ◌≤◌, ℤ, pos, negsuc, Bool, true, false, List, [], ◌∷◌, ◌++◌, length, take, Some, None, refl, ap, subst, arith, inl, inr}
 use Rattle.std.specs.Prelude.{neg_ℤ, ◌-◌, ◌⊎◌, IsFalse}
 use Rattle.std.proofs.lemmas.Int.{ints}
 use Rattle.std.proofs.lemmas.Bool.Decides.{nat_tests}
 use Rattle.acn_num.specs.Bits.{number, low_bits, bits as bits_of, IsNumber}
 use Rattle.acn_num.specs.Ranges.{In, has}
-use Rattle.acn_grammar.specs.Code.{Written, item_number}
-use Rattle.acn_grammar.specs.Fails.{Refusal}
+use Rattle.acn_grammar.specs.Code.{Written, image_in, item_number, nibbles}
 use Rattle.acn_grammar.specs.Front.{IsWritten}
 use Rattle.acn_grammar.specs.Grammar.{int, item}
-use Rattle.acn_grammar.specs.LeafFails.{Negative, short, out_of_range, not_minimal, bad_digit, too_long, says}
+use Rattle.acn_grammar.specs.LeafFails.{DigitAt, Negative, short, out_of_range, not_minimal, bad_digit, too_long, says}
 use Rattle.acn_grammar.specs.declared.node.NumCoding.{NumCoding}
-use Rattle.acn_grammar.specs.declared.node.NumCoding.TheVariants.{Range, CountedFrom, PosInt, Twos, AsciiEnded}
+use Rattle.acn_grammar.specs.declared.node.NumCoding.TheVariants.{Range, CountedFrom, PosInt, Twos, BcdEnded, AsciiEnded}
 use Rattle.acn_grammar.specs.declared.node.NumKind.TheVariants.{Integer, Enumerated}
 use Rattle.acn_grammar.specs.declared.node.NumLeaf.{NumLeaf}
+use Rattle.acn_grammar.proofs.Codings.{nibble_one}
 use Rattle.acn_grammar.proofs.Numbers.{number-below}
 use Rattle.acn_packet_laws.specs.NumberRows as rows
 use Rattle.acn_packet_laws.proofs.LeafRows.{integer, leaf_spelled, leaf_fails}
+use Rattle.acn_packet_laws.proofs.OneFault.{some_same}
 use Rattle.acn_packet_laws.proofs.OneWriting.{writing_of_a_tree}
-
-same : (x k : ℤ) → Some x ≡ Some k → x ≡ k
-same x k e = cc
 
 truly : (b : Bool) → b ≡ true → IsFalse b → ⊥
 truly b t f = cc
 
 -- a number outside a range is the image of none of its numbers, where each is written as itself
 pub none_is : (low high k : ℤ) → IsFalse (has ((low, high) ∷ []) k) → (x : ℤ) → In ((low, high) ∷ []) x → Some x ≡ Some k → ⊥
-none_is low high k f x p e = truly (has ((low, high) ∷ []) k) (subst (λ y. In ((low, high) ∷ []) y) (same x k e) p) f
+none_is low high k f x p e = truly (has ((low, high) ∷ []) k) (subst (λ y. In ((low, high) ∷ []) y) (some_same x k e) p) f
 
 -- Octets in the other order.
 
@@ -250,4 +248,82 @@ items_have_places_and_numbers_law = record {
   value = a_numbered;
   no_number = leaf_fails (letters_leaf (PosInt 8) true) _ (out_of_range (pos 2)) 8 (inr (omega arith, (says (pos 2) (pos 2), refl, (no_item, refl)), refl));
   never = λ w. five_apart (writing_of_a_tree (rows.letters (PosInt 8) true) refl (item 2) _ _ a_numbered w);
+}
+
+-- Decimal digits with an end.
+
+abbrev nibbles_leaf : NumLeaf
+nibbles_leaf = integer (pos 0) (pos 9999) BcdEnded
+
+zero_alone : IsWritten rows.ended_nibbles (int (pos 0)) (bits_of (15 ∷ []))
+zero_alone = leaf_spelled Written nibbles_leaf (int (pos 0)) (pos 0) _ refl (record {
+  permitted = refl;
+  image = pos 0;
+  maps = refl;
+  spelled = (0, refl, record { digits = 0 ∷ []; spell = record { digits = (omega arith, tt); value = refl }; minimal = tt; whole = refl });
+})
+
+hundred_twenty : IsWritten rows.ended_nibbles (int (pos 120)) (bits_of (18 ∷ 15 ∷ []))
+hundred_twenty = leaf_spelled Written nibbles_leaf (int (pos 120)) (pos 120) _ refl (record {
+  permitted = refl;
+  image = pos 120;
+  maps = refl;
+  spelled = (120, refl, record { digits = 1 ∷ 2 ∷ 0 ∷ []; spell = record { digits = (omega arith, (omega arith, (omega arith, tt))); value = refl }; minimal = omega arith; whole = refl });
+})
+
+-- ten in 4 bits is no digit's code
+ten_apart : DigitAt nibbles (low_bits 4 10) → ⊥
+ten_apart d = absurd (let e = nibble_one 10 d.digit (omega arith) (let b = d.below in omega arith) d.stands in let b = d.below in omega arith)
+
+zero_in_front : bits_of (18 ∷ 15 ∷ []) ≡ take 20 (bits_of (1 ∷ 32 ∷ 240 ∷ [])) → ⊥
+zero_in_front e = absurd (let q : 16 ≡ 20 = ap length e in omega (arith, q))
+
+pub digits_have_an_end_law : rows.DigitsHaveAnEnd
+digits_have_an_end_law = record {
+  written = zero_alone;
+  no_end = leaf_fails nibbles_leaf _ short 8 (record { digits = 1 ∷ 2 ∷ []; behind = []; whole = refl; are = (omega arith, (omega arith, tt)); few = omega arith; more = 0; fails = inl (omega arith, refl, refl); reaches = refl });
+  no_digit = leaf_fails nibbles_leaf _ bad_digit 4
+      (record { digits = []; behind = bits_of (240 ∷ []); whole = refl; are = tt; few = omega arith; more = 4; fails = inr (inr (inr (inr (inl (omega arith, refl, refl, refl, refl))))); reaches = refl });
+  refused = leaf_fails nibbles_leaf _ bad_digit 8
+      (record { digits = 1 ∷ []; behind = low_bits 4 10; whole = refl; are = (omega arith, tt); few = omega arith; more = 4; fails = inr (inr (inr (inl (omega arith, ten_apart, omega arith, (λ e. cc), refl, refl)))); reaches = refl });
+  five_digits = leaf_fails nibbles_leaf _ too_long 20 (record {
+    digits = 1 ∷ 2 ∷ 3 ∷ 4 ∷ [];
+    behind = low_bits 4 5 ++ low_bits 4 15;
+    whole = refl;
+    are = (omega arith, (omega arith, (omega arith, (omega arith, tt))));
+    few = omega arith;
+    more = 4;
+    fails = inr (inr (inl (omega arith, record { digit = 5; below = omega arith; stands = refl }, refl, refl, refl)));
+    reaches = refl;
+  });
+  never = λ w. zero_in_front (writing_of_a_tree rows.ended_nibbles refl (int (pos 120)) _ _ hundred_twenty w);
+}
+
+-- Numbers under a table.
+
+abbrev mapped_leaf : NumLeaf
+mapped_leaf = record { kind = Integer; set = (pos 1, pos 4) ∷ []; coding = PosInt 8; little = false; table = Some (record { name = 109 ∷ []; lines = (pos 1, pos 3, pos 0) ∷ (pos 4, pos 4, pos 7) ∷ [] }); items = record { items = []; values = false } }
+
+unmapped : (x : ℤ) → In ((pos 1, pos 4) ∷ []) x → image_in ((pos 1, pos 3, pos 0) ∷ (pos 4, pos 4, pos 7) ∷ []) x ≡ Some (pos 3) → ⊥
+unmapped (pos zero) p e = cc
+unmapped (pos (suc zero)) p e = cc
+unmapped (pos (suc (suc zero))) p e = cc
+unmapped (pos (suc (suc (suc zero)))) p e = cc
+unmapped (pos (suc (suc (suc (suc zero))))) p e = cc
+unmapped (pos (suc (suc (suc (suc (suc n)))))) p e = grind (arith, ints, nat_tests)
+unmapped (negsuc n) p e = cc
+
+four_mapped : IsWritten rows.mapped (int (pos 4)) (bits_of (7 ∷ []))
+four_mapped = leaf_spelled Written mapped_leaf (int (pos 4)) (pos 4) _ refl (record { permitted = refl; image = pos 7; maps = refl; spelled = (refl, refl) })
+
+seven_alone : bits_of (7 ∷ []) ≡ bits_of (3 ∷ []) → ⊥
+seven_alone e = absurd (let q : 7 ≡ 3 = ap number e in omega (arith, q))
+
+pub a_table_maps_the_numbers_law : rows.ATableMapsTheNumbers
+a_table_maps_the_numbers_law = record {
+  tree = refl;
+  written = leaf_spelled Written mapped_leaf (int (pos 3)) (pos 3) _ refl (record { permitted = refl; image = pos 2; maps = refl; spelled = (refl, refl) });
+  apart = four_mapped;
+  refused = leaf_fails mapped_leaf _ (out_of_range (pos 3)) 8 (inr (omega arith, (says (pos 3) (pos 3), refl, (unmapped, refl)), refl));
+  never = λ w. seven_alone (writing_of_a_tree rows.mapped refl (int (pos 4)) _ _ four_mapped w);
 }

@@ -353,9 +353,9 @@ presence_bits_stand_in_front_law = record { absent = truth_alone; present = both
 
 -- Telemetry.
 
-module _ (root : Grammar) (env : Env) where
-  fixed_part : (pattern : List Bool) (at : ℕ) → Spell root Any (node 1 (num (record { kind = Null; set = (pos 0, pos 0) ∷ []; coding = Fixed pattern; little = false; table = None; items = record { items = []; values = false } }))) env null at pattern
-  fixed_part pattern at = record { front = []; back = _; whole = refl; first = none Any at; second = (pos 0, refl, record { permitted = refl; image = pos 0; maps = refl; spelled = (refl, refl) }) }
+module _ (root : Grammar) (mode : Mode) (env : Env) where
+  pub fixed_part : (pattern : List Bool) (at : ℕ) → Spell root mode (node 1 (num (record { kind = Null; set = (pos 0, pos 0) ∷ []; coding = Fixed pattern; little = false; table = None; items = record { items = []; values = false } }))) env null at pattern
+  fixed_part pattern at = record { front = []; back = _; whole = refl; first = none mode at; second = (pos 0, refl, record { permitted = refl; image = pos 0; maps = refl; spelled = (refl, refl) }) }
 
 abbrev pub LengthCode : ℕ → Type 0
 LengthCode k = Code Any (record { kind = Integer; set = (pos 1, pos 65536) ∷ []; coding = PosInt 16; little = false; table = Some (record { name = 109 ∷ []; lines = (pos 1, pos 65536, pos 0) ∷ [] }); items = record { items = []; values = false } }) (pos (suc k)) (low_bits 16 k)
@@ -382,21 +382,21 @@ in_packet k code behind fault more f = inr (record {
           front = false ∷ false ∷ false ∷ [];
           back = _;
           whole = refl;
-          spelled = fixed_part telemetry ((0, pos (suc k)) ∷ []) (false ∷ false ∷ false ∷ []) 0;
+          spelled = fixed_part telemetry Any ((0, pos (suc k)) ∷ []) (false ∷ false ∷ false ∷ []) 0;
           more = 45 + more;
           reaches = omega arith;
           fails = inr (record {
             front = false ∷ [];
             back = _;
             whole = refl;
-            spelled = fixed_part telemetry ((0, pos (suc k)) ∷ []) (false ∷ []) 3;
+            spelled = fixed_part telemetry Any ((0, pos (suc k)) ∷ []) (false ∷ []) 3;
             more = 44 + more;
             reaches = omega arith;
             fails = inr (record {
               front = false ∷ [];
               back = _;
               whole = refl;
-              spelled = fixed_part telemetry ((0, pos (suc k)) ∷ []) (false ∷ []) 4;
+              spelled = fixed_part telemetry Any ((0, pos (suc k)) ∷ []) (false ∷ []) 4;
               more = 43 + more;
               reaches = omega arith;
               fails = inl (
@@ -414,7 +414,7 @@ in_packet k code behind fault more f = inr (record {
                       front = true ∷ true ∷ [];
                       back = _;
                       whole = refl;
-                      spelled = fixed_part telemetry ((0, pos (suc k)) ∷ []) (true ∷ true ∷ []) 16;
+                      spelled = fixed_part telemetry Any ((0, pos (suc k)) ∷ []) (true ∷ true ∷ []) 16;
                       more = 30 + more;
                       reaches = omega arith;
                       fails = inl (

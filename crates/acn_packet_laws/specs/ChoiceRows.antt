@@ -5,7 +5,7 @@ use Rattle.acn_grammar.specs.Fails.{Refusal}
 use Rattle.acn_grammar.specs.Front.{IsWritten}
 use Rattle.acn_grammar.specs.Grammar.{Grammar, Data, node, num, seq, choice, no_fields, no_alternatives, alternative, int, alt, record_of, no_places, filled}
 use Rattle.acn_grammar.specs.Interval.{span}
-use Rattle.acn_grammar.specs.LeafFails.{no_alternative}
+use Rattle.acn_grammar.specs.LeafFails.{short, no_alternative}
 use Rattle.acn_grammar.specs.Tree.{is_tree}
 use Rattle.acn_grammar.specs.declared.node.ChoiceRule.{ChoiceRule}
 use Rattle.acn_grammar.specs.declared.node.ChoiceRule.TheVariants.{Index, Tests, Item}
@@ -47,12 +47,13 @@ abbrev pub by_conditions : Grammar
 by_conditions = node 1 (seq (in_slot 116 u8 0 (field 99 (p_or_q Tests (Equals 0 (pos 1) ∷ []) (Equals 0 (pos 2) ∷ [])) Always no_fields)) (0 ∷ []))
 
 -- {"c":{"q":3}} is 10 bits of 02 c0, and never those of 01 c0, where t is 1. With 03 00, where t is 3, no alternative has
--- its conditions.
+-- its conditions, and 02 ends before q, which is named by its place among the alternatives.
 pub record ConditionsChoose : Type 0 where
   pub tree : is_tree by_conditions ≡ true
   pub bounds : span by_conditions ≡ record { least = 10; greatest = 10 }
   pub written : IsWritten by_conditions (chosen 1 3) (take 10 (bits_of (2 ∷ 192 ∷ [])))
   pub refused : Refusal by_conditions (bits_of (3 ∷ 0 ∷ [])) (record { path = 1 ∷ []; reason = no_alternative; at = 8 }) 8
+  pub cut : Refusal by_conditions (bits_of (2 ∷ [])) (record { path = 1 ∷ 1 ∷ []; reason = short; at = 8 }) 8
   pub never : IsWritten by_conditions (chosen 1 3) (take 10 (bits_of (1 ∷ 192 ∷ []))) → ⊥
 
 -- ENUMERATED { p, q } and ENUMERATED { p, q, r }

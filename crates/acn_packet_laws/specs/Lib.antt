@@ -1,8 +1,12 @@
 pub mod ChoiceRows
+pub mod ConditionRows
 pub mod ContentRows
+pub mod CutRows
+pub mod EndRows
 pub mod Laws
 pub mod ListRows
 pub mod NumberRows
 pub mod PlaceRows
 pub mod RequestRows
+pub mod SizeRows
 pub mod WorkedRows

@@ -1,5 +1,5 @@
 -- Packets that are worked by hand: elements of a list that a pattern ends, and elements that have their own sizes.
-use Rattle.std.specs.Prelude.{◌≡◌, ℕ, pos, Bool, true, false, List, [], ◌∷◌, take, replicate, None}
+use Rattle.std.specs.Prelude.{◌≡◌, ℕ, pos, Bool, true, List, [], ◌∷◌, take, replicate}
 use Rattle.acn_num.specs.Bits.{bits as bits_of}
 use Rattle.acn_grammar.specs.Fails.{Refusal}
 use Rattle.acn_grammar.specs.Front.{IsWritten}

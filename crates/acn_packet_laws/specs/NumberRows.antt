@@ -1,5 +1,5 @@
 -- Packets that are worked by hand: codings of numbers.
-use Rattle.std.specs.Prelude.{◌≡◌, ℕ, ◌^◌, ◌-◌, ℤ, pos, neg_ℤ, Bool, true, false, List, [], ◌∷◌, take, None, IsFalse}
+use Rattle.std.specs.Prelude.{◌≡◌, ℕ, ◌^◌, ◌-◌, ℤ, pos, neg_ℤ, Bool, true, false, [], ◌∷◌, take, Some, None, IsFalse}
 use Rattle.acn_num.specs.Bits.{low_bits, bits as bits_of}
 use Rattle.acn_grammar.specs.Fails.{Refusal}
 use Rattle.acn_grammar.specs.Front.{IsWritten}
@@ -8,7 +8,7 @@ use Rattle.acn_grammar.specs.Interval.{span}
 use Rattle.acn_grammar.specs.LeafFails.{short, out_of_range, not_minimal, bad_digit, too_long}
 use Rattle.acn_grammar.specs.Tree.{is_tree}
 use Rattle.acn_grammar.specs.declared.node.NumCoding.{NumCoding}
-use Rattle.acn_grammar.specs.declared.node.NumCoding.TheVariants.{Range, CountedFrom, PosInt, Twos, AsciiEnded}
+use Rattle.acn_grammar.specs.declared.node.NumCoding.TheVariants.{Range, CountedFrom, PosInt, Twos, BcdEnded, AsciiEnded}
 use Rattle.acn_grammar.specs.declared.node.NumKind.TheVariants.{Integer, Enumerated}
 use Rattle.acn_packet_laws.specs.WorkedRows.{integer}
 
@@ -75,8 +75,8 @@ pub record CharactersWithAnEndAreLeast : Type 0 where
 abbrev pub letters : NumCoding → (values : Bool) → Grammar
 letters coding values = node 1 (num (record { kind = Enumerated; set = (pos 0, pos 2) ∷ []; coding = coding; little = false; table = None; items = record { items = (98 ∷ [], pos 0) ∷ (99 ∷ [], pos 1) ∷ (97 ∷ [], pos 5) ∷ []; values = values } }))
 
--- "a" is 2 bits of 80, its place. With [encode-values, size 8, encoding pos-int] it is 05, its number, and never 02, which is
--- the number of no item.
+-- "a" is 2 bits of 80, its place, and c0 has a fourth place. With [encode-values, size 8, encoding pos-int] it is 05, its number,
+-- and never 02, which is the number of no item.
 pub record ItemsHavePlacesAndNumbers : Type 0 where
   pub tree : is_tree (letters (Range (pos 0) 2) false) ≡ true
   pub written : IsWritten (letters (Range (pos 0) 2) false) (item 2) (take 2 (bits_of (128 ∷ [])))
@@ -85,3 +85,29 @@ pub record ItemsHavePlacesAndNumbers : Type 0 where
   pub value : IsWritten (letters (PosInt 8) true) (item 2) (bits_of (5 ∷ []))
   pub no_number : Refusal (letters (PosInt 8) true) (bits_of (2 ∷ [])) (record { path = []; reason = out_of_range (pos 2); at = 0 }) 8
   pub never : IsWritten (letters (PosInt 8) true) (item 2) (bits_of (2 ∷ [])) → ⊥
+
+-- INTEGER (0..9999) with [size null-terminated, encoding BCD]
+abbrev pub ended_nibbles : Grammar
+ended_nibbles = integer (pos 0) (pos 9999) BcdEnded
+
+-- 0 is 8 bits of 0f. 12 has no end, f0 has no digit, the second digit of 1a is ten, and 12 34 5f has five digits. 120 is never
+-- 20 bits of 01 20 f0.
+pub record DigitsHaveAnEnd : Type 0 where
+  pub written : IsWritten ended_nibbles (int (pos 0)) (bits_of (15 ∷ []))
+  pub no_end : Refusal ended_nibbles (bits_of (18 ∷ [])) (record { path = []; reason = short; at = 0 }) 8
+  pub no_digit : Refusal ended_nibbles (bits_of (240 ∷ [])) (record { path = []; reason = bad_digit; at = 0 }) 4
+  pub refused : Refusal ended_nibbles (bits_of (26 ∷ [])) (record { path = []; reason = bad_digit; at = 0 }) 8
+  pub five_digits : Refusal ended_nibbles (bits_of (18 ∷ 52 ∷ 95 ∷ [])) (record { path = []; reason = too_long; at = 0 }) 20
+  pub never : IsWritten ended_nibbles (int (pos 120)) (take 20 (bits_of (1 ∷ 32 ∷ 240 ∷ []))) → ⊥
+
+-- INTEGER (1..4) with [size 8, encoding pos-int, mapping-function m] and m { 1..3 = 0 4 = 7 }
+abbrev pub mapped : Grammar
+mapped = node 1 (num (record { kind = Integer; set = (pos 1, pos 4) ∷ []; coding = PosInt 8; little = false; table = Some (record { name = 109 ∷ []; lines = (pos 1, pos 3, pos 0) ∷ (pos 4, pos 4, pos 7) ∷ [] }); items = record { items = []; values = false } }))
+
+-- 3 is 02 and 4 is 07, and never 03, which no number has under m: what is refused is the number that stands there
+pub record ATableMapsTheNumbers : Type 0 where
+  pub tree : is_tree mapped ≡ true
+  pub written : IsWritten mapped (int (pos 3)) (bits_of (2 ∷ []))
+  pub apart : IsWritten mapped (int (pos 4)) (bits_of (7 ∷ []))
+  pub refused : Refusal mapped (bits_of (3 ∷ [])) (record { path = []; reason = out_of_range (pos 3); at = 0 }) 8
+  pub never : IsWritten mapped (int (pos 4)) (bits_of (3 ∷ [])) → ⊥

@@ -1,5 +1,5 @@
 -- Packets that are worked by hand: where a failure is named, and the bits that it begins at.
-use Rattle.std.specs.Prelude.{ℕ, pos, Bool, true, false, List, [], ◌∷◌, take, None}
+use Rattle.std.specs.Prelude.{ℕ, pos, Bool, List, [], ◌∷◌, take, None}
 use Rattle.acn_num.specs.Bits.{bits as bits_of}
 use Rattle.acn_grammar.specs.Fails.{Refusal}
 use Rattle.acn_grammar.specs.Front.{IsWritten, Front}

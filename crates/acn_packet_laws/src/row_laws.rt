@@ -1,11 +1,15 @@
 //! Packets that are worked by hand, as laws of the definitions.
 
 ghost use Rattle.acn_packet_laws.specs.ChoiceRows.{AnIndexChooses, ConditionsChoose, AnItemChooses};
-ghost use Rattle.acn_packet_laws.specs.ContentRows.{AHeaderAndItsContents, ContentsEndInsideAField};
+ghost use Rattle.acn_packet_laws.specs.ConditionRows.{TheLeastThatIsMissed, ASizeMeetsACondition};
+ghost use Rattle.acn_packet_laws.specs.ContentRows.{AHeaderAndItsContents, ContentsEndInsideAField, ContentsBeginAtZero};
+ghost use Rattle.acn_packet_laws.specs.CutRows.{ACutIsNamedByItsField};
+ghost use Rattle.acn_packet_laws.specs.EndRows.{AnEndOfTwoOctets};
 ghost use Rattle.acn_packet_laws.specs.ListRows.{AnEndedListNamesItsElements, EachElementHasItsSize};
-ghost use Rattle.acn_packet_laws.specs.NumberRows.{LittleTurnsTheOctets, TwosComplementHasASign, ACountBeginsAtTheLowest, CharactersWithAnEndAreLeast, ItemsHavePlacesAndNumbers};
+ghost use Rattle.acn_packet_laws.specs.NumberRows.{LittleTurnsTheOctets, TwosComplementHasASign, ACountBeginsAtTheLowest, CharactersWithAnEndAreLeast, ItemsHavePlacesAndNumbers, DigitsHaveAnEnd, ATableMapsTheNumbers};
 ghost use Rattle.acn_packet_laws.specs.PlaceRows.{PresenceBitsMayBeShort, PaddingMayBeShort, AnElementIsNamedByItsPlace};
 ghost use Rattle.acn_packet_laws.specs.RequestRows.{APatternEndsTheList, AComponentDetermines, UnsoundNodesAreTold};
+ghost use Rattle.acn_packet_laws.specs.SizeRows.{SizesStandInFrontOfStrings, ASizeStandsInAnInnerSequence, ASizeNeedsItsNumber};
 ghost use Rattle.acn_packet_laws.specs.WorkedRows.{FieldsFollowEachOther, AnEndOfBitsIsShort, ASizeStandsInItsField, SizesInOneFieldAgree, WhatNothingAsksAboutIsLeast, EachDigitIsBelowTen, ATerminatorEndsTheText, ConditionsThatAreMissedAreAvoided, PaddingIsReadInAnyWay, ACountIsTheLeast, APatternHasAComplement, ZeroHasNoMinus, DigitsWithAnEndAreLeast, CharactersStandByTheirPlaces, PresenceBitsStandInFront, ASizeStandsInFront, ContentsFillTheirOctets};
 
 /// The fields of a SEQUENCE follow each other, and a number that isn't permitted is never written.
@@ -181,4 +185,54 @@ pub fn an_ended_list_names_its_elements()
 /// Each element of a list has the determinants that are at home in it.
 pub fn each_element_has_its_size()
     ensures { EachElementHasItsSize }
+{}
+
+/// The size of a string of bits or octets stands in front of it, and one that isn't permitted is refused.
+pub fn sizes_stand_in_front_of_strings()
+    ensures { SizesStandInFrontOfStrings }
+{}
+
+/// A size may stand in a field of an inner SEQUENCE, in front of what it determines.
+pub fn a_size_stands_in_an_inner_sequence()
+    ensures { ASizeStandsInAnInnerSequence }
+{}
+
+/// A size that is no permitted number of its field is refused and never written.
+pub fn a_size_needs_its_number()
+    ensures { ASizeNeedsItsNumber }
+{}
+
+/// Decimal digits with an end have one, have a digit in front of it, and no more digits than the greatest number.
+pub fn digits_have_an_end()
+    ensures { DigitsHaveAnEnd }
+{}
+
+/// A number under a table is written as its image, and one that is no image is refused as it stands.
+pub fn a_table_maps_the_numbers()
+    ensures { ATableMapsTheNumbers }
+{}
+
+/// Positions inside contents begin at zero, and a failure in them is named by its bit in the packet.
+pub fn contents_begin_at_zero()
+    ensures { ContentsBeginAtZero }
+{}
+
+/// A number that conditions avoid is written as the least that they leave, and read as any of these.
+pub fn the_least_that_is_missed()
+    ensures { TheLeastThatIsMissed }
+{}
+
+/// A size that would meet the condition of a component that is absent is refused and never written.
+pub fn a_size_meets_a_condition()
+    ensures { ASizeMeetsACondition }
+{}
+
+/// A text ends where all octets of its terminator first stand together.
+pub fn an_end_of_two_octets()
+    ensures { AnEndOfTwoOctets }
+{}
+
+/// A packet that is cut is Short at the field that it ends in, and no value stands at its front.
+pub fn a_cut_is_named_by_its_field()
+    ensures { ACutIsNamedByItsField }
 {}
