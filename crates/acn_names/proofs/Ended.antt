@@ -29,7 +29,7 @@ first_or_later : {A : Type 0} {y z : A} {xs : List A} → Within y (z ∷ xs) �
 first_or_later here = inl refl
 first_or_later (there i) = inr i
 
-without : {A : Type 0} {x : A} (xs : List A) → Within x xs → (ys : List A) × (length xs ≡ suc (length ys)) × ((y : A) → Within y xs → (y ≡ x) ⊎ Within y ys)
+pub without : {A : Type 0} {x : A} (xs : List A) → Within x xs → (ys : List A) × (length xs ≡ suc (length ys)) × ((y : A) → Within y xs → (y ≡ x) ⊎ Within y ys)
 without [] i = absurd (elim i [ ])
 without (z ∷ xs) here = (xs, refl, λ y j. first_or_later j)
 without (z ∷ xs) (there i) = let h = without xs i in (z ∷ h.0, ap suc h.1, λ y j. kept h.2 j)
@@ -67,14 +67,14 @@ is_reference (value.Hex name) other e = absurd (cc e)
 is_reference (value.Text name) other e = absurd (cc e)
 
 module _ (w : World) where
-  every_place : length (places w) ≡ count w
+  pub every_place : length (places w) ≡ count w
   unfolding places count
   every_place = place_count 0 w.modules
 
-  assigned_in : (p : TypeId) → IsAssigned w p → Within p (places w)
+  pub assigned_in : (p : TypeId) → IsAssigned w p → Within p (places w)
   assigned_in p a = got_in (places w) (number_in (starts w) p) p (place_of_number w p a.0 a.1)
 
-  reached_in : {p q : TypeId} {way : List TypeId} → Reaches w p q way → Within q (places w)
+  pub reached_in : {p q : TypeId} {way : List TypeId} → Reaches w p q way → Within q (places w)
   reached_in (once {p} {q} i) = assigned_in q (target_assigned w p q i)
   reached_in (more i rest) = reached_in rest
 

@@ -21,11 +21,11 @@ no_first : {A : Type 0} (xs : List A) → first xs ≡ None → xs ≡ []
 no_first [] e = refl
 no_first (x ∷ xs) e = absurd (cc e)
 
-front_empty : {A : Type 0} (xs ys : List A) → xs ++ ys ≡ [] → xs ≡ []
+pub front_empty : {A : Type 0} (xs ys : List A) → xs ++ ys ≡ [] → xs ≡ []
 front_empty [] ys e = refl
 front_empty (x ∷ xs) ys e = absurd (cc e)
 
-back_empty : {A : Type 0} (xs ys : List A) → xs ++ ys ≡ [] → ys ≡ []
+pub back_empty : {A : Type 0} (xs ys : List A) → xs ++ ys ≡ [] → ys ≡ []
 back_empty [] ys e = e
 back_empty (x ∷ xs) ys e = absurd (cc e)
 
@@ -46,7 +46,7 @@ numbered_empty f j k (z ∷ xs) zero x s e g =
     ap (λ (y : _). f (k, y)) (sym same) ∙ (ap (λ (i : ℕ). f (i, z)) at_j ∙ front_empty (f (j, z)) (flat_map f (enumerate_from (j + 1) xs)) e)
 numbered_empty f j k (z ∷ xs) (suc n) x s e g = numbered_empty f (j + 1) k xs n x (omega arith) (back_empty (f (j, z)) (flat_map f (enumerate_from (j + 1) xs)) e) g
 
-there_when : {A : Type 0} (o : Option A) (name : Name) → when (not (is_some o)) name ≡ [] → (x : A) × (o ≡ Some x)
+pub there_when : {A : Type 0} (o : Option A) (name : Name) → when (not (is_some o)) name ≡ [] → (x : A) × (o ≡ Some x)
 there_when None name e = absurd (cc e)
 there_when (Some x) name e = (x, refl)
 
@@ -61,7 +61,7 @@ module _ (w : World) where
       let of_asn = front_empty (flat_map (λ (x : ℕ × AsnModule). unknown_of x.1.name (unknown_in w x.0 x.1)) (enumerate_from 0 w.modules)) (flat_map (λ (a : Module). unknown_of a.name (acn_unknown_in w a)) w.acn) (no_unknowns e) in
       map_empty (λ (n : Name). fault.Unknown m.name n) (unknown_in w k m) (numbered_empty (λ (x : ℕ × AsnModule). unknown_of x.1.name (unknown_in w x.0 x.1)) 0 k w.modules k m (omega arith) of_asn g)
 
-  none_of : early_fault w ≡ None → (p : TypeId) (a : Assign) → assignment w p ≡ Some a → unknown_mentions w p.module (assign_mentions a) ≡ []
+  pub none_of : early_fault w ≡ None → (p : TypeId) (a : Assign) → assignment w p ≡ Some a → unknown_mentions w p.module (assign_mentions a) ≡ []
   unfolding unknown_in
   none_of e p a f =
       let m = stands_in w p a f in

@@ -4,3 +4,5 @@ mod Weights
 mod Valued
 mod Known
 mod Ended
+mod Inside
+mod Based

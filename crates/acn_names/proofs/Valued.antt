@@ -36,7 +36,7 @@ tested test s (x ∷ xs) i e = elim (now_or_later (test x) s i (position_from te
 ]
 
 module _ (w : World) where
-  abbrev IsTested : (Assign → Bool) → TypeId → Type 0
+  abbrev pub IsTested : (Assign → Bool) → TypeId → Type 0
   IsTested test p = (a : Assign) × (assignment w p ≡ Some a) × (test a ≡ true)
 
   abbrev pub IsValued : TypeId → Type 0
@@ -56,7 +56,7 @@ module _ (w : World) where
       let there = at_module k i.0 m.0 r.2 m.1 (ap (slice_get m.0.items) same ∙ r.3) in
       (r.2, subst (λ (p : TypeId). assignment w p ≡ Some r.2) i.2 there, r.4)
 
-  within_tested : (n : ℕ) (test : Assign → Bool) (name : Name) (k : ℕ) (q : TypeId) → found_within n w test name k ≡ Some q → IsTested test q
+  pub within_tested : (n : ℕ) (test : Assign → Bool) (name : Name) (k : ℕ) (q : TypeId) → found_within n w test name k ≡ Some q → IsTested test q
   unfolding found_within
   within_tested zero test name k q e = absurd (cc e)
   within_tested (suc n) test name k q e = elim (either_of (own w test k) (option_and_then (found_within n w test name) (imported_from w name k)) q e) [

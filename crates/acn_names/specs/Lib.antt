@@ -1,3 +1,4 @@
 pub mod Few
 pub mod Rounds
+pub mod Standing
 pub mod Laws

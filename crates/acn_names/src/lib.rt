@@ -14,6 +14,8 @@ mod wrong;
 pub use early::early_fault;
 pub use few::are_few;
 pub use gathering::gather;
-pub use laws::each_named_value_is_found;
+pub use laws::{
+    each_named_value_is_found, each_type_has_a_base, references_have_the_chain_of_their_type,
+};
 pub use resolving::resolve;
 pub use wrong::late_fault;
