@@ -1,5 +1,5 @@
 -- What the constraints of a chain leave: numbers, sizes and characters, or the fault that is theirs.
-use Rattle.std.specs.Prelude.{ℕ, Bool, true, false, not, ◌||◌, List, [], ◌∷◌, ◌++◌, Option, Some, None, option_and_then, if◌then◌else◌, ℤ, pos, negsuc, int_lt, Result, Ok, Err}
+use Rattle.std.specs.Prelude.{ℕ, Bool, true, false, not, ◌||◌, ◌&&◌, List, [], ◌∷◌, ◌++◌, Option, Some, None, option_and_then, if◌then◌else◌, ℤ, pos, negsuc, int_lt, Result, Ok, Err}
 use Rattle.std.specs.List.{filter_map, flat_map, list_any}
 use Rattle.acn_num.specs.Ranges.{Ranges, has, meet, bottom, top, least, greatest}
 use Rattle.acn_asn_syntax.specs.Mirror.{Set, all_except, union_of, Meets, no_meets, and_meet, Meet, meet_of, Parts, no_parts, and_part, Part, part_of, part_but, Element, value_of, range_of as range_element, size_of as size_element, from_of, inner_of, AsnBase, sequence_size, Constraint, by_set, by_size, containing}
@@ -196,3 +196,22 @@ alphabet_left w chain = not_empty (characters_of w chain) (Ok (characters_of w c
 
 unfoldable pub alphabet_of : World → ChainOf → Result Ranges Fault
 alphabet_of w chain = judged w chain (alphabet_left w chain)
+
+-- the sizes and the characters of a text
+pub record Texts : Type 0 where
+  pub sizes : Ranges
+  pub characters : Ranges
+
+abbrev pub limited_text : Ranges → Ranges → Option ℤ → Result Texts Fault
+limited_text s cs None = Ok (record { sizes = s; characters = cs })
+limited_text s cs (Some most) = if int_lt (pos 65536) most then Err (size_limit most) else Ok (record { sizes = s; characters = cs })
+
+-- Each fault is looked for in both before the next one is. A SIZE that isn't written is no bound.
+abbrev pub texts_left : Bool → Ranges → Ranges → Result Texts Fault
+texts_left written s cs = not_empty s (not_empty cs (unless (written && not (has s top)) unbounded (limited_text s cs (greatest s))))
+
+abbrev pub text_left : World → ChainOf → Result Texts Fault
+text_left w chain = texts_left (has_size chain) (sizes_of w chain) (characters_of w chain)
+
+unfoldable pub text_of : World → ChainOf → Result Texts Fault
+text_of w chain = judged w chain (text_left w chain)

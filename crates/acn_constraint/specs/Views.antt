@@ -3,7 +3,8 @@ use Rattle.std.specs.Prelude.{◌≡◌, Option, Some, None, Result, Ok, Err}
 use Rattle.acn_constraint.specs.Constraints as spec
 use Rattle.acn_constraint.specs.declared.fault.ConstraintFault.{ConstraintFault}
 use Rattle.acn_constraint.specs.declared.fault.ConstraintFault.TheVariants as fault
-use Rattle.acn_constraint.specs.declared.answer.OpenSet.{OpenSet}
+use Rattle.acn_constraint.specs.declared.ends.OpenSet.{OpenSet}
+use Rattle.acn_constraint.specs.declared.ends.TextSets.{TextSets}
 
 -- want of memory says nothing of the constraints
 abbrev pub fault_of : ConstraintFault → Option spec.Fault
@@ -16,6 +17,9 @@ fault_of fault.NoMemory = None
 
 abbrev pub opened_of : OpenSet → spec.Opened
 opened_of s = record { numbers = s.numbers; open_below = s.open_below; open_above = s.open_above }
+
+abbrev pub texts_of : TextSets → spec.Texts
+texts_of s = record { sizes = s.sizes; characters = s.characters }
 
 abbrev pub Refused : {B : Type 0} → Option spec.Fault → Result B spec.Fault → Type 0
 Refused None want = Unit {0}

@@ -3,29 +3,17 @@ ghost use Rattle.acn_world.specs.Chained.{chain_view, constraints_view};
 ghost use Rattle.acn_world.specs.Viewed.{world_view};
 ghost use Rattle.acn_constraint.specs.Constraints as spec;
 ghost use Rattle.acn_set_elements.specs.Stands as stands;
-ghost use Rattle.acn_constraint.specs.Views.{Answers, opened_of};
+ghost use Rattle.acn_constraint.specs.Views.{Answers, opened_of, texts_of};
 
 use crate::ConstraintFault;
 use crate::along::{base_of, constraints_of, first_low, has_size, met};
-use crate::ends::{filled, opened, sized};
+use crate::ends::{OpenSet, TextSets, filled, opened, sized, text_sets};
 use crate::evaluate::Reading;
-use crate::span::{BOTTOM, TOP};
 use acn_asn_syntax::Constraint;
-use acn_num::{NoMemory, RangeSet};
+use acn_num::{BOTTOM, NoMemory, RangeSet, TOP};
 use acn_set_elements::{all_stand, named_of};
 use acn_world::{Chain, World};
 use std::alloc::Global;
-
-/// The numbers of an INTEGER, from `-2^63` to `2^64 - 1`, and whether they have no bound below or above.
-#[derive(Debug, Drop)]
-pub struct OpenSet {
-    /// The numbers.
-    pub numbers: RangeSet,
-    /// Whether there is no bound below.
-    pub open_below: bool,
-    /// Whether there is no bound above.
-    pub open_above: bool,
-}
 
 // Whether each constraint may stand where it stands.
 fn all_here(world: &World, chain: &Chain<'_>, constraints: &[(u32, &Constraint)]) -> bool
@@ -168,6 +156,21 @@ fn alphabet_left(
     filled(characters)
 }
 
+// The sizes and the characters that are left.
+fn text_left(
+    alloc: Global,
+    world: &World,
+    chain: &Chain<'_>,
+    constraints: &[(u32, &Constraint)],
+) -> Result<TextSets, ConstraintFault>
+    requires { constraints_view constraints.now ≡ spec.constraints_of (chain_view chain.now) }
+    ensures { Answers texts_of result (spec.text_left (world_view world.now) (chain_view chain.now)) }
+{
+    let sizes = sizes_of(alloc, world, chain, constraints)?;
+    let characters = characters_of(alloc, world, chain, constraints)?;
+    text_sets(is_sized(chain, constraints), sizes, characters)
+}
+
 /// The numbers of an INTEGER with this chain. `NotHere` comes first, where an element doesn't stand on the type;
 /// then `TooWide`, for the first written number below `-2^63`; then `Empty`, where no number is left.
 #[tactic(auto, unfolding(crate::specs::Constraints::range_of))]
@@ -213,5 +216,18 @@ pub fn alphabet_of(
     match judge(world, chain, constraints.items()) {
         Err(fault) => Err(fault),
         Ok(()) => alphabet_left(alloc, world, chain, constraints.items()),
+    }
+}
+
+/// The sizes and the characters of an IA5String with this chain, which has to say SIZE. Each fault is looked for in both
+/// before the next one is: `NotHere`, `TooWide`, `Empty`, `Unbounded`, also where no SIZE is written, and `SizeLimit`.
+#[tactic(auto, unfolding(crate::specs::Constraints::text_of))]
+pub fn text_of(alloc: Global, world: &World, chain: &Chain<'_>) -> Result<TextSets, ConstraintFault>
+    ensures { Answers texts_of result (spec.text_of (world_view world.now) (chain_view chain.now)) }
+{
+    let constraints = constraints_of(alloc, chain)?;
+    match judge(world, chain, constraints.items()) {
+        Err(fault) => Err(fault),
+        Ok(()) => text_left(alloc, world, chain, constraints.items()),
     }
 }

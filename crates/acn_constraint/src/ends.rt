@@ -3,28 +3,40 @@
 ghost use Rattle.std.specs.Prelude.{◌≡◌, IfOk, Ok, int_lt, pos};
 ghost use Rattle.acn_num.specs.Ranges.{greatest};
 ghost use Rattle.acn_constraint.specs.Constraints as spec;
-ghost use Rattle.acn_constraint.specs.Views.{Answers, opened_of};
+ghost use Rattle.acn_constraint.specs.Views.{Answers, opened_of, texts_of};
 
 use crate::ConstraintFault;
-use crate::answer::OpenSet;
-use crate::span::{BOTTOM, TOP};
-use acn_num::{NoMemory, RangeSet};
+use acn_num::{BOTTOM, GREATEST_NUMBER, LEAST_NUMBER, MOST_SIZE, NoMemory, RangeSet, TOP};
 use std::alloc::Global;
 
-/// The least number.
-const LEAST: i128 = -9223372036854775808;
 /// The greatest number beside negative ones.
 const GREATEST_SIGNED: i128 = 9223372036854775807;
-/// The greatest number.
-const GREATEST: i128 = 18446744073709551615;
-/// The greatest size.
-const MOST: i128 = 65536;
+
+/// The numbers of an INTEGER, from `-2^63` to `2^64 - 1`, and whether they have no bound below or above.
+#[derive(Debug, Drop)]
+pub struct OpenSet {
+    /// The numbers.
+    pub numbers: RangeSet,
+    /// Whether there is no bound below.
+    pub open_below: bool,
+    /// Whether there is no bound above.
+    pub open_above: bool,
+}
+
+/// The sizes and the characters of an IA5String.
+#[derive(Debug, Drop)]
+pub struct TextSets {
+    /// The sizes.
+    pub sizes: RangeSet,
+    /// The characters.
+    pub characters: RangeSet,
+}
 
 // The numbers of a set without the two ends.
 fn bounded(alloc: Global, set: &RangeSet) -> Result<RangeSet, NoMemory>
     ensures { IfOk result (λ s. s ≡ spec.bounded set.now) }
 {
-    let ends = RangeSet::one(alloc, LEAST, GREATEST)?;
+    let ends = RangeSet::one(alloc, LEAST_NUMBER, GREATEST_NUMBER)?;
     set.meet(alloc, &ends)
 }
 
@@ -51,7 +63,7 @@ fn within_words(alloc: Global, signed: bool, set: RangeSet) -> Result<RangeSet, 
     if !signed {
         return Ok(set);
     }
-    let words = RangeSet::one(alloc, LEAST, GREATEST_SIGNED)?;
+    let words = RangeSet::one(alloc, LEAST_NUMBER, GREATEST_SIGNED)?;
     set.meet(alloc, &words)
 }
 
@@ -90,7 +102,7 @@ pub fn opened(alloc: Global, set: &RangeSet) -> Result<OpenSet, ConstraintFault>
 fn is_large(size: &i128) -> bool
     ensures { result ≡ int_lt (pos 65536) size.now }
 {
-    *size > MOST
+    *size > i128::from(MOST_SIZE)
 }
 
 // The sizes, where the greatest one is in its limit.
@@ -133,4 +145,40 @@ pub fn filled(set: RangeSet) -> Result<RangeSet, ConstraintFault>
         return Err(ConstraintFault::Empty);
     }
     Ok(set)
+}
+
+// The two sets, where the greatest size is in its limit.
+fn limited_text(sizes: RangeSet, characters: RangeSet) -> Result<TextSets, ConstraintFault>
+    ensures { Answers texts_of result (spec.limited_text sizes characters (greatest sizes)) }
+{
+    match sizes.greatest() {
+        None => Ok(TextSets { sizes, characters }),
+        Some(size) => {
+            if is_large(&size) {
+                Err(ConstraintFault::SizeLimit { size })
+            } else {
+                Ok(TextSets { sizes, characters })
+            }
+        }
+    }
+}
+
+/// The two sets of a text: both have something in them, and the sizes are written and have a greatest one in its limit.
+pub fn text_sets(
+    written: bool,
+    sizes: RangeSet,
+    characters: RangeSet,
+) -> Result<TextSets, ConstraintFault>
+    ensures { Answers texts_of result (spec.texts_left written sizes characters) }
+{
+    if is_empty(&sizes) {
+        return Err(ConstraintFault::Empty);
+    }
+    if is_empty(&characters) {
+        return Err(ConstraintFault::Empty);
+    }
+    if !written || sizes.holds(TOP) {
+        return Err(ConstraintFault::Unbounded);
+    }
+    limited_text(sizes, characters)
 }

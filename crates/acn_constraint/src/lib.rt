@@ -11,5 +11,6 @@ mod low;
 mod sized;
 mod span;
 
-pub use answer::{OpenSet, alphabet_of, range_of, size_of};
+pub use answer::{alphabet_of, range_of, size_of, text_of};
+pub use ends::{OpenSet, TextSets};
 pub use fault::ConstraintFault;

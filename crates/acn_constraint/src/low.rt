@@ -6,6 +6,7 @@ ghost use Rattle.acn_world.specs.Viewed.{world_view};
 ghost use Rattle.acn_constraint.specs.Constraints as spec;
 
 use acn_asn_syntax::{AsnValue, Constraint, Element, Meet, Named, Part, Set};
+use acn_num::LEAST_NUMBER;
 use acn_set_elements::number_in;
 use acn_world::World;
 
@@ -17,14 +18,11 @@ pub struct Names<'w> {
     pub names: &'w [Named],
 }
 
-/// The least number that can be kept.
-const LEAST: i128 = -9223372036854775808;
-
 // Whether a number is below the least one that can be kept.
 fn is_low(x: &i128) -> bool
     ensures { result ≡ int_lt x.now (negsuc 9223372036854775807) }
 {
-    *x < LEAST
+    *x < LEAST_NUMBER
 }
 
 // The number of a value, where it is too low.

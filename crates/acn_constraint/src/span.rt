@@ -2,13 +2,8 @@ ghost use Rattle.std.specs.Prelude.{◌≡◌, ◌≤ℤ◌, IfOk};
 ghost use Rattle.acn_num.specs.Ranges.{some_range, bottom, top};
 ghost use Rattle.acn_constraint.specs.Sets as sets;
 
-use acn_num::{NoMemory, RangeSet};
+use acn_num::{BOTTOM, NoMemory, RangeSet, TOP};
 use std::alloc::Global;
-
-/// The end of all sets below, which stands for "without bound".
-pub const BOTTOM: i128 = -9223372036854775809;
-/// The end of all sets above.
-pub const TOP: i128 = 18446744073709551616;
 
 // The number, or the end of all sets that is nearer to it.
 fn nearest(x: &i128) -> i128
