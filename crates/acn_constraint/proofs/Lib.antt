@@ -3,3 +3,5 @@ mod Firsts
 mod Judged
 mod Steps
 mod Unions
+mod Permitted
+mod InOrder

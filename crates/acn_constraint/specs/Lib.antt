@@ -1,5 +1,6 @@
 pub mod Constraints
 pub mod Each
+pub mod Permits
 pub mod Readings
 pub mod Sets
 pub mod Sized

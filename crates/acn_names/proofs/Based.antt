@@ -1,5 +1,5 @@
 -- Chains of references end: no more assignments are passed than there are, since none is passed twice.
-use Rattle.std.proofs.Common.{◌≡◌, ℕ, zero, suc, ◌≤◌, Bool, true, List, [], ◌∷◌, ◌++◌, length, refl, sym, ap, subst, ◌∙◌, arith, inl, inr}
+use Rattle.std.proofs.Common.{◌≡◌, ℕ, zero, suc, ◌≤◌, true, List, [], ◌∷◌, ◌++◌, length, refl, sym, ap, subst, ◌∙◌, arith, inl, inr}
 use Rattle.std.specs.Prelude.{Option, Some, None, flat_map, filter_map, reverse, option_and_then, option_map, not}
 use Rattle.std.specs.List.{cons_option}
 use Rattle.std.proofs.lemmas.List.{append-nil, reverse-append}
@@ -18,7 +18,7 @@ use Rattle.acn_world.specs.Chains.{Link, ChainOf, written, assigned_link, base_r
 use Rattle.acn_world.specs.Faults.{IsSound, early_fault}
 use Rattle.acn_world.specs.declared.sources.TypeId.{TypeId}
 use Rattle.acn_names.specs.Standing.{Stands}
-use Rattle.acn_names.proofs.Valued.{chained, IsTested, within_tested}
+use Rattle.acn_names.proofs.Valued.{chained, within_tested}
 use Rattle.acn_names.proofs.Known.{front_empty, back_empty, there_when, none_of}
 use Rattle.acn_names.proofs.Ended.{without, every_place, assigned_in, reached_in}
 use Rattle.acn_names.proofs.Inside.{IsInside, stands_inside, mentioned}

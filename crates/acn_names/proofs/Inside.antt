@@ -1,5 +1,5 @@
 -- What is mentioned in a type that stands in a module is mentioned in one of its assignments.
-use Rattle.std.proofs.Common.{◌≡◌, ℕ, List, [], ◌∷◌, ◌++◌, map, refl, sym, ap, subst, inl, inr, ◌⊎◌}
+use Rattle.std.proofs.Common.{◌≡◌, ℕ, List, [], ◌∷◌, ◌++◌, map, sym, ap, subst, inl, inr, ◌⊎◌}
 use Rattle.std.specs.Prelude.{Option, Some, None, flat_map}
 use Rattle.acn_num.specs.Names.{Name}
 use Rattle.acn_asn_syntax.specs.Mirror.{AsnType, type_of, AsnBase, boolean, null, integer, enumerated, octet_string, bit_string, ia5_string, sequence, sequence_of, sequence_size, choice, reference, Constraints, no_constraints, and_constraint, Constraint, by_set, by_size, containing, Components, no_components, and_component, Alternatives, no_alternatives, and_alternative, Component, Alternative, Assign, TypeIs, ValueIs, component_list, alternative_list, constraint_list}
