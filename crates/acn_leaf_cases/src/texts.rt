@@ -167,7 +167,7 @@ fn code_in_words(
 }
 
 // The bits of a value that is a text.
-#[tactic(auto, using(crate::proofs::Breach::none_left))]
+#[tactic(auto, using(crate::proofs::Breach::text_meets))]
 fn text_in_words(
     alloc: Global,
     root: &Node,
