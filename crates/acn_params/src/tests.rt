@@ -18,23 +18,41 @@ fn header(alloc: Global, name: &[u8], number: u32, optional: bool) -> Result<Sco
     Ok(ScopeField::Inner(Name::copy(alloc, name)?, fields, optional))
 }
 
-// The scope of a field of `SEQUENCE { n, absent OPTIONAL, header { size }, extra { size } OPTIONAL, pad }`, inside
-// `SEQUENCE { n, outer }`, where the parameter `count` is bound to slot 9.
-fn scope(alloc: Global) -> Result<Scope, NoMemory> {
+// Inside `SEQUENCE { n, outer }`, where the parameter `count` is bound to slot 9.
+fn outer(alloc: Global) -> Result<Scope, NoMemory> {
     let mut bound = Vec::new(alloc);
     bound.push((Name::copy(alloc, b"count")?, 9))?;
     let mut scope = Scope::new(alloc, bound);
-    let mut outer = Vec::new(alloc);
-    outer.push(slot(alloc, b"n", 0, false)?)?;
-    outer.push(slot(alloc, b"outer", 1, false)?)?;
-    scope.enter(outer)?;
+    let mut fields = Vec::new(alloc);
+    fields.push(slot(alloc, b"n", 0, false)?)?;
+    fields.push(slot(alloc, b"outer", 1, false)?)?;
+    scope.enter(fields)?;
+    Ok(scope)
+}
+
+// The fields of `SEQUENCE { n, absent OPTIONAL, header { size }, extra { size } OPTIONAL, pad }`.
+fn inner(alloc: Global) -> Result<Vec<ScopeField>, NoMemory> {
     let mut fields = Vec::new(alloc);
     fields.push(slot(alloc, b"n", 2, false)?)?;
     fields.push(slot(alloc, b"absent", 3, true)?)?;
     fields.push(header(alloc, b"header", 4, false)?)?;
     fields.push(header(alloc, b"extra", 5, true)?)?;
     fields.push(other(alloc, b"pad")?)?;
-    scope.enter(fields)?;
+    Ok(fields)
+}
+
+// Inside the second, which stands in the first.
+fn scope(alloc: Global) -> Result<Scope, NoMemory> {
+    let mut scope = outer(alloc)?;
+    scope.enter(inner(alloc)?)?;
+    Ok(scope)
+}
+
+// The same when the second is left.
+fn left(alloc: Global) -> Result<Scope, NoMemory> {
+    let mut scope = outer(alloc)?;
+    scope.enter(inner(alloc)?)?;
+    scope.leave();
     Ok(scope)
 }
 
@@ -61,24 +79,98 @@ fn led(alloc: Global, scope: &Scope, names: &[&[u8]]) -> Result<Lead, NoMemory> 
     })
 }
 
+/// A path, and where it leads.
+struct Case {
+    names: &'static [&'static [u8]],
+    lead: Lead,
+}
+
+const INSIDE: &[Case] = &[
+    Case {
+        names: &[b"n"],
+        lead: Lead::To(2),
+    },
+    Case {
+        names: &[b"outer"],
+        lead: Lead::To(1),
+    },
+    Case {
+        names: &[b"header", b"size"],
+        lead: Lead::To(4),
+    },
+    Case {
+        names: &[b"count"],
+        lead: Lead::To(9),
+    },
+    Case {
+        names: &[b"absent"],
+        lead: Lead::Through(1),
+    },
+    Case {
+        names: &[b"extra", b"size"],
+        lead: Lead::Through(1),
+    },
+    Case {
+        names: &[b"header"],
+        lead: Lead::Nowhere,
+    },
+    Case {
+        names: &[b"pad"],
+        lead: Lead::Nowhere,
+    },
+    Case {
+        names: &[b"n", b"size"],
+        lead: Lead::Nowhere,
+    },
+    Case {
+        names: &[b"count", b"size"],
+        lead: Lead::Nowhere,
+    },
+    Case {
+        names: &[b"nothing"],
+        lead: Lead::Nowhere,
+    },
+    Case {
+        names: &[],
+        lead: Lead::Nowhere,
+    },
+];
+
+const OUTSIDE: &[Case] = &[
+    Case {
+        names: &[b"n"],
+        lead: Lead::To(0),
+    },
+    Case {
+        names: &[b"absent"],
+        lead: Lead::Nowhere,
+    },
+    Case {
+        names: &[b"count"],
+        lead: Lead::To(9),
+    },
+];
+
+// The place of the first case that is answered otherwise.
+fn first_other(alloc: Global, scope: &Scope, cases: &[Case]) -> Result<Option<usize>, NoMemory> {
+    for (place, case) in cases.iter().enumerate() {
+        if led(alloc, scope, case.names)? != case.lead {
+            return Ok(Some(place));
+        }
+    }
+    Ok(None)
+}
+
 #[test]
 fn paths_lead_to_slots_or_are_refused(rt: HostRuntime) -> Result<(), NoMemory> {
-    let alloc = rt.alloc();
-    let mut scope = scope(alloc)?;
-    assert_eq!(rt; led(alloc, &scope, &[b"n"])?, Lead::To(2));
-    assert_eq!(rt; led(alloc, &scope, &[b"outer"])?, Lead::To(1));
-    assert_eq!(rt; led(alloc, &scope, &[b"header", b"size"])?, Lead::To(4));
-    assert_eq!(rt; led(alloc, &scope, &[b"count"])?, Lead::To(9));
-    assert_eq!(rt; led(alloc, &scope, &[b"absent"])?, Lead::Through(1));
-    assert_eq!(rt; led(alloc, &scope, &[b"extra", b"size"])?, Lead::Through(1));
-    assert_eq!(rt; led(alloc, &scope, &[b"header"])?, Lead::Nowhere);
-    assert_eq!(rt; led(alloc, &scope, &[b"pad"])?, Lead::Nowhere);
-    assert_eq!(rt; led(alloc, &scope, &[b"n", b"size"])?, Lead::Nowhere);
-    assert_eq!(rt; led(alloc, &scope, &[b"count", b"size"])?, Lead::Nowhere);
-    assert_eq!(rt; led(alloc, &scope, &[b"nothing"])?, Lead::Nowhere);
-    assert_eq!(rt; led(alloc, &scope, &[])?, Lead::Nowhere);
-    scope.leave();
-    assert_eq!(rt; led(alloc, &scope, &[b"n"])?, Lead::To(0));
-    assert_eq!(rt; led(alloc, &scope, &[b"absent"])?, Lead::Nowhere);
+    let scope = scope(rt.alloc())?;
+    assert_eq!(rt; first_other(rt.alloc(), &scope, INSIDE)?, None);
+    Ok(())
+}
+
+#[test]
+fn what_is_left_is_seen_no_more(rt: HostRuntime) -> Result<(), NoMemory> {
+    let scope = left(rt.alloc())?;
+    assert_eq!(rt; first_other(rt.alloc(), &scope, OUTSIDE)?, None);
     Ok(())
 }
