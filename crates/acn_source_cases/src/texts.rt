@@ -1,8 +1,5 @@
 //! From texts to the trees of sources.
 
-ghost use Rattle.std.specs.Prelude.{◌≤◌, length, IfOk};
-ghost use Rattle.acn_lex.specs.Tokens.{IsTokens};
-
 use crate::sheet::{Kind, Sheet};
 use crate::trouble::Trouble;
 use acn_acn_parse::{parse_acn, parse_map};

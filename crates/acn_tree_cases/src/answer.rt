@@ -1,7 +1,7 @@
 //! Answers to cases.
 
 ghost use Rattle.acn_grammar.specs.View.{grammar_of};
-ghost use Rattle.acn_tree.specs.ItemsNamed.{ItemsNamed};
+ghost use Rattle.acn_grammar.specs.ItemsNamed.{ItemsNamed};
 
 use crate::building::Built;
 use crate::fault::fault_in_words;
