@@ -12,7 +12,7 @@ FILE ends in .asn or .asn1 and holds one SEQUENCE of ranged integers.
 const VERSION: &str = "acn 0.1\n";
 
 /// What is answered before anything is read.
-#[derive(Clone, Copy, Debug, PartialEq, Eq)]
+#[derive(Clone, Copy, PartialEq, Eq)]
 pub enum Question {
     /// How the program is called.
     Help,

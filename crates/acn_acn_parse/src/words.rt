@@ -13,7 +13,7 @@ use acn_num::Name;
 use std::alloc::Global;
 
 /// The name of an attribute.
-#[derive(Clone, Copy, Debug)]
+#[derive(Clone, Copy)]
 pub enum Attribute {
     Size,
     Encoding,

@@ -1,7 +1,7 @@
 ghost use Rattle.std.specs.Prelude.{◌≡◌, ◌+◌, ◌*◌, ◌/◌, ◌%◌, ◌^◌};
 
 /// A generator of numbers, which gives the same ones at each run: a linear congruence whose upper halves are drawn.
-#[derive(Clone, Debug, Drop)]
+#[derive(Clone, Drop)]
 pub struct Draw {
     state: u64,
 }

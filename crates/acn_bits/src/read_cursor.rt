@@ -7,7 +7,7 @@ use crate::word::number_at;
 use std::marker::Model;
 
 /// The window has fewer bits left than were asked for.
-#[derive(Clone, Copy, Debug, PartialEq, Eq)]
+#[derive(Clone, Copy, PartialEq, Eq)]
 pub struct Short;
 
 /// A reader of the bits of a window, the most significant bit of each octet first.

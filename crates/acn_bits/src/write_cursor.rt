@@ -6,7 +6,6 @@ use crate::part::put_bits;
 use std::marker::Model;
 
 /// Bits that are zeros until they are filled. It can't be dropped or copied: only `fill` spends it.
-#[derive(Debug)]
 pub struct Hole {
     place: u64,
     width: u32,

@@ -10,7 +10,7 @@ use Rattle.std.proofs.lemmas.Nat.{pow_pos, shl-shr, shr_split, le-div}
 use Rattle.std.proofs.Math.Nat.{pow-le-pow_right, mul-le-mul_right}
 use mir.Val.{bool_byte}
 use native.Mathlib.Decide.{dec_lt}
-use Rattle.acn_bits.proofs.BitLists.{number_below, number-append, number_same, number-take}
+use Rattle.acn_num.proofs.BitLists.{number_below, number-append, number_same, number-take}
 use Rattle.acn_num.specs.Bits.{number, signed_number}
 use Rattle.acn_num.specs.Ranges.{In, has, distance}
 use Rattle.acn_grammar.specs.Check.{is_wide, has_no_table, is_lead, LeadAmbiguous}

@@ -4,4 +4,3 @@ mod Judged
 mod Steps
 mod Unions
 mod Permitted
-mod InOrder

@@ -5,7 +5,7 @@ use Rattle.std.proofs.Math.Bool.{and_assoc, and-true, or-false}
 use Rattle.std.specs.Prelude.{int_le, if◌then◌else◌, ◌≤ℤ◌, ◌-ℤ◌}
 use Rattle.acn_num.specs.Ranges.{Ranges, has, AreRanges, some_range, meet, union, except, outside, outside_from, bottom, top, least, greatest}
 use Rattle.acn_num.proofs.Members.{true_le, has_meet, has_except, or_assoc}
-use Rattle.acn_constraint.proofs.InOrder.{meet_above, outside_above, has_union}
+use Rattle.acn_num.proofs.Order.{meet_above, outside_above, has_union}
 use Rattle.acn_asn_syntax.specs.Mirror.{Set, all_except, union_of, Meets, no_meets, and_meet, Meet, meet_of, Parts, no_parts, and_part, Part, part_of, part_but, Element, value_of, range_of, size_of, from_of, inner_of}
 use Rattle.acn_asn_syntax.specs.declared.sets.AsnRange.{AsnRange}
 use Rattle.acn_asn_syntax.specs.declared.values.AsnValue.{AsnValue}

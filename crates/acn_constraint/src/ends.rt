@@ -13,7 +13,7 @@ use std::alloc::Global;
 const GREATEST_SIGNED: i128 = 9223372036854775807;
 
 /// The numbers of an INTEGER, from `-2^63` to `2^64 - 1`, and whether they have no bound below or above.
-#[derive(Debug, Drop)]
+#[derive(Drop)]
 pub struct OpenSet {
     /// The numbers.
     pub numbers: RangeSet,
@@ -24,7 +24,7 @@ pub struct OpenSet {
 }
 
 /// The sizes and the characters of an IA5String.
-#[derive(Debug, Drop)]
+#[derive(Drop)]
 pub struct TextSets {
     /// The sizes.
     pub sizes: RangeSet,

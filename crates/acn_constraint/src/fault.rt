@@ -2,7 +2,7 @@ use acn_num::NoMemory;
 
 /// Why the constraints of a type leave no set. The causes are tried in the order `NotHere`, `TooWide`, `Empty`,
 /// `Unbounded`, `SizeLimit`.
-#[derive(Clone, Copy, Debug, PartialEq, Eq)]
+#[derive(Clone, Copy, PartialEq, Eq)]
 pub enum ConstraintFault {
     /// No number, size or character is left.
     Empty,

@@ -7,7 +7,7 @@ use std::alloc::Global;
 use std::marker::Model;
 
 /// Names with the place where each appears first, which contracts see as a list of names and places.
-#[derive(Debug, Drop)]
+#[derive(Drop)]
 pub struct Firsts {
     places: IndexMap<Vec<u8>, usize>,
 }

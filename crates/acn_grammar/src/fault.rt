@@ -3,7 +3,7 @@ use acn_num::{NoMemory, Path};
 use std::alloc::{AllocError, AllocFailed};
 
 /// Why a node can't be read. The reasons and their order inside a node are this profile's own (`specs/Fails`).
-#[derive(Clone, Copy, Debug, PartialEq, Eq)]
+#[derive(Clone, Copy, PartialEq, Eq)]
 pub enum Reason {
     /// The input has fewer bits left than the node needs.
     Short,
@@ -51,7 +51,7 @@ impl From<ReadFault> for Reason {
 }
 
 /// The first node of a packet that can't be read.
-#[derive(Debug, Drop)]
+#[derive(Drop)]
 pub struct Fault {
     /// Child numbers from the root, in a list the number of the element.
     pub path: Path,
@@ -61,7 +61,7 @@ pub struct Fault {
 }
 
 /// Why a packet isn't taken apart.
-#[derive(Debug, Drop)]
+#[derive(Drop)]
 pub enum Refuse {
     /// The packet has no value: its first fault.
     Bad(Fault),

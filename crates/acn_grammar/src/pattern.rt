@@ -7,7 +7,7 @@ use std::marker::Model;
 
 /// A pattern of bits, as ACN gives it for values, terminators and NULLs. Contracts see it as a list of 1 to
 /// `MOST_PATTERN_BITS` bits. (The limit is this profile's own.)
-#[derive(Debug, Drop)]
+#[derive(Drop)]
 pub struct Pattern {
     bits: ArrayVec<bool, MOST_PATTERN_BITS>,
 }

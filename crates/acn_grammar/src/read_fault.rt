@@ -1,6 +1,6 @@
 /// Why a leaf can't be read: the first reason that holds in the order of the leaf's coding. (This profile's own,
 /// `specs/LeafFails`.)
-#[derive(Clone, Copy, Debug, PartialEq, Eq)]
+#[derive(Clone, Copy, PartialEq, Eq)]
 pub enum ReadFault {
     /// The window has fewer bits left than the code needs.
     Short,

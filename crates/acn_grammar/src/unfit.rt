@@ -1,7 +1,7 @@
 use acn_num::Path;
 
 /// What a node of a value asks of the number of a slot, by the conditions, sizes and determinants of ACN.
-#[derive(Clone, Copy, Debug, PartialEq, Eq)]
+#[derive(Clone, Copy, PartialEq, Eq)]
 pub enum Ask {
     /// It is this number.
     Equal(i128),
@@ -10,7 +10,7 @@ pub enum Ask {
 }
 
 /// Why a value isn't one of a node's. The first four are breaches of constraints (X.680), the others are this profile's own.
-#[derive(Debug, Drop)]
+#[derive(Drop)]
 pub enum UnfitReason {
     /// The number isn't permitted.
     OutOfRange {
@@ -42,7 +42,7 @@ pub enum UnfitReason {
 }
 
 /// The place of a value that isn't one of its node's, and why.
-#[derive(Debug, Drop)]
+#[derive(Drop)]
 pub struct Unfit {
     /// Child numbers from the root, in a list the number of the element.
     pub path: Path,

@@ -5,7 +5,7 @@ use Rattle.std.proofs.lemmas.Int.{ints}
 use Rattle.std.proofs.lemmas.Bool.Decides.{nat_tests}
 use Rattle.acn_num.specs.Bits.{number, signed_number, IsNumber, IsSigned}
 use Rattle.acn_bits.specs.Reading.{Reading, passed, Reads}
-use Rattle.acn_bits.proofs.BitLists.{number_below}
+use Rattle.acn_num.proofs.BitLists.{number_below}
 use Rattle.acn_bits.proofs.Loads.{take_add}
 use Rattle.acn_grammar.specs.Code.{Any, CodingCode, Counted}
 use Rattle.acn_grammar.specs.LeafFails.{NoneHas, CountedFails, Reason, short, not_minimal, out_of_range}

@@ -8,7 +8,7 @@ use Rattle.std.proofs.Math.Nat.{div-add-mod}
 use Rattle.acn_num.specs.Bits.{low_bits, number}
 use Rattle.acn_bits.specs.Writing.{Writes, place_of, Puts}
 use Rattle.acn_bits.specs.declared.write_cursor.WriteCursor.{WriteCursor}
-use Rattle.acn_bits.proofs.BitLists.{length-low_bits, low_bits-number, number_below}
+use Rattle.acn_num.proofs.BitLists.{length-low_bits, low_bits-number, number_below}
 use Rattle.acn_grammar.specs.Code.{Written, CodingCode, decimal_number, AreDigits, IsMinimal, SignOctet, nibbles, digit_octets}
 use Rattle.std.specs.Prelude.{nat_abs, int_lt, negsuc}
 use Rattle.std.proofs.lemmas.Int.{ints}

@@ -5,7 +5,7 @@ use Rattle.std.proofs.lemmas.List.{length-take-le}
 use Rattle.std.proofs.Math.Seq.{take-append_seam}
 use Rattle.acn_num.specs.Bits.{number, low_bits}
 use Rattle.acn_bits.specs.Reading.{Reading, Reads}
-use Rattle.acn_bits.proofs.BitLists.{number_same, number-low_bits, length-low_bits}
+use Rattle.acn_num.proofs.BitLists.{number_same, number-low_bits, length-low_bits}
 use Rattle.acn_bits.proofs.Loads.{small}
 use Rattle.acn_grammar.specs.Code.{Any, CodingCode, IsMinimal, InMinimalDigits, nibbles, digit_octets}
 use Rattle.acn_grammar.specs.Images.{images_of}

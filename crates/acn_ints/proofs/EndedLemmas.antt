@@ -5,7 +5,7 @@ use Rattle.std.proofs.lemmas.List.{drop-drop, drop-take, take-take, length-take-
 use native.Mathlib.Decide.{dec_lt}
 use Rattle.acn_num.specs.Bits.{number, low_bits}
 use Rattle.acn_bits.specs.Reading.{Reading, passed, Reads, Stays}
-use Rattle.acn_bits.proofs.BitLists.{number_same, number-low_bits, length-low_bits}
+use Rattle.acn_num.proofs.BitLists.{number_same, number-low_bits, length-low_bits}
 use Rattle.acn_bits.proofs.Loads.{take_add, small}
 use Rattle.acn_grammar.specs.Code.{decimal_number, IsMinimal}
 use Rattle.acn_grammar.specs.LeafFails.{Reason, bad_digit, too_long, EndAt}

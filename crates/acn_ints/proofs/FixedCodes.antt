@@ -5,7 +5,7 @@ use Rattle.std.proofs.Math.Nat.{pow-le-pow_right}
 use mir.Val.{bool_byte}
 use Rattle.acn_num.specs.Bits.{number, signed_number, IsNumber}
 use Rattle.acn_bits.specs.Reading.{Reading}
-use Rattle.acn_bits.proofs.BitLists.{number_below, number_same, number-append}
+use Rattle.acn_num.proofs.BitLists.{number_below, number_same, number-append}
 use Rattle.acn_grammar.specs.Code.{in_order}
 use Rattle.acn_grammar.specs.LeafFails.{bad_pattern}
 use Rattle.acn_grammar.specs.declared.node.NumCoding.TheVariants.{Range, PosInt, Twos, Flag, Fixed}

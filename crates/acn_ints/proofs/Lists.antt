@@ -6,7 +6,7 @@ use Rattle.std.proofs.lemmas.List.{drop-drop, take_more, drop_more, length-take-
 use Rattle.std.proofs.lemmas.List.Sums.{count_by-le-length}
 use Rattle.std.proofs.lemmas.Bool.Decides.{nat_tests}
 use Rattle.acn_num.specs.Bits.{bits, number}
-use Rattle.acn_bits.proofs.BitLists.{length-bits}
+use Rattle.acn_num.proofs.BitLists.{length-bits}
 use Rattle.acn_bits.specs.Reading.{Reading, passed}
 use Rattle.acn_grammar.specs.Code.{image_of}
 use Rattle.acn_grammar.specs.Interval.{width_of, fixed_width}

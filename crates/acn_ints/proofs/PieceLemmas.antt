@@ -7,7 +7,7 @@ use Rattle.std.proofs.lemmas.Nat.{one_shl}
 use Rattle.std.proofs.lemmas.Nat.Bits.{ones_shr}
 use Rattle.std.proofs.Math.Nat.{pow-le-pow_right, pow-suc}
 use Rattle.acn_num.specs.Bits.{number, signed_number, low_bits, bits, IsNumber}
-use Rattle.acn_bits.proofs.BitLists.{number_below, number-low_bits, length-low_bits, low_bits-number, length-bits}
+use Rattle.acn_num.proofs.BitLists.{number_below, number-low_bits, length-low_bits, low_bits-number, length-bits}
 use Rattle.acn_bits.proofs.Loads.{small}
 use Rattle.acn_grammar.specs.Code.{Written, CodingCode, in_order, opposite}
 use Rattle.acn_grammar.specs.Length.{coding_length}

@@ -4,7 +4,7 @@ use Rattle.std.specs.Prelude.{Result, Ok, Err, IfOk, IfErr}
 use Rattle.std.proofs.lemmas.List.{length-take-le, drop-take, take-take}
 use Rattle.acn_num.specs.Bits.{number, low_bits}
 use Rattle.acn_bits.specs.Reading.{Reading, passed, Reads, Stays}
-use Rattle.acn_bits.proofs.BitLists.{number_same}
+use Rattle.acn_num.proofs.BitLists.{number_same}
 use Rattle.acn_grammar.specs.Code.{Any, CodingCode, InMinimalDigits, SignOctet, digit_octets}
 use Rattle.acn_grammar.specs.Images.{images_of}
 use Rattle.acn_grammar.specs.LeafFails.{Reason, bad_digit, not_minimal, out_of_range, says, wrong, NoneHas, Positive, Negative, most_digits, EndedFails, AllDigits, value_of, octet_values, SignedWire}

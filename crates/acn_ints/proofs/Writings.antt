@@ -5,7 +5,7 @@ use Rattle.acn_num.specs.Bits.{number, signed_number, low_bits, bits, IsNumber, 
 use Rattle.acn_bits.specs.Overwrite.{overwritten}
 use Rattle.acn_bits.specs.Writing.{Writes, place_of, Puts}
 use Rattle.acn_bits.specs.declared.write_cursor.WriteCursor.{WriteCursor}
-use Rattle.acn_bits.proofs.BitLists.{length-low_bits, number_below}
+use Rattle.acn_num.proofs.BitLists.{length-low_bits, number_below}
 use Rattle.acn_bits.proofs.Parts.{overwritten-append, length-overwritten}
 use Rattle.acn_grammar.specs.Code.{Written, CodingCode, Counted}
 use Rattle.acn_grammar.specs.Length.{least_octets, least_signed_octets}

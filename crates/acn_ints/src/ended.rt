@@ -11,14 +11,14 @@ use acn_bits::ReadCursor;
 use acn_grammar::ReadFault;
 
 /// What stands at one place of an ended number.
-#[derive(Clone, Copy, Debug, PartialEq, Eq)]
+#[derive(Clone, Copy, PartialEq, Eq)]
 pub enum Character {
     Digit(u64),
     End,
 }
 
 /// The digits up to a place of an ended number.
-#[derive(Clone, Copy, Debug, PartialEq, Eq)]
+#[derive(Clone, Copy, PartialEq, Eq)]
 pub struct SoFar {
     pub count: u32,
     pub value: u128,
@@ -26,7 +26,7 @@ pub struct SoFar {
 }
 
 /// The digits of an ended number: its magnitude, and whether it has no leading zeros.
-#[derive(Clone, Copy, Debug, PartialEq, Eq)]
+#[derive(Clone, Copy, PartialEq, Eq)]
 pub struct Ended {
     pub magnitude: u128,
     pub minimal: bool,

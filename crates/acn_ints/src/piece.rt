@@ -10,7 +10,7 @@ use crate::ordered::{ordered, pattern_number};
 use acn_grammar::Pattern;
 
 /// A code of at most 64 bits: the lowest bits of a value.
-#[derive(Clone, Copy, Debug, PartialEq, Eq)]
+#[derive(Clone, Copy, PartialEq, Eq)]
 pub struct Piece {
     pub width: u32,
     pub value: u64,

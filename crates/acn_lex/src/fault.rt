@@ -2,7 +2,7 @@ use acn_num::NoMemory;
 use std::alloc::{AllocError, AllocFailed};
 
 /// Why a file has no tokens. Each place is the number of bytes before it.
-#[derive(Clone, Copy, Debug, PartialEq, Eq)]
+#[derive(Clone, Copy, PartialEq, Eq)]
 pub enum LexFault {
     /// No token begins here.
     BadByte { at: u32 },

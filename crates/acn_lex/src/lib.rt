@@ -20,7 +20,7 @@ pub use words::{
 };
 
 /// What a token is.
-#[derive(Clone, Copy, Debug, PartialEq, Eq)]
+#[derive(Clone, Copy, PartialEq, Eq)]
 pub enum Kind {
     /// A letter, then letters, digits and single hyphens, each hyphen before a letter or digit (X.680, 12.2 and 12.3).
     Word,
@@ -38,7 +38,7 @@ pub enum Kind {
 }
 
 /// A token of a file.
-#[derive(Clone, Copy, Debug)]
+#[derive(Clone, Copy)]
 pub struct Token<'a> {
     /// What it is.
     pub kind: Kind,
@@ -49,7 +49,7 @@ pub struct Token<'a> {
 }
 
 /// The tokens of a file, in order.
-#[derive(Debug, Drop)]
+#[derive(Drop)]
 pub struct Tokens<'a> {
     pub list: Row<Token<'a>>,
 }

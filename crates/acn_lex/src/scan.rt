@@ -10,7 +10,7 @@ use crate::literal::{digits_step, text_step};
 use crate::number::{is_unwritten, number_of};
 
 /// What stands at a place.
-#[derive(Clone, Copy, Debug)]
+#[derive(Clone, Copy)]
 pub enum Step {
     End,
     Gap(usize),

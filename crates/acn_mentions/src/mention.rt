@@ -2,7 +2,7 @@ use acn_asn_syntax::AsnType;
 use acn_num::Name;
 
 /// What a value in a constraint stands for.
-#[derive(Clone, Copy, Debug, PartialEq, Eq)]
+#[derive(Clone, Copy, PartialEq, Eq)]
 pub enum Role {
     /// One of the values of the type.
     Element,

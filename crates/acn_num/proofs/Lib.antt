@@ -1,6 +1,9 @@
--- for acn_run
+-- for acn_bits, acn_ints, acn_text, acn_check and acn_run
+pub mod BitLists
+-- for acn_constraint and acn_run
 pub mod Members
-mod Order
+-- for acn_constraint
+pub mod Order
 mod Turns
 mod Meeting
 mod Unions

@@ -1,6 +1,6 @@
 -- The steps of the loops over ranges.
-use Rattle.std.proofs.Common.{◌≡◌, ℕ, zero, suc, ◌<◌, ◌≤◌, ◌+◌, ◌-◌, true, refl, sym, ap, subst, ◌∙◌, ℤ, pos, ◌≤ℤ◌, [], ◌∷◌, ◌++◌, arith, append_assoc, drop_of_length-le, drop, length, get_or}
-use Rattle.std.specs.Prelude.{◌+ℤ◌, ◌-ℤ◌, Option, Some, nat_lt, slice_get, option_map, Result, Ok, Err, IfOk, ◌^◌}
+use Rattle.std.proofs.Common.{◌≡◌, ℕ, zero, suc, ◌<◌, ◌≤◌, ◌+◌, ◌-◌, refl, sym, ap, subst, ◌∙◌, ℤ, pos, ◌≤ℤ◌, [], ◌∷◌, ◌++◌, arith, append_assoc, drop_of_length-le, drop, length, get_or}
+use Rattle.std.specs.Prelude.{◌+ℤ◌, ◌-ℤ◌, Option, Some, slice_get, option_map, Result, Ok, Err, IfOk, ◌^◌}
 use Rattle.std.proofs.lemmas.List.{drop_more}
 use Rattle.std.proofs.lemmas.Int.{ints}
 use native.Mathlib.Numerals.{unary_clauses}

@@ -5,7 +5,7 @@ use std::alloc::Global;
 use std::marker::Model;
 
 /// Bits, which contracts see as a list of truth values.
-#[derive(Debug, Drop)]
+#[derive(Drop)]
 pub struct BitList {
     bits: Vec<bool>,
 }

@@ -7,7 +7,7 @@ use std::marker::Model;
 
 /// A path of child numbers from the root of a tree, which contracts see as the list of its steps, at most
 /// `MOST_STEPS`.
-#[derive(Debug, Drop)]
+#[derive(Drop)]
 pub struct Path {
     steps: ArrayVec<u32, MOST_STEPS>,
 }

@@ -12,7 +12,7 @@ use std::alloc::Global;
 use std::marker::Model;
 
 /// A set of whole numbers from `-2^63 - 1` to `2^64`, which contracts see as its ranges in ascending order.
-#[derive(Debug, Drop)]
+#[derive(Drop)]
 pub struct RangeSet {
     ranges: Vec<(i128, i128)>,
 }

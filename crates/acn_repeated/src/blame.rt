@@ -5,7 +5,7 @@ ghost use Rattle.acn_repeated.specs.Blamed.{fault_of, blames_view};
 use acn_num::{Name, NoMemory};
 
 /// A kind of fault that a list of names in the text tells.
-#[derive(Clone, Copy, Debug, PartialEq, Eq)]
+#[derive(Clone, Copy, PartialEq, Eq)]
 pub enum Kind {
     /// A reference that names nothing.
     Unknown,

@@ -2,7 +2,7 @@
 use Rattle.std.proofs.Common.{◌≡◌, ℕ, zero, suc, ◌+◌, ◌*◌, ◌<◌, Bool, true, false, List, [], ◌∷◌, ◌++◌, length, take, drop, get_or, Option, Some, None, refl, sym, ap, subst, ◌∙◌, arith, append_assoc, option_map, Result, Ok, Err, OnOk}
 use Rattle.std.specs.List.{AllByRecursion}
 use Rattle.std.proofs.lemmas.List.{drop_more, take_all}
-use Rattle.acn_bits.proofs.BitLists.{length-bits}
+use Rattle.acn_num.proofs.BitLists.{length-bits}
 use Rattle.acn_num.specs.Bits.{bits}
 use Rattle.acn_run.specs.declared.components.Component.{Component}
 use Rattle.acn_run.specs.Form.{IsComponent}

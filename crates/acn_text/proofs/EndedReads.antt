@@ -7,7 +7,7 @@ use Rattle.std.proofs.Math.Seq.{take-add}
 use Rattle.acn_num.specs.Bits.{number}
 use Rattle.acn_num.specs.Ranges.{In, has, greatest}
 use Rattle.acn_bits.specs.Reading.{Reading, passed, Stays}
-use Rattle.acn_bits.proofs.BitLists.{number_same, number_below}
+use Rattle.acn_num.proofs.BitLists.{number_same, number_below}
 use Rattle.acn_grammar.specs.Fails.{Here, NoText, TextFails, FoundFails, found_end}
 use Rattle.acn_grammar.specs.Interval.{size_of}
 use Rattle.acn_grammar.specs.LeafFails.{Reason, short, too_long, size_out_of_range, bad_character, octet_values}

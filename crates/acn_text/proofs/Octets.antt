@@ -4,7 +4,7 @@ use Rattle.std.proofs.lemmas.List.{drop-drop, length-take-le}
 use Rattle.std.proofs.Math.Seq.{take-add}
 use Rattle.std.proofs.lemmas.Nat.{div-mul-add, mod-mul-add}
 use Rattle.acn_num.specs.Bits.{number}
-use Rattle.acn_bits.proofs.BitLists.{number_below, number_same, number-append}
+use Rattle.acn_num.proofs.BitLists.{number_below, number_same, number-append}
 use Rattle.acn_grammar.specs.LeafFails.{octet_values}
 
 pub octets_few : (l : List Bool) → 8 * length (octet_values l) ≤ length l

@@ -6,7 +6,7 @@ use Rattle.std.proofs.lemmas.Bool.Decides.{nat_tests}
 use Rattle.std.proofs.lemmas.List.{length-take-le}
 use Rattle.acn_num.specs.Bits.{low_bits}
 use Rattle.acn_num.specs.Ranges.{In, has}
-use Rattle.acn_bits.proofs.BitLists.{length-low_bits}
+use Rattle.acn_num.proofs.BitLists.{length-low_bits}
 use Rattle.acn_ints.proofs.PieceLemmas.{low_is_number}
 use Rattle.acn_grammar.specs.Asks.{same_name}
 use Rattle.acn_grammar.specs.Env.{Env}

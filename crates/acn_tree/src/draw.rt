@@ -4,7 +4,7 @@ ghost use Rattle.acn_tree.specs.Made as made;
 use std::marker::Model;
 
 /// A source of numbers that its start determines: a linear congruence modulo 2^64, which contracts see as its number.
-#[derive(Debug, Drop)]
+#[derive(Drop)]
 pub struct Draw {
     number: u64,
 }

@@ -11,7 +11,7 @@ use crate::node_rules::conditions;
 use acn_grammar::{Alternative, Body, ChoiceRule, Field, Node, Presence, SizeRule, Test};
 
 /// What is seen of one slot inside a node.
-#[derive(Clone, Copy, Debug, PartialEq, Eq)]
+#[derive(Clone, Copy, PartialEq, Eq)]
 pub struct Seen {
     /// How many nodes are the slot's field or use it.
     pub about: u32,
@@ -24,7 +24,7 @@ pub struct Seen {
 }
 
 /// A slot, and how many nodes of the whole tree are its field or use it.
-#[derive(Clone, Copy, Debug, PartialEq, Eq)]
+#[derive(Clone, Copy, PartialEq, Eq)]
 pub struct Sought {
     pub slot: u32,
     pub total: u32,

@@ -6,7 +6,7 @@ use acn_grammar::{Alternative, Body, Field, Node};
 use acn_num::MOST_STEPS;
 
 /// How many nodes may still come, and the number of the next slot.
-#[derive(Clone, Copy, Debug, PartialEq, Eq)]
+#[derive(Clone, Copy, PartialEq, Eq)]
 pub struct Tally {
     pub left: u32,
     pub next: u64,

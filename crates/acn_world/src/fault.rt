@@ -4,7 +4,7 @@ use std::alloc::{AllocError, AllocFailed};
 /// Why the names of the sources can't be resolved. `name` is the name that is refused, and `module` the module
 /// in whose text it stands. The kinds are tried in the order Repeated, NoModule, Unknown, Cycle, WrongKind; of
 /// one kind the first in the text is answered: ASN.1 files, then ACN files, then mapping files.
-#[derive(Debug, Drop)]
+#[derive(Drop)]
 pub enum NameFault {
     /// A reference that names nothing. Of a reference `B.Y` the name is `Y`.
     Unknown {

@@ -91,7 +91,7 @@ fn imported_from(index: &Index, name: &[u8], k: u32) -> Option<u32>
 }
 
 /// Which assignments are meant.
-#[derive(Clone, Copy, Debug)]
+#[derive(Clone, Copy)]
 pub enum Sort {
     /// Those of types.
     Types,

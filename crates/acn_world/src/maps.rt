@@ -14,7 +14,7 @@ use acn_num::{NoMemory, Row};
 use std::alloc::Global;
 
 /// The first places of names in an ASN.1 module.
-#[derive(Debug, Drop)]
+#[derive(Drop)]
 pub struct OwnNames {
     /// Of assignments, by their names.
     pub names: Firsts,
@@ -27,7 +27,7 @@ pub struct OwnNames {
 }
 
 /// The first places of names in all files.
-#[derive(Debug, Drop)]
+#[derive(Drop)]
 pub struct Maps {
     /// Of ASN.1 modules.
     pub modules: Firsts,

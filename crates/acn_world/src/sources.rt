@@ -15,7 +15,7 @@ pub struct Sources {
 
 /// An assignment, by the number of its module among the ASN.1 modules of all files, and its own number among the
 /// assignments of that module. Both count from 0.
-#[derive(Clone, Copy, Debug, PartialEq, Eq, Hash)]
+#[derive(Clone, Copy, PartialEq, Eq, Hash)]
 pub struct TypeId {
     /// The number of the module.
     pub module: u32,

@@ -2,7 +2,7 @@ use Rattle.std.proofs.Common.{◌≡◌, ◌∙◌, ◌*◌, ap, take, length, a
 use Rattle.std.proofs.lemmas.List.{take-take, length-take-le}
 use Rattle.acn_num.specs.Bits.{bits, number}
 use Rattle.acn_bits.specs.Reading.{Reading}
-use Rattle.acn_bits.proofs.BitLists.{length-bits}
+use Rattle.acn_num.proofs.BitLists.{length-bits}
 use Rattle.acn_ints.proofs.filler.number_at_front.Goals as goal
 
 pub returns : goal.returns

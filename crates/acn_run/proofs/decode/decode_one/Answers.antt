@@ -1,6 +1,6 @@
 use Rattle.std.proofs.Common.{◌≡◌, ◌∙◌, ◌++◌, ◌<◌, ◌≤◌, length, ap, arith}
 use Rattle.acn_num.specs.Bits.{bits, octets}
-use Rattle.acn_bits.proofs.BitLists.{length-bits}
+use Rattle.acn_num.proofs.BitLists.{length-bits}
 use Rattle.acn_run.specs.Line.{labels_line}
 use Rattle.acn_run.specs.Packet.{grammar_of, value_of, width_of}
 use Rattle.acn_run.specs.Text.{line_of}

@@ -1,5 +1,5 @@
 use Rattle.std.proofs.Common.{◌≡◌, length, subst, ap, arith, List, Bool, Some, None}
-use Rattle.acn_bits.proofs.BitLists.{length-bits}
+use Rattle.acn_num.proofs.BitLists.{length-bits}
 use Rattle.acn_run.specs.Packet.{numbers_of}
 use Rattle.acn_run.proofs.Fronts.{front_found}
 use Rattle.acn_run.proofs.Turns.{all_bits}
