@@ -28,10 +28,9 @@ use Rattle.acn_packet_laws.proofs.Homes.{truth}
 use Rattle.acn_packet_laws.proofs.AskHomes.{FormNot, NodeNot, FieldsNot, CasesNot, if_yes, if_no, some_is}
 use Rattle.acn_packet_laws.proofs.Contents.{content_octets}
 use Rattle.acn_packet_laws.proofs.Items.{item_place}
-use Rattle.acn_packet_laws.proofs.SoundLaws.{first_three, second_three, second_four, third_four}
-use Rattle.acn_packet_laws.proofs.Sounding.{last_two, last_three, last_four}
 use Rattle.acn_packet_laws.proofs.Used.{each_both, TestFits, PresenceFits, CaseFits, EndFits, NodeUsed, FormUsed, FieldsUsed, CasesUsed}
 use Rattle.std.proofs.lemmas.Bool.{eqb-true}
+use Rattle.acn_packet_laws.proofs.Tuples.{first_three, last_four, last_three, last_two, second_four, second_three, third_four}
 
 pub not_at_home : (home : List ℕ) (xs : List ℤ) (env : Env) (s : ℕ) → holds home s ≡ false → at_slot (with_home home xs env) s ≡ at_slot env s
 not_at_home [] xs env s h = refl

@@ -10,7 +10,7 @@ use Rattle.acn_grammar.proofs.TreeRules.{tree_fine}
 use Rattle.acn_packet_laws.proofs.NodeLaws.{in_either}
 use Rattle.acn_packet_laws.proofs.OneFault.{some_same}
 use Rattle.acn_packet_laws.proofs.Placed.{here_at}
-use Rattle.acn_packet_laws.proofs.Sounding.{last_two}
+use Rattle.acn_packet_laws.proofs.Tuples.{last_two}
 
 abbrev FineAt : Stand → Type 0
 FineAt at = Fine (node at.align at.form)

@@ -26,11 +26,10 @@ use Rattle.acn_packet_laws.proofs.LeadFails.{node_far, field_scoped}
 use Rattle.acn_packet_laws.proofs.LeafReaches.{leaf_steady}
 use Rattle.acn_packet_laws.proofs.NodeLaws.{accepted_scoped}
 use Rattle.acn_packet_laws.proofs.Reaches.{out}
-use Rattle.acn_packet_laws.proofs.SoundLaws.{first_two, first_three, second_three}
-use Rattle.acn_packet_laws.proofs.Sounding.{last_two, last_three}
 use Rattle.acn_packet_laws.proofs.TextReaches.{find_from, same_names, octets-short, octets-whole}
 use Rattle.acn_packet_laws.proofs.WrittenSizes.{text_rules}
 use Rattle.std.proofs.lemmas.Bool.{and_parts, eqb-true}
+use Rattle.acn_packet_laws.proofs.Tuples.{first_three, first_two, last_three, last_two, second_three}
 
 abbrev Inside : Failing → Type 0
 Inside F = (at : ℕ) (rest : List Bool) (fault : Fault) (reach : ℕ) → F at rest fault reach → (fault.reason ≡ short → ⊥) → reach ≤ length rest

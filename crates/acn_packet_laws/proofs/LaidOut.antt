@@ -66,29 +66,6 @@ open_has : (s : ℕ) (l : List Stand) → open_field s l ≡ true → has_field 
 open_has s [] h = cc
 open_has s (at ∷ l) h = either {F = has_field s (at ∷ l) ≡ true} (field_is s at && holds at.around s) (open_field s l) h (λ q. or_left (field_is s at) (has_field s l) (and_parts (field_is s at) (holds at.around s) q).0) (λ q. or_right (field_is s at) (has_field s l) (open_has s l q))
 
--- A leaf that keeps its rules has some number.
-
-self_le : (a : ℤ) → int_le a a ≡ true
-self_le a = grind (arith, ints, nat_tests)
-
-le_true : (a b : ℤ) → a ≤ℤ b → int_le a b ≡ true
-le_true a b h = grind (arith, ints, nat_tests)
-
-no_set : (leaf : NumLeaf) (kind : NumKind) → set_fine kind leaf.coding leaf.items leaf.table [] ≡ true → ⊥
-no_set leaf Integer h = (let e = int_ends leaf.coding None (and_parts (integer_set_fine leaf.coding None) (no_items leaf.items) (and_parts (are_ranges []) (integer_set_fine leaf.coding None && no_items leaf.items) h).1).0 in let n = e.1 in cc)
-no_set leaf Boolean h = cc
-no_set leaf Null h = cc
-no_set leaf Enumerated h = (let f = and_parts (nat_lt 0 (length leaf.items.items)) (is_range (pos 0) (pos (length leaf.items.items - 1)) [] && items_fine leaf.coding leaf.items) h in cc)
-
-pub some_number : (leaf : NumLeaf) → IsTrue (num_fine leaf) → (x : ℤ) × In leaf.set x
-some_number leaf fine = by leaf.set refl
-  where
-    by : (set : List (ℤ × ℤ)) → leaf.set ≡ set → (x : ℤ) × In leaf.set x
-    by [] e = absurd (no_set leaf leaf.kind (ap (set_fine leaf.kind leaf.coding leaf.items leaf.table) (sym e) ∙ (rules_of leaf fine).set))
-    by (r ∷ rs) e =
-        let o = subst Ordered e (set_ordered leaf.kind leaf.coding leaf.items leaf.table leaf.set (rules_of leaf fine).set) in
-        (r.0, subst (λ (z : List (ℤ × ℤ)). In z r.0) (sym e) (or_left (int_le r.0 r.0 && int_le r.0 r.1) (has rs r.0) (rw (self_le r.0, le_true r.0 r.1 o.0) refl)))
-
 module _ (root : Grammar) where
   slot_some : (keys : Known) (s : ℕ) (g : Grammar) → Fine g → SlotLaid root keys s g → (x : ℤ) × In (domain_of root s) x
   slot_some keys s (node align (num leaf)) fine laid = (let x = some_number leaf fine.1 in (x.0, laid.1 x.0 x.1))

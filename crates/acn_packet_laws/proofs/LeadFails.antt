@@ -16,9 +16,8 @@ use Rattle.acn_grammar.specs.declared.node.NumLeaf.{NumLeaf}
 use Rattle.acn_grammar.specs.declared.node.Presence.TheVariants.{Always, Bit, When}
 use Rattle.acn_packet_laws.proofs.Leads.{Leads, chosen, slot_leads, node_leads}
 use Rattle.acn_packet_laws.proofs.Reaches.{out}
-use Rattle.acn_packet_laws.proofs.SoundLaws.{first_two, second_three}
-use Rattle.acn_packet_laws.proofs.Sounding.{last_two}
 use Rattle.std.proofs.lemmas.Bool.{leb-true, and_parts}
+use Rattle.acn_packet_laws.proofs.Tuples.{first_two, last_two, second_three}
 
 by_coding : (coding : NumCoding) (own : NumLeaf) (n : ℕ) → is_wide n coding ≡ true → (rest : List Bool) (r : Reason) (reach : ℕ) → CodingFails coding own rest r reach → (r ≡ short → ⊥) → n ≤ length rest
 by_coding (Range low width) own n w rest r reach (inl t) s = absurd (s t.1)

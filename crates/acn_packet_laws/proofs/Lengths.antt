@@ -12,7 +12,7 @@ use Rattle.acn_packet_laws.specs.Laws.{LengthsAreTold, EachLengthIsTold}
 use Rattle.acn_grammar.specs.Leaves.{num_fine, is_range, no_items}
 use Rattle.acn_grammar.specs.Length.{num_length, least}
 use Rattle.acn_grammar.specs.Slots.{slot_leaf, fields_leaf, alternatives_leaf, number_leaf, first_of_two, is_slot as if_slot}
-use Rattle.acn_grammar.specs.Tree.{IsTree, is_slot, kind_inserted, form_fine, own_fine, presence_fine}
+use Rattle.acn_grammar.specs.Tree.{IsTree, is_slot, form_fine, own_fine, presence_fine}
 use Rattle.acn_grammar.specs.Walk.{Stand, Role, a_component, an_inserted, an_alternative, an_element, a_content, root_node, nodes, nodes_of, form_nodes, field_nodes, alternative_nodes, slot_here}
 use Rattle.acn_grammar.specs.declared.node.NumKind.{NumKind}
 use Rattle.acn_grammar.specs.declared.node.NumKind.TheVariants.{Integer, Boolean, Enumerated, Null}
@@ -26,6 +26,7 @@ use Rattle.acn_packet_laws.proofs.LengthLaw.{length_law}
 use Rattle.acn_packet_laws.proofs.NodeLaws.{in_either, some_one, accepted_sound}
 use Rattle.acn_packet_laws.proofs.Placed.{here_at, place_fine, to_fields, to_one, to_cases, first_component, next_component, first_inserted, next_inserted, first_case, next_case, any_left, any_right, field_is, has_field, root_place, parts_apart, own_number, is_number, slot_in}
 use Rattle.acn_packet_laws.proofs.Scoping.{At, FieldsAt, CasesAt, numbers, rules, get_here, inserted_is, same_eq}
+use Rattle.acn_packet_laws.proofs.SlotNumbers.{only_null}
 use Rattle.acn_grammar.proofs.SpellLength.{OneWidth, Steady, SteadyLeaf, SteadyFields, SteadyAlternatives}
 
 -- A slot without a field has no leaf.
@@ -124,12 +125,6 @@ null_width leaf fine k x p =
   where
     same : (x y : ℤ) → pos 0 ≤ℤ x → x ≤ℤ pos 0 → pos 0 ≤ℤ y → y ≤ℤ pos 0 → x ≡ y
     same x y a b c d = omega (arith, ints)
-
-pub only_null : (k : NumKind) → kind_inserted k None ≡ true → k ≡ Null
-only_null Null h = refl
-only_null Integer h = cc
-only_null Boolean h = cc
-only_null Enumerated h = cc
 
 number_steady : (align : ℕ) (form : Form) → is_number form ≡ true → form_fine form ≡ true → Steady (node align form)
 number_steady align (num leaf) n f = f

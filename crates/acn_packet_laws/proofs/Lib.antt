@@ -72,9 +72,11 @@ mod ShortLeaves
 mod ShortNear
 mod SizeRows
 mod SlotLeaves
+mod SlotNumbers
 mod SoundLaws
 mod SoundNodes
 mod SoundRows
+mod SoundSlots
 mod Sounding
 mod Spans
 mod SpelledMeets
@@ -84,6 +86,7 @@ mod TextReaches
 mod TextRows
 mod TextTotal
 mod Trees
+mod Tuples
 mod Unbreached
 mod UseKinds
 mod Used

@@ -54,7 +54,7 @@ list_all-holds p (x ∷ xs) s h k =
     let f = and_parts (p x) (list_all p xs) h in
     either {F = p s ≡ true} (nat_eq x s) (holds xs s) k (λ e. rw (← eqb-true x s e) f.0) (λ e. list_all-holds p xs s f.1 e)
 
-cond_holds : {F : Type 0} (t : Bool) (x s : ℕ) (rest : List ℕ) → holds (cond t (x ∷ rest) rest) s ≡ true → (t ≡ true → x ≡ s → F) → (holds rest s ≡ true → F) → F
+pub cond_holds : {F : Type 0} (t : Bool) (x s : ℕ) (rest : List ℕ) → holds (cond t (x ∷ rest) rest) s ≡ true → (t ≡ true → x ≡ s → F) → (holds rest s ≡ true → F) → F
 cond_holds {F} true x s rest h f g = either {F = F} (nat_eq x s) (holds rest s) h (λ q. f refl (eqb-true x s q)) g
 cond_holds {F} false x s rest h f g = g h
 
@@ -87,7 +87,7 @@ slots-append : (a b : List Stand) → slots_of (a ++ b) ≡ slots_of a ++ slots_
 slots-append [] b = refl
 slots-append (at ∷ a) b = ap (cons_option (slot_here at.role)) (slots-append a b) ∙ cons-append (slot_here at.role) (slots_of a) (slots_of b)
 
-range-above : (xs : List ℕ) (a n s : ℕ) → same_name xs (range_with_len a n) ≡ true → holds xs s ≡ true → a ≤ s
+pub range-above : (xs : List ℕ) (a n s : ℕ) → same_name xs (range_with_len a n) ≡ true → holds xs s ≡ true → a ≤ s
 range-above [] a n s e h = cc
 range-above (x ∷ xs) a zero s e h = cc
 range-above (x ∷ xs) a (suc n) s e h =

@@ -117,7 +117,7 @@ if_truth false f g = g refl
 behind_all : (a b : List Stand) (ks : Known) (s : ℕ) → (ks s || has_field s b) ≡ true → (ks s || has_field s (a ++ b)) ≡ true
 behind_all a b ks s h = either {F = (ks s || has_field s (a ++ b)) ≡ true} (ks s) (has_field s b) h (λ q. or_left (ks s) (has_field s (a ++ b)) q) (λ q. or_right (ks s) (has_field s (a ++ b)) (any_right (field_is s) a b q))
 
-own_either : {F : Type 0} (own : Option ℕ) (ks : Known) (s : ℕ) → with_own own ks s ≡ true → (is_slot s own ≡ true → F) → (ks s ≡ true → F) → F
+pub own_either : {F : Type 0} (own : Option ℕ) (ks : Known) (s : ℕ) → with_own own ks s ≡ true → (is_slot s own ≡ true → F) → (ks s ≡ true → F) → F
 own_either None ks s h f g = g h
 own_either {F} (Some t) ks s h f g = either {F = F} (nat_eq t s) (ks s) h f g
 
@@ -299,7 +299,7 @@ module _ (root : Grammar) (tree : IsTree root) (sound : (f : CheckFault) → Und
     near_after (node align (choice cases rule)) pre role path around post p ks fresh s o h = cc
     near_after (node align (contained sizing g)) pre role path around post p ks fresh s o h = cc
 
-    fields_near_after : (fs : Fields) (pre : List Stand) (path around : List ℕ) (k : ℕ) (post : List Stand) → FieldsAt pre path around k fs post → (ks : Known) → Fresh ks pre → (s : ℕ) → holds around s ≡ true → holds (near fs) s ≡ true → fields_after ks fs s ≡ true
+    pub fields_near_after : (fs : Fields) (pre : List Stand) (path around : List ℕ) (k : ℕ) (post : List Stand) → FieldsAt pre path around k fs post → (ks : Known) → Fresh ks pre → (s : ℕ) → holds around s ≡ true → holds (near fs) s ≡ true → fields_after ks fs s ≡ true
     fields_near_after no_fields pre path around k post p ks fresh s o h = cc
     fields_near_after (component name g Always default own fs) pre path around k post p ks fresh s o h =
         let next = next_component (nodes_of root) numbers rules pre path around k name g Always default own fs post p in

@@ -29,12 +29,13 @@ use Rattle.acn_grammar.proofs.TreeRules.{tree_fine}
 use Rattle.acn_packet_laws.specs.Laws.{IsAccepted, ShortIsNear}
 use Rattle.acn_packet_laws.proofs.NodeLaws.{accepted_sound}
 use Rattle.acn_packet_laws.proofs.ShortLeaves.{leaf_short}
-use Rattle.acn_packet_laws.proofs.Sounding.{last_two, at_most}
+use Rattle.acn_packet_laws.proofs.Sounding.{at_most}
 use Rattle.acn_packet_laws.proofs.Spans.{exactly_spans, plus_spans, same_spans, moved_spans}
 use Rattle.acn_packet_laws.proofs.TextReaches.{octets-long, octets-whole}
 use Rattle.acn_packet_laws.proofs.ValueLengths.{padding_spans, number_spans}
 use Rattle.acn_packet_laws.proofs.WrittenSizes.{text_rules}
 use Rattle.std.proofs.lemmas.Bool.{and_parts, eqb-true}
+use Rattle.acn_packet_laws.proofs.Tuples.{last_two}
 
 -- A reason as it is named: short inside no window alone.
 

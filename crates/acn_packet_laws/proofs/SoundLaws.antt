@@ -14,8 +14,9 @@ use Rattle.acn_grammar.specs.declared.node.Presence.TheVariants.{Always, Bit, Wh
 use Rattle.acn_packet_laws.specs.Laws.{AcceptedIsSound, SoundIsScoped, KnownBehind, FewAreOpen}
 use Rattle.acn_packet_laws.proofs.NodeLaws.{accepted_sound}
 use Rattle.acn_packet_laws.proofs.Scoping.{names_are}
-use Rattle.acn_packet_laws.proofs.Sounding.{root_sound, sound_after, at_most, last_two, last_three, last_four, last_five}
+use Rattle.acn_packet_laws.proofs.Sounding.{root_sound, sound_after, at_most}
 use Rattle.std.proofs.lemmas.Bool.{and_parts}
+use Rattle.acn_packet_laws.proofs.Tuples.{first_five, first_four, first_three, first_two, fourth_five, last_five, last_four, last_three, last_two, second_five, second_four, second_three, third_five, third_four}
 
 pub accepted_sound_nodes : AcceptedIsSound
 accepted_sound_nodes root a = root_sound root a.formed (accepted_sound root a)
@@ -28,43 +29,13 @@ few_are_open root k here a is = at_most (open_at here) 256 (λ h. accepted_sound
 
 -- What is sound is scoped.
 
-pub first_two : {A B : Type 0} → A × B → A
-first_two p = p.0
-
-pub first_three : {A B C : Type 0} → A × B × C → A
-first_three p = p.0
-
-pub second_three : {A B C : Type 0} → A × B × C → B
-second_three p = p.1
-
-pub first_four : {A B C D : Type 0} → A × B × C × D → A
-first_four p = p.0
-
-pub second_four : {A B C D : Type 0} → A × B × C × D → B
-second_four p = p.1
-
-pub third_four : {A B C D : Type 0} → A × B × C × D → C
-third_four p = p.2
-
-pub first_five : {A B C D E : Type 0} → A × B × C × D × E → A
-first_five p = p.0
-
-pub second_five : {A B C D E : Type 0} → A × B × C × D × E → B
-second_five p = p.1
-
-pub third_five : {A B C D E : Type 0} → A × B × C × D × E → C
-third_five p = p.2
-
-pub fourth_five : {A B C D E : Type 0} → A × B × C × D × E → D
-fourth_five p = p.3
-
 presence_scoped : (ks : Known) (presence : Presence) → PresenceSound ks presence → PresenceIn ks presence
 presence_scoped ks Always h = tt
 presence_scoped ks Bit h = tt
 presence_scoped ks (When ts) h = last_two h
 
 module _ (root : Grammar) where
-  fine_field : (k : ℕ) (around : List ℕ) (ks : Known) (s : ℕ) (g : Grammar) → SaysSlot root around s g → Sound root k around ks g → FineField g
+  fine_field : (k : ℕ) (around : List ℕ) (ks : Known) (s : ℕ) (g : Grammar) → SaysSlot root around ks s g → Sound root k around ks g → FineField g
   fine_field k around ks s (node align (num leaf)) h f = last_three f
   fine_field k around ks s (node align (octets sizing)) h f = absurd h
   fine_field k around ks s (node align (bits sizing)) h f = absurd h
@@ -83,24 +54,24 @@ module _ (root : Grammar) where
     scoped_form (octets sizing) k around ks h = last_two h
     scoped_form (bits sizing) k around ks h = last_two h
     scoped_form (text leaf) k around ks h = (last_two h, first_two h)
-    scoped_form (seq fields home) k around ks h = (third_four h, scoped_fields fields (suc k) (home ++ around) ks (last_four h))
+    scoped_form (seq fields home) k around ks h = ((first_two h).unknown, scoped_fields fields (suc k) (home ++ around) ks (last_two h))
     scoped_form (list sizing g) k around ks h = (second_five h, scoped_node g (suc k) around ks (last_five h), third_five h)
     scoped_form (contained sizing g) k around ks h = (second_four h, scoped_node g (suc k) around ks (last_four h))
-    scoped_form (choice cases (Index width)) k around ks h = scoped_cases cases (suc k) around ks (last_three h)
+    scoped_form (choice cases (Index width)) k around ks h = scoped_cases cases (suc k) around ks (last_four h)
     scoped_form (choice cases Tests) k around ks h =
-        let rule = second_three h in
-        (scoped_cases cases (suc k) around ks (last_three h), first_two rule, last_two rule)
+        let rule = third_four h in
+        (scoped_cases cases (suc k) around ks (last_four h), first_two rule, last_two rule)
     scoped_form (choice cases (Item s)) k around ks h =
-        let f = and_parts (nat_lt 0 (length (conditions_of cases))) (all_differ same_name (map (λ c. c.0) (conditions_of cases)) && choice_rule_fine (conditions_of cases) (Item s)) (first_three h) in
+        let f = and_parts (nat_lt 0 (length (conditions_of cases))) (all_differ same_name (map (λ c. c.0) (conditions_of cases)) && choice_rule_fine (conditions_of cases) (Item s)) (first_four h) in
         let g = and_parts (all_differ same_name (map (λ c. c.0) (conditions_of cases))) (choice_rule_fine (conditions_of cases) (Item s)) f.1 in
-        (scoped_cases cases (suc k) around ks (last_three h), first_two (second_three h), ap (all_differ same_name) (names_are cases) ∙ g.0)
+        (scoped_cases cases (suc k) around ks (last_four h), first_two (third_four h), ap (all_differ same_name) (names_are cases) ∙ g.0)
 
     scoped_fields : (fs : Fields) (k : ℕ) (around : List ℕ) (ks : Known) → FieldsSound root k around ks fs → FieldsScoped root ks fs
     scoped_fields no_fields k around ks h = tt
     scoped_fields (component name g presence default own fs) k around ks h =
         (presence_scoped ks presence (first_five h), scoped_node g k around ks (fourth_five h), scoped_fields fs k around (choose_known presence ks (with_own own (after ks g))) (last_five h))
     scoped_fields (inserted name g (Some s) fs) k around ks h = (fine_field k around ks s g (first_four h) (third_four h), scoped_fields fs k around (with_slot s ks) (last_four h))
-    scoped_fields (inserted name g None fs) k around ks h = (scoped_node g k around ks (first_two h), scoped_fields fs k around ks (last_two h))
+    scoped_fields (inserted name g None fs) k around ks h = (scoped_node g k around ks (second_three h), scoped_fields fs k around ks (last_three h))
 
     scoped_cases : (cases : Alternatives) (k : ℕ) (around : List ℕ) (ks : Known) → AlternativesSound root k around ks cases → AlternativesScoped root ks cases
     scoped_cases no_alternatives k around ks h = tt

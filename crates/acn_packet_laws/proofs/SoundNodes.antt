@@ -9,8 +9,9 @@ use Rattle.acn_packet_laws.specs.Laws.{EachNodeIsSound}
 use Rattle.acn_packet_laws.proofs.NodeLaws.{in_either}
 use Rattle.acn_packet_laws.proofs.OneFault.{some_same}
 use Rattle.acn_packet_laws.proofs.Placed.{here_at}
-use Rattle.acn_packet_laws.proofs.SoundLaws.{accepted_sound_nodes, second_three, first_two, third_four, fourth_five}
-use Rattle.acn_packet_laws.proofs.Sounding.{one_step, last_two, last_three, last_four, last_five}
+use Rattle.acn_packet_laws.proofs.SoundLaws.{accepted_sound_nodes}
+use Rattle.acn_packet_laws.proofs.Sounding.{one_step}
+use Rattle.acn_packet_laws.proofs.Tuples.{first_two, fourth_five, last_five, last_four, last_three, last_two, second_three, third_four}
 
 module _ (root : Grammar) where
   abbrev Somewhere : Stand → Type 0
@@ -26,10 +27,10 @@ module _ (root : Grammar) where
     at_form (octets sizing) path around d e ks h n at is = cc
     at_form (bits sizing) path around d e ks h n at is = cc
     at_form (text leaf) path around d e ks h n at is = cc
-    at_form (seq fields home) path around d e ks h n at is = at_fields fields path (home ++ around) 0 (suc d) (ap suc e) ks (last_four h) n at is
+    at_form (seq fields home) path around d e ks h n at is = at_fields fields path (home ++ around) 0 (suc d) (ap suc e) ks (last_two h) n at is
     at_form (list sizing g) path around d e ks h n at is = at_node g an_element (path ++ 0 ∷ []) around (suc d) (one_step path 0 (suc d) (ap suc e)) ks (last_five h) n at is
     at_form (contained sizing g) path around d e ks h n at is = at_node g a_content (path ++ 0 ∷ []) around (suc d) (one_step path 0 (suc d) (ap suc e)) ks (last_four h) n at is
-    at_form (choice cases rule) path around d e ks h n at is = at_cases cases path around 0 (suc d) (ap suc e) ks (last_three h) n at is
+    at_form (choice cases rule) path around d e ks h n at is = at_cases cases path around 0 (suc d) (ap suc e) ks (last_four h) n at is
 
     at_fields : (fs : Fields) (path around : List ℕ) (k d : ℕ) → suc (length path) ≡ d → (ks : Known) → FieldsSound root d around ks fs → (n : ℕ) (at : Stand) → slice_get (field_nodes path around k fs) n ≡ Some at → Somewhere at
     at_fields no_fields path around k d e ks h n at is = cc
@@ -43,8 +44,8 @@ module _ (root : Grammar) where
         (λ m l q. at_fields fs path around (suc k) d e (with_slot s ks) (last_four h) m at q)
     at_fields (inserted name g None fs) path around k d e ks h n at is =
         in_either {F = Somewhere at} (nodes (an_inserted name None) (path ++ k ∷ []) around g) (field_nodes path around (suc k) fs) n at is
-        (λ q. at_node g (an_inserted name None) (path ++ k ∷ []) around d (one_step path k d e) ks (first_two h) n at q)
-        (λ m l q. at_fields fs path around (suc k) d e ks (last_two h) m at q)
+        (λ q. at_node g (an_inserted name None) (path ++ k ∷ []) around d (one_step path k d e) ks (second_three h) n at q)
+        (λ m l q. at_fields fs path around (suc k) d e ks (last_three h) m at q)
 
     at_cases : (cases : Alternatives) (path around : List ℕ) (k d : ℕ) → suc (length path) ≡ d → (ks : Known) → AlternativesSound root d around ks cases → (n : ℕ) (at : Stand) → slice_get (alternative_nodes path around k cases) n ≡ Some at → Somewhere at
     at_cases no_alternatives path around k d e ks h n at is = cc

@@ -9,9 +9,9 @@ use Rattle.acn_grammar.specs.declared.node.Presence.TheVariants.{When}
 use Rattle.acn_grammar.specs.declared.node.Test.TheVariants.{Equals}
 use Rattle.acn_packet_laws.specs.RequestRows.{IsSound, behind_len, octets_by_len, UnsoundNodesAreTold}
 use Rattle.acn_packet_laws.specs.WorkedRows.{u8}
-use Rattle.acn_packet_laws.proofs.SoundLaws.{second_three, first_five, third_five, fourth_five}
-use Rattle.acn_packet_laws.proofs.Sounding.{got_name, last_two, last_three, last_four}
+use Rattle.acn_packet_laws.proofs.Sounding.{got_name}
 use Rattle.acn_grammar.proofs.WidthLaw.{width_holds}
+use Rattle.acn_packet_laws.proofs.Tuples.{first_five, fourth_five, last_four, last_three, last_two, second_three, third_five}
 
 shared_is : IsSound (behind_len (octets_by_len 120 (octets_by_len 121 no_fields)))
 shared_is = (

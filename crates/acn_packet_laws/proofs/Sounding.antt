@@ -1,20 +1,21 @@
 -- A tree without a fault is sound at each of its nodes.
 use Rattle.std.proofs.Common.{◌≡◌, ℕ, zero, suc, ◌+◌, ◌<◌, ◌≤◌, Bool, true, false, not, List, [], ◌∷◌, ◌++◌, length, map, Option, Some, None, refl, sym, ap, ◌∙◌, arith, subst, inl, inr, ◌⊎◌, nat_eq, nat_lt, nat_le, ◌&&◌, get_or, length-append}
-use Rattle.std.proofs.lemmas.Bool.{or_left, or_right, leb-true, ltb-true, and_parts, not-true}
-use Rattle.std.specs.Prelude.{slice_get, Contains}
-use Rattle.std.specs.List.{list_any}
+use Rattle.std.proofs.lemmas.Bool.{false_from_ne_true, or_left, or_right, leb-true, ltb-true, and_parts, not-true, eqb-true}
+use Rattle.std.specs.Prelude.{slice_get, Contains, cond, filter}
+use Rattle.std.specs.List.{list_any, list_all, range_with_len}
 use Rattle.std.proofs.lemmas.Bool.Decides.{nat_tests}
 use Rattle.acn_grammar.specs.Asks.{same_name}
 use Rattle.acn_grammar.specs.Check.{CheckFault, absent_unclear, det_width, no_item, too_many_open, Undecodable, HasWidth}
+use Rattle.acn_grammar.specs.Fails.{count_of}
 use Rattle.acn_grammar.specs.Grammar.{Grammar, Form, Fields, Alternatives, node, num, octets, bits, text, seq, list, choice, contained, no_fields, component, inserted, no_alternatives, alternative}
 use Rattle.acn_grammar.specs.Interval.{width_of}
 use Rattle.acn_grammar.specs.Leaves.{all_differ, num_fine}
 use Rattle.acn_grammar.specs.Length.{ending}
 use Rattle.acn_grammar.specs.Scoped.{Known, with_slot, with_own, choose_known, after, fields_after}
 use Rattle.acn_grammar.specs.Slots.{items_of, slot_leaf, fields_leaf, alternatives_leaf, number_leaf, first_of_two}
-use Rattle.acn_grammar.specs.Sound.{field_count, PresenceSound, NothingLeaves, NothingLeavesIt, OneWidth, SaysSlot, OwnSound, RuleSound, Sound, FormSound, FieldsSound, AlternativesSound}
-use Rattle.acn_grammar.specs.Tree.{IsTree, holds, slots_of, same_numbers, is_slot, has_tests, choice_rule_fine, presence_fine, own_fine, stand_rules, all_true, near_form}
-use Rattle.acn_grammar.specs.Walk.{Stand, Role, a_component, an_inserted, an_alternative, an_element, a_content, root_node, nodes, nodes_of, form_nodes, field_nodes, alternative_nodes, conditions_of}
+use Rattle.acn_grammar.specs.Sound.{field_count, PresenceSound, NothingLeaves, NothingLeavesIt, OneWidth, IsNull, SaysSlot, OwnSound, SequenceSound, RuleSound, Sound, FormSound, FieldsSound, AlternativesSound}
+use Rattle.acn_grammar.specs.Tree.{IsTree, holds, slots_of, same_numbers, is_slot, is_home, has_tests, choice_rule_fine, presence_fine, own_fine, inserted_fine, stand_rules, all_true, near, near_form}
+use Rattle.acn_grammar.specs.Walk.{Stand, Role, a_component, an_inserted, an_alternative, an_element, a_content, root_node, nodes, nodes_of, form_nodes, field_nodes, alternative_nodes, slot_here, conditions_of}
 use Rattle.acn_grammar.specs.declared.node.ChoiceRule.{ChoiceRule}
 use Rattle.acn_grammar.specs.declared.node.ChoiceRule.TheVariants.{Index, Tests, Item}
 use Rattle.acn_grammar.specs.declared.node.Presence.{Presence}
@@ -24,12 +25,15 @@ use Rattle.acn_grammar.proofs.Texts.{either}
 use Rattle.acn_packet_laws.proofs.Accepted.{tests_known, end_told}
 use Rattle.acn_packet_laws.proofs.Homes.{out, truth, Homed, root_homed, in_fields, in_one, in_left, in_right, slot_open, whole_node, whole_fields, whole_cases}
 use Rattle.acn_packet_laws.proofs.Overlaps.{no_overlap}
-use Rattle.acn_packet_laws.proofs.Placed.{here_at, place_fine, to_fields, to_one, to_cases, first_component, next_component, first_inserted, next_inserted, first_case, next_case, any_left, field_is, has_field, root_place, holds_either, inside_near, is_number, own_number, inserted_number}
-use Rattle.acn_packet_laws.proofs.Scoping.{At, FieldsAt, CasesAt, numbers, rules, Knows, Fresh, own_known, form_known, step_in, fields_in, knows_left, knows_right, component_behind, inserted_behind, inserted_is, only_slot, not_home, tests_in, rule_in, get_here, same_eq, after_from, keeps, optional_none}
+use Rattle.acn_packet_laws.proofs.Placed.{here_at, twice, slot_in, cond_holds, range-above, holds_left, home_near, place_fine, to_fields, to_one, to_cases, first_component, next_component, first_inserted, next_inserted, first_case, next_case, any_left, field_is, has_field, root_place, holds_either, inside_near, is_number, own_number, inserted_number}
+use Rattle.acn_packet_laws.proofs.Scoping.{At, FieldsAt, CasesAt, numbers, rules, Knows, Fresh, own_known, form_known, step_in, fields_in, knows_left, knows_right, component_behind, inserted_behind, inserted_is, only_slot, not_home, outer_home, tests_in, rule_in, get_here, same_eq, after_from, keeps, fields_near_after, optional_none}
 use Rattle.acn_packet_laws.proofs.SlotLeaves.{Leafed, below, no_fields_leaf, no_cases_leaf, leafed_one, leafed_first, leafed_next, leafed_case, leafed_next_case, leafed_here}
 use Rattle.acn_packet_laws.proofs.WidthBack.{width_is}
 use Rattle.acn_grammar.proofs.WidthLaw.{width_holds}
 use Rattle.acn_grammar.proofs.Characters.{same_name-is}
+use Rattle.acn_packet_laws.proofs.SlotNumbers.{only_null}
+use Rattle.acn_packet_laws.proofs.SoundSlots.{some_behind}
+use Rattle.acn_packet_laws.proofs.Tuples.{first_four, fourth_five, last_five, last_four, last_three, last_two, second_five}
 
 -- Numbers.
 
@@ -86,56 +90,73 @@ fields_count (inserted name g slot fs) path around k =
     let rest = fields_count fs path around (suc k) in
     omega arith
 
+cases_count : (cases : Alternatives) (path around : List ℕ) (k : ℕ) → count_of cases ≤ length (alternative_nodes path around k cases)
+cases_count no_alternatives path around k = omega arith
+cases_count (alternative name g tests more) path around k =
+    let c = length-append (nodes (an_alternative name tests) (path ++ k ∷ []) around g) (alternative_nodes path around (suc k) more) in
+    let one = node_counts (an_alternative name tests) (path ++ k ∷ []) around g in
+    let rest = cases_count more path around (suc k) in
+    omega arith
+
+-- Some of the numbers of a range differ.
+
+any_holds : (xs : List ℕ) (x : ℕ) → list_any (nat_eq x) xs ≡ true → holds xs x ≡ true
+any_holds [] x h = cc
+any_holds (y ∷ xs) x h = either {F = holds (y ∷ xs) x ≡ true} (nat_eq x y) (list_any (nat_eq x) xs) h
+    (λ q. or_left (nat_eq y x) (holds xs x) (flip q)) (λ q. or_right (nat_eq y x) (holds xs x) (any_holds xs x q))
+  where
+    flip : nat_eq x y ≡ true → nat_eq y x ≡ true
+    flip q = grind (arith, nat_tests)
+
+filter_in : (p : ℕ → Bool) (xs : List ℕ) (s : ℕ) → holds (filter p xs) s ≡ true → holds xs s ≡ true
+filter_in p [] s h = cc
+filter_in p (x ∷ xs) s h = cond_holds {F = holds (x ∷ xs) s ≡ true} (p x) x s (filter p xs) h (λ t e. or_left (nat_eq x s) (holds xs s) (subst (λ z. nat_eq x z ≡ true) e (same_eq x))) (λ q. or_right (nat_eq x s) (holds xs s) (filter_in p xs s q))
+
+filter_differs : (p : ℕ → Bool) (xs : List ℕ) (a n : ℕ) → same_numbers xs (range_with_len a n) ≡ true → all_differ nat_eq (filter p xs) ≡ true
+filter_differs p [] a n h = refl
+filter_differs p (x ∷ xs) a zero h = cc
+filter_differs p (x ∷ xs) a (suc n) h =
+    let f = and_parts (nat_eq x a) (same_numbers xs (range_with_len (a + 1) n)) h in
+    let is = eqb-true x a f.0 in
+    by (p x) (false_from_ne_true (list_any (nat_eq x) (filter p xs)) (λ q. (let r = range-above xs (a + 1) n x f.1 (filter_in p xs x (any_holds (filter p xs) x q)) in absurd (omega (arith, is, r))))) (filter_differs p xs (a + 1) n f.1)
+  where
+    both : (u v : Bool) → u ≡ false → v ≡ true → (not u && v) ≡ true
+    both false true h k = refl
+    both true v h k = cc
+    both u false h k = cc
+
+    by : (t : Bool) → list_any (nat_eq x) (filter p xs) ≡ false → all_differ nat_eq (filter p xs) ≡ true → all_differ nat_eq (cond t (x ∷ filter p xs) (filter p xs)) ≡ true
+    by true n' d = both (list_any (nat_eq x) (filter p xs)) (all_differ nat_eq (filter p xs)) n' d
+    by false n' d = d
+
 nothing_it : (presence : Presence) (ks : Known) (g : Grammar) → ((presence ≡ Always → ⊥) → NothingLeaves ks g) → NothingLeavesIt presence ks g
 nothing_it Always ks g f = tt
 nothing_it Bit ks g f = f (λ e. cc)
 nothing_it (When ts) ks g f = f (λ e. cc)
 
--- the last of the parts of a tuple
-pub last_two : {A B : Type 0} → A × B → B
-last_two p = p.1
-
-pub last_three : {A B C : Type 0} → A × B × C → C
-last_three p = p.2
-
-pub last_four : {A B C D : Type 0} → A × B × C × D → D
-last_four p = p.3
-
-pub last_five : {A B C D E : Type 0} → A × B × C × D × E → E
-last_five p = p.4
-
-fourth_of_five : {A B C D E : Type 0} → A × B × C × D × E → D
-fourth_of_five p = p.3
-
-second_of_five : {A B C D E : Type 0} → A × B × C × D × E → B
-second_of_five p = p.1
-
-first_of_four : {A B C D : Type 0} → A × B × C × D → A
-first_of_four p = p.0
-
 -- What is known behind a node was known before it, or is at home round it.
 module _ (root : Grammar) where
-  says_open : (around : List ℕ) (s : ℕ) (g : Grammar) → SaysSlot root around s g → holds around s ≡ true
-  says_open around s (node align (num leaf)) h = h.0
-  says_open around s (node align (octets sizing)) h = absurd h
-  says_open around s (node align (bits sizing)) h = absurd h
-  says_open around s (node align (text leaf)) h = absurd h
-  says_open around s (node align (seq _ home)) h = absurd h
-  says_open around s (node align (list sizing g)) h = absurd h
-  says_open around s (node align (choice cases rule)) h = absurd h
-  says_open around s (node align (contained sizing g)) h = absurd h
+  says_open : (around : List ℕ) (ks : Known) (s : ℕ) (g : Grammar) → SaysSlot root around ks s g → holds around s ≡ true
+  says_open around ks s (node align (num leaf)) h = h.0
+  says_open around ks s (node align (octets sizing)) h = absurd h
+  says_open around ks s (node align (bits sizing)) h = absurd h
+  says_open around ks s (node align (text leaf)) h = absurd h
+  says_open around ks s (node align (seq _ home)) h = absurd h
+  says_open around ks s (node align (list sizing g)) h = absurd h
+  says_open around ks s (node align (choice cases rule)) h = absurd h
+  says_open around ks s (node align (contained sizing g)) h = absurd h
 
-  own_open : (around : List ℕ) (own : Option ℕ) (presence : Presence) (g : Grammar) → OwnSound root around own presence g → (ks : Known) (s : ℕ) → with_own own ks s ≡ true → (ks s ≡ true) ⊎ (holds around s ≡ true)
-  own_open around None presence g h ks s e = inl e
-  own_open around (Some t) presence g h ks s e = either {F = (ks s ≡ true) ⊎ (holds around s ≡ true)} (nat_eq t s) (ks s) e
-      (λ q. inr (subst (λ n. holds around n ≡ true) (Rattle.std.proofs.lemmas.Bool.eqb-true t s q) (says_open around t g h.1)))
+  own_open : (around : List ℕ) (before : Known) (own : Option ℕ) (presence : Presence) (g : Grammar) → OwnSound root around before own presence g → (ks : Known) (s : ℕ) → with_own own ks s ≡ true → (ks s ≡ true) ⊎ (holds around s ≡ true)
+  own_open around before None presence g h ks s e = inl e
+  own_open around before (Some t) presence g h ks s e = either {F = (ks s ≡ true) ⊎ (holds around s ≡ true)} (nat_eq t s) (ks s) e
+      (λ q. inr (subst (λ n. holds around n ≡ true) (eqb-true t s q) (says_open around before t g h.1)))
       (λ q. inl q)
 
   mutual
     pub sound_after : (g : Grammar) (d : ℕ) (around : List ℕ) (ks : Known) → Sound root d around ks g → (s : ℕ) → after ks g s ≡ true → (ks s ≡ true) ⊎ (holds around s ≡ true)
     sound_after (node align (seq fields home)) d around ks h s e =
         let f = and_parts (fields_after ks fields s) (not (holds home s)) e in
-        out {F = (ks s ≡ true) ⊎ (holds around s ≡ true)} (sound_fields_after fields (suc d) (home ++ around) ks (last_four (last_three h)) s f.0)
+        out {F = (ks s ≡ true) ⊎ (holds around s ≡ true)} (sound_fields_after fields (suc d) (home ++ around) ks (last_two (last_three h)) s f.0)
         (λ q. inl q)
         (λ q. holds_either {F = (ks s ≡ true) ⊎ (holds around s ≡ true)} home around s q (λ r. let no = not-true (holds home s) f.1 in cc) (λ r. inr r))
     sound_after (node align (num leaf)) d around ks h s e = inl e
@@ -150,33 +171,33 @@ module _ (root : Grammar) where
     sound_fields_after no_fields d around ks h s e = inl e
     sound_fields_after (component name g Always default own fs) d around ks h s e =
         out {F = (ks s ≡ true) ⊎ (holds around s ≡ true)} (sound_fields_after fs d around (with_own own (after ks g)) (last_five h) s e)
-        (λ q. out {F = (ks s ≡ true) ⊎ (holds around s ≡ true)} (own_open around own Always g (second_of_five h) (after ks g) s q) (λ r. sound_after g d around ks (fourth_of_five h) s r) (λ r. inr r))
+        (λ q. out {F = (ks s ≡ true) ⊎ (holds around s ≡ true)} (own_open around ks own Always g (second_five h) (after ks g) s q) (λ r. sound_after g d around ks (fourth_five h) s r) (λ r. inr r))
         (λ q. inr q)
     sound_fields_after (component name g Bit default own fs) d around ks h s e = sound_fields_after fs d around ks (last_five h) s e
     sound_fields_after (component name g (When ts) default own fs) d around ks h s e = sound_fields_after fs d around ks (last_five h) s e
     sound_fields_after (inserted name g (Some t) fs) d around ks h s e =
         out {F = (ks s ≡ true) ⊎ (holds around s ≡ true)} (sound_fields_after fs d around (with_slot t ks) (last_four h) s e)
-        (λ q. own_open around (Some t) Always g (refl, first_of_four h) ks s q)
+        (λ q. own_open around ks (Some t) Always g (refl, first_four h) ks s q)
         (λ q. inr q)
-    sound_fields_after (inserted name g None fs) d around ks h s e = sound_fields_after fs d around ks (last_two h) s e
+    sound_fields_after (inserted name g None fs) d around ks h s e = sound_fields_after fs d around ks (last_three h) s e
 
   -- the number that says a slot
-  says : (around : List ℕ) (s align : ℕ) (form : Form) → is_number form ≡ true → holds around s ≡ true → slot_leaf root s ≡ number_leaf (node align form) → SaysSlot root around s (node align form)
-  says around s align (num leaf) n o e = (o, e)
-  says around s align (octets sizing) n o e = cc
-  says around s align (bits sizing) n o e = cc
-  says around s align (text leaf) n o e = cc
-  says around s align (seq _ home) n o e = cc
-  says around s align (list sizing g) n o e = cc
-  says around s align (choice cases rule) n o e = cc
-  says around s align (contained sizing g) n o e = cc
+  says : (around : List ℕ) (ks : Known) (s align : ℕ) (form : Form) → is_number form ≡ true → holds around s ≡ true → ks s ≡ false → slot_leaf root s ≡ number_leaf (node align form) → SaysSlot root around ks s (node align form)
+  says around ks s align (num leaf) n o f e = (o, f, e)
+  says around ks s align (octets sizing) n o f e = cc
+  says around ks s align (bits sizing) n o f e = cc
+  says around ks s align (text leaf) n o f e = cc
+  says around ks s align (seq _ home) n o f e = cc
+  says around ks s align (list sizing g) n o f e = cc
+  says around ks s align (choice cases rule) n o f e = cc
+  says around ks s align (contained sizing g) n o f e = cc
 
 module _ (root : Grammar) (tree : IsTree root) (sound : (f : CheckFault) → Undecodable root f → ⊥) where
   abbrev all : List Stand
   all = nodes_of root
 
   few_nodes : length all ≤ 65536
-  few_nodes = leb-true (length all) 65536 (and_parts (nat_le (length all) 65536) (same_numbers (slots_of all) (Rattle.std.specs.List.range_with_len 0 (length (slots_of all))) && Rattle.std.specs.List.list_all (λ at. all_true (stand_rules all at)) all) tree).0
+  few_nodes = leb-true (length all) 65536 (and_parts (nat_le (length all) 65536) (same_numbers (slots_of all) (range_with_len 0 (length (slots_of all))) && list_all (λ at. all_true (stand_rules all at)) all) tree).0
 
   is_here : (pre : List Stand) (role : Role) (path around : List ℕ) (align : ℕ) (form : Form) (post : List Stand) → At root tree sound pre role path around (node align form) post → slice_get all (length pre) ≡ Some (here_at role path around align form)
   is_here pre role path around align form post p = ap (λ l. slice_get l (length pre)) p.whole ∙ get_here pre (here_at role path around align form) (form_nodes path around form ++ post)
@@ -203,14 +224,30 @@ module _ (root : Grammar) (tree : IsTree root) (sound : (f : CheckFault) → Und
       let few = at_most (length ts) 1 (λ h. sound (absent_unclear path) (length pre, 0, (here_at (a_component name (When ts) own) path around align form, is_here pre (a_component name (When ts) own) path around align form post p, refl, h))) in
       ((omega arith), tests_in ks ts (own_known root tree sound pre (a_component name (When ts) own) path around (node align form) post p ks knows))
 
+  -- a slot whose field stands here isn't known yet
+  not_known : (pre : List Stand) (role : Role) (path around : List ℕ) (g : Grammar) (post : List Stand) → At root tree sound pre role path around g post → (ks : Known) → Fresh ks pre → (s : ℕ) → is_slot s (slot_here role) ≡ true → ks s ≡ false
+  not_known pre role path around g post p ks fresh s h =
+      false_from_ne_true (ks s) (λ k. twice all (numbers root tree sound) (rules root tree sound) pre (nodes role path around g ++ post) p.whole s (fresh s k) (any_left (field_is s) (nodes role path around g) post (slot_in role path around g s h)))
+
+  -- an inserted number that says no slot is a NULL
+  null_here : (align : ℕ) (form : Form) → inserted_fine None form ≡ true → IsNull (node align form)
+  null_here align (num leaf) h = only_null leaf.kind h
+  null_here align (octets sizing) h = cc
+  null_here align (bits sizing) h = cc
+  null_here align (text leaf) h = cc
+  null_here align (seq _ home) h = cc
+  null_here align (list sizing g) h = cc
+  null_here align (choice cases rule) h = cc
+  null_here align (contained sizing g) h = cc
+
   -- a component whose number is a slot's
-  own_sound : (pre : List Stand) (name : List ℕ) (presence : Presence) (own : Option ℕ) (path around : List ℕ) (align : ℕ) (form : Form) (post : List Stand) → At root tree sound pre (a_component name presence own) path around (node align form) post → Homed root tree sound around (nodes (a_component name presence own) path around (node align form))
-      → ((s : ℕ) → is_slot s own ≡ true → slot_leaf root s ≡ number_leaf (node align form)) → OwnSound root around own presence (node align form)
-  own_sound pre name presence None path around align form post p homed leaf = tt
-  own_sound pre name presence (Some s) path around align form post p homed leaf =
+  own_sound : (pre : List Stand) (name : List ℕ) (presence : Presence) (own : Option ℕ) (path around : List ℕ) (align : ℕ) (form : Form) (post : List Stand) → At root tree sound pre (a_component name presence own) path around (node align form) post → (ks : Known) → Fresh ks pre → Homed root tree sound around (nodes (a_component name presence own) path around (node align form))
+      → ((s : ℕ) → is_slot s own ≡ true → slot_leaf root s ≡ number_leaf (node align form)) → OwnSound root around ks own presence (node align form)
+  own_sound pre name presence None path around align form post p ks fresh homed leaf = tt
+  own_sound pre name presence (Some s) path around align form post p ks fresh homed leaf =
       let fine = place_fine all (numbers root tree sound) (rules root tree sound) pre (a_component name presence (Some s)) path around align form post p in
       let is = own_number (Some s) presence form s (and_parts (presence_fine presence) (own_fine (Some s) presence form) fine.role).1 (same_eq s) in
-      (is.0, says root around s align form is.1 (slot_open root tree sound (a_component name presence (Some s)) path around align form s is.1 (same_eq s) homed) (leaf s (same_eq s)))
+      (is.0, says root around ks s align form is.1 (slot_open root tree sound (a_component name presence (Some s)) path around align form s is.1 (same_eq s) homed) (not_known pre (a_component name presence (Some s)) path around (node align form) post p ks fresh s (same_eq s)) (leaf s (same_eq s)))
 
   -- the one width of an inserted field
   width : (pre : List Stand) (name path around : List ℕ) (s align : ℕ) (form : Form) (post : List Stand) → At root tree sound pre (an_inserted name (Some s)) path around (node align form) post → is_number form ≡ true → slot_leaf root s ≡ number_leaf (node align form) → OneWidth (node align form)
@@ -269,6 +306,38 @@ module _ (root : Grammar) (tree : IsTree root) (sound : (f : CheckFault) → Und
       let count = fields_count fields path (home ++ around) 0 in
       omega arith
 
+  few_cases : (pre : List Stand) (role : Role) (path around : List ℕ) (align : ℕ) (cases : Alternatives) (rule : ChoiceRule) (post : List Stand) → At root tree sound pre role path around (node align (choice cases rule)) post → count_of cases ≤ 65536
+  few_cases pre role path around align cases rule post p =
+      let inner = alternative_nodes path around 0 cases in
+      let whole = ap length p.whole in
+      let one = length-append pre ((here_at role path around align (choice cases rule) ∷ alternative_nodes path around 0 cases) ++ post) in
+      let two = length-append (alternative_nodes path around 0 cases) post in
+      let few = few_nodes in
+      let count = cases_count cases path around 0 in
+      omega arith
+
+  -- the slots at home are named once
+  once : (home : List ℕ) (p : ℕ → Bool) → same_numbers home (filter p (slots_of all)) ≡ true → all_differ nat_eq home ≡ true
+  once home p h = ap (all_differ nat_eq) (same_name-is home (filter p (slots_of all)) h) ∙ filter_differs p (slots_of all) 0 (length (slots_of all)) (numbers root tree sound)
+
+  sequence : (pre : List Stand) (role : Role) (path around : List ℕ) (align : ℕ) (fields : Fields) (home : List ℕ) (post : List Stand) → At root tree sound pre role path around (node align (seq fields home)) post → (ks : Known) → Knows ks pre around (nodes role path around (node align (seq fields home)))
+      → (d : ℕ) → FieldsSound root d (home ++ around) ks fields → SequenceSound root around ks fields home
+  sequence pre role path around align fields home post p ks knows d inner =
+      let here = here_at role path around align (seq fields home) in
+      let fine = place_fine all (numbers root tree sound) (rules root tree sound) pre role path around align (seq fields home) post p in
+      let more = fields_in root tree sound pre role path around align fields home post p ks knows in
+      let read : (s : ℕ) → holds home s ≡ true → fields_after ks fields s ≡ true = λ s h. fields_near_after root tree sound fields (pre ++ here_at role path around align (seq fields home) ∷ []) path (home ++ around) 0 post (to_fields all (numbers root tree sound) (rules root tree sound) pre role path around align fields home post p) ks more.fresh s (holds_left home around s h) (home_near all (numbers root tree sound) (rules root tree sound) here fields home fine.home s h) in
+      record {
+        few_fields = few_fields pre role path around align fields home post p;
+        names_differ = fine.form;
+        few_open = few_open pre role path around align fields home post p;
+        named_once = once home (λ s. is_home all s here) (and_parts (same_numbers home (filter (λ s. is_home all s here) (slots_of all))) (list_all (holds (near fields)) home) fine.home).0;
+        unknown = λ s h. not_home root tree sound pre role path around align fields home post p s (knows.fresh s h);
+        not_around = λ s o. outer_home root tree sound pre role path around align fields home post p s o;
+        read_inside = read;
+        permits = λ s h. some_behind root fields d (home ++ around) ks inner s (false_from_ne_true (ks s) (λ k. (let n = not_home root tree sound pre role path around align fields home post p s (knows.fresh s k) in cc))) (read s h);
+      }
+
   chosen : (pre : List Stand) (role : Role) (path around : List ℕ) (align : ℕ) (cases : Alternatives) (rule : ChoiceRule) (post : List Stand) → At root tree sound pre role path around (node align (choice cases rule)) post → (ks : Known) → Knows ks pre around (nodes role path around (node align (choice cases rule))) → RuleSound root ks cases rule
   chosen pre role path around align cases (Index w) post p ks knows = tt
   chosen pre role path around align cases Tests post p ks knows =
@@ -310,13 +379,10 @@ module _ (root : Grammar) (tree : IsTree root) (sound : (f : CheckFault) → Und
         ((place_fine all (numbers root tree sound) (rules root tree sound) pre role path around align (bits sizing) post p).form, rule_in ks sizing.rule (form_known root tree sound pre role path around align (bits sizing) post p ks kept.knows))
     sound_form (text leaf) pre role path around align post p ks kept d e =
         ((place_fine all (numbers root tree sound) (rules root tree sound) pre role path around align (text leaf) post p).form, rule_in ks leaf.sized.rule (form_known root tree sound pre role path around align (text leaf) post p ks kept.knows))
-    sound_form (seq fields home) pre role path around align post p ks kept d e = (
-      few_fields pre role path around align fields home post p,
-      few_open pre role path around align fields home post p,
-      (λ s h. not_home root tree sound pre role path around align fields home post p s (kept.knows.fresh s h)),
-      sound_fields fields (pre ++ here_at role path around align (seq fields home) ∷ []) path (home ++ around) 0 post (to_fields all (numbers root tree sound) (rules root tree sound) pre role path around align fields home post p) ks (fields_in root tree sound pre role path around align fields home post p ks kept.knows)
-          (in_fields root tree sound pre role path around align fields home post p kept.homed) kept.leafed (suc d) (ap suc e),
-    )
+    sound_form (seq fields home) pre role path around align post p ks kept d e =
+        let inner = sound_fields fields (pre ++ here_at role path around align (seq fields home) ∷ []) path (home ++ around) 0 post (to_fields all (numbers root tree sound) (rules root tree sound) pre role path around align fields home post p) ks (fields_in root tree sound pre role path around align fields home post p ks kept.knows)
+            (in_fields root tree sound pre role path around align fields home post p kept.homed) kept.leafed (suc d) (ap suc e) in
+        (sequence pre role path around align fields home post p ks kept.knows (suc d) inner, inner)
     sound_form (list sizing g) pre role path around align post p ks kept d e =
         let here = here_at role path around align (list sizing g) in
         let place = to_one all (numbers root tree sound) (rules root tree sound) pre role path around align (list sizing g) post an_element (path ++ 0 ∷ []) g refl refl p in
@@ -348,6 +414,7 @@ module _ (root : Grammar) (tree : IsTree root) (sound : (f : CheckFault) → Und
         )
     sound_form (choice cases rule) pre role path around align post p ks kept d e = (
       (place_fine all (numbers root tree sound) (rules root tree sound) pre role path around align (choice cases rule) post p).form,
+      few_cases pre role path around align cases rule post p,
       chosen pre role path around align cases rule post p ks kept.knows,
       sound_cases cases (pre ++ here_at role path around align (choice cases rule) ∷ []) path around 0 post (to_cases all (numbers root tree sound) (rules root tree sound) pre role path around align cases rule post p) ks (step_in root tree sound pre role path around align (choice cases rule) post p refl ks kept.knows)
           (in_one root tree sound role path around align (choice cases rule) refl kept.homed) kept.leafed (suc d) (ap suc e),
@@ -370,7 +437,7 @@ module _ (root : Grammar) (tree : IsTree root) (sound : (f : CheckFault) → Und
           leafed = leafed_first root tree sound pre (a_component name presence own) (path ++ k ∷ []) around (node align form) b post first (fields_leaf fs) (λ s h. no_fields_leaf fs path around (suc k) s h) leafed;
         }) d (one_step path k d e) in (
           one_condition pre name presence own (path ++ k ∷ []) around align form (b ++ post) first ks knows',
-          own_sound pre name presence own (path ++ k ∷ []) around align form (b ++ post) first homed' (λ s h. leafed_here root tree sound (a_component name presence own) (path ++ k ∷ []) around (node align form) b (λ t. first_of_two (slot_leaf (node align form) t) (fields_leaf fs t)) s h leafed),
+          own_sound pre name presence own (path ++ k ∷ []) around align form (b ++ post) first ks knows'.fresh homed' (λ s h. leafed_here root tree sound (a_component name presence own) (path ++ k ∷ []) around (node align form) b (λ t. first_of_two (slot_leaf (node align form) t) (fields_leaf fs t)) s h leafed),
           nothing_it presence ks (node align form) (λ never. nothing (node align form) pre (a_component name presence own) (path ++ k ∷ []) around (b ++ post) first ks knows'.fresh d one (optional_none root tree sound pre path around k name (node align form) presence default own fs post p never)),
           one,
           sound_fields fs (pre ++ a) path around (suc k) post (next_component all (numbers root tree sound) (rules root tree sound) pre path around k name (node align form) presence default own fs post p) (choose_known presence ks (with_own own (after ks (node align form))))
@@ -386,7 +453,7 @@ module _ (root : Grammar) (tree : IsTree root) (sound : (f : CheckFault) → Und
         let fine = place_fine all (numbers root tree sound) (rules root tree sound) pre (an_inserted name (Some t)) (path ++ k ∷ []) around align form (b ++ post) first in
         let number = inserted_number (Some t) form fine.role in
         let leaf = leafed_here root tree sound (an_inserted name (Some t)) (path ++ k ∷ []) around (node align form) b (λ s. first_of_two (slot_leaf (node align form) s) (fields_leaf fs s)) t (same_eq t) leafed in (
-          says root around t align form number (slot_open root tree sound (an_inserted name (Some t)) (path ++ k ∷ []) around align form t number (same_eq t) homed') leaf,
+          says root around ks t align form number (slot_open root tree sound (an_inserted name (Some t)) (path ++ k ∷ []) around align form t number (same_eq t) homed') (not_known pre (an_inserted name (Some t)) (path ++ k ∷ []) around (node align form) (b ++ post) first ks knows.fresh t (same_eq t)) leaf,
           width pre name (path ++ k ∷ []) around t align form (b ++ post) first number leaf,
           sound_node (node align form) pre (an_inserted name (Some t)) (path ++ k ∷ []) around (b ++ post) first ks (record {
             knows = knows_left root tree sound ks pre around a b knows;
@@ -398,19 +465,21 @@ module _ (root : Grammar) (tree : IsTree root) (sound : (f : CheckFault) → Und
               (in_right root tree sound around pre a b post p.whole (λ s. whole_node all s (node align form) (an_inserted name (Some t)) (path ++ k ∷ []) around) homed)
               (leafed_next root tree sound pre (an_inserted name (Some t)) (path ++ k ∷ []) around (node align form) b post first (fields_leaf fs) leafed) d e,
         )
-    sound_fields (inserted name g None fs) pre path around k post p ks knows homed leafed d e =
-        let a = nodes (an_inserted name None) (path ++ k ∷ []) around g in
+    sound_fields (inserted name (node align form) None fs) pre path around k post p ks knows homed leafed d e =
+        let a = nodes (an_inserted name None) (path ++ k ∷ []) around (node align form) in
         let b = field_nodes path around (suc k) fs in
-        let first = first_inserted all (numbers root tree sound) (rules root tree sound) pre path around k name g None fs post p in (
-          sound_node g pre (an_inserted name None) (path ++ k ∷ []) around (b ++ post) first ks (record {
+        let first = first_inserted all (numbers root tree sound) (rules root tree sound) pre path around k name (node align form) None fs post p in
+        let fine = place_fine all (numbers root tree sound) (rules root tree sound) pre (an_inserted name None) (path ++ k ∷ []) around align form (b ++ post) first in (
+          null_here align form fine.role,
+          sound_node (node align form) pre (an_inserted name None) (path ++ k ∷ []) around (b ++ post) first ks (record {
             knows = knows_left root tree sound ks pre around a b knows;
             homed = in_left root tree sound around pre a b post p.whole (λ s. whole_fields all s fs path around (suc k)) homed;
-            leafed = leafed_first root tree sound pre (an_inserted name None) (path ++ k ∷ []) around g b post first (fields_leaf fs) (λ s h. no_fields_leaf fs path around (suc k) s h) leafed;
+            leafed = leafed_first root tree sound pre (an_inserted name None) (path ++ k ∷ []) around (node align form) b post first (fields_leaf fs) (λ s h. no_fields_leaf fs path around (suc k) s h) leafed;
           }) d (one_step path k d e),
-          sound_fields fs (pre ++ a) path around (suc k) post (next_inserted all (numbers root tree sound) (rules root tree sound) pre path around k name g None fs post p) ks
-              (knows_right root tree sound ks pre around a b (λ s o h. let none = only_slot root tree sound g (inserted_is root tree sound pre path around k name g None fs post p) name (path ++ k ∷ []) around None s h in cc) knows)
-              (in_right root tree sound around pre a b post p.whole (λ s. whole_node all s g (an_inserted name None) (path ++ k ∷ []) around) homed)
-              (leafed_next root tree sound pre (an_inserted name None) (path ++ k ∷ []) around g b post first (fields_leaf fs) leafed) d e,
+          sound_fields fs (pre ++ a) path around (suc k) post (next_inserted all (numbers root tree sound) (rules root tree sound) pre path around k name (node align form) None fs post p) ks
+              (knows_right root tree sound ks pre around a b (λ s o h. let none = only_slot root tree sound (node align form) (inserted_is root tree sound pre path around k name (node align form) None fs post p) name (path ++ k ∷ []) around None s h in cc) knows)
+              (in_right root tree sound around pre a b post p.whole (λ s. whole_node all s (node align form) (an_inserted name None) (path ++ k ∷ []) around) homed)
+              (leafed_next root tree sound pre (an_inserted name None) (path ++ k ∷ []) around (node align form) b post first (fields_leaf fs) leafed) d e,
         )
 
     sound_cases : (cases : Alternatives) (pre : List Stand) (path around : List ℕ) (k : ℕ) (post : List Stand) → CasesAt root tree sound pre path around k cases post → (ks : Known) → Knows ks pre around (alternative_nodes path around k cases) → Homed root tree sound around (alternative_nodes path around k cases) → Leafed root tree sound (alternative_nodes path around k cases) (alternatives_leaf cases)

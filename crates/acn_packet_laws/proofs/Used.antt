@@ -33,11 +33,11 @@ use Rattle.acn_grammar.proofs.SpanLaw.{Fine, FormFine, FieldsFine, AlternativesF
 use Rattle.acn_grammar.proofs.TreeRules.{tree_fine, stand_fine}
 use Rattle.acn_packet_laws.specs.Laws.{IsAccepted}
 use Rattle.acn_packet_laws.proofs.Codes.{range_within}
-use Rattle.acn_packet_laws.proofs.Lengths.{only_null}
+use Rattle.acn_packet_laws.proofs.SlotNumbers.{only_null}
 use Rattle.acn_packet_laws.proofs.Placed.{tree_rules}
-use Rattle.acn_packet_laws.proofs.SoundLaws.{accepted_sound_nodes, first_two, first_three, second_three, first_five, second_five, fourth_five}
-use Rattle.acn_packet_laws.proofs.Sounding.{last_two, last_three, last_four, last_five}
+use Rattle.acn_packet_laws.proofs.SoundLaws.{accepted_sound_nodes}
 use Rattle.acn_packet_laws.proofs.UseKinds.{uses_fit}
+use Rattle.acn_packet_laws.proofs.Tuples.{first_five, first_three, first_two, fourth_five, last_five, last_four, last_three, last_two, second_five, second_three}
 
 -- Lists.
 

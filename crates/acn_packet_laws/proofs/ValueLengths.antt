@@ -28,14 +28,14 @@ use Rattle.acn_grammar.proofs.SpellLength.{Steady, SteadyForm, SteadyFields, Ste
 use Rattle.acn_packet_laws.specs.Laws.{ValuesLieWithinBounds}
 use Rattle.acn_packet_laws.proofs.Codes.{each_number_has_a_code, set_ordered}
 use Rattle.acn_packet_laws.proofs.FineNodes.{fine_at}
-use Rattle.acn_packet_laws.proofs.LaidOut.{some_number}
+use Rattle.acn_packet_laws.proofs.SlotNumbers.{some_number}
 use Rattle.acn_packet_laws.proofs.Lengths.{root_steady, steady_at, least_there}
 use Rattle.acn_packet_laws.proofs.NodeLaws.{accepted_sound}
-use Rattle.acn_packet_laws.proofs.Sounding.{last_two}
 use Rattle.acn_packet_laws.proofs.Spans.{exactly_spans, plus_spans, hull_first, hull_second, times_spans, same_spans, octets_span, there_spans, away_spans, moved_spans}
 use Rattle.acn_packet_laws.proofs.WrittenParts.{nothing_left, no_breach, passes}
 use Rattle.acn_packet_laws.proofs.WrittenSizes.{TextRules, text_rules}
 use Rattle.std.proofs.lemmas.Bool.{and_parts, eqb-true}
+use Rattle.acn_packet_laws.proofs.Tuples.{last_two}
 
 -- Numbers: by a code of them.
 
