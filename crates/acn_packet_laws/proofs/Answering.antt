@@ -174,8 +174,8 @@ module _ (root : Grammar) (tree : IsTree root) (mode : Mode) (s : ℕ) (x : ℤ)
         (fields_met fs none.1 w.1 around (last_four u) env is ps (at + length t.front) t.back t.second)
     fields_met (component name g presence default o fs) none w around u env is (empty ps) at bs t =
         each_both (MeetsAsk x) (presence_asks_on s false presence) (fields_asks_on root s fs ps) (presence_away around env is presence (second_four u) t.given) (fields_met fs none.1 w.1 around (last_four u) env is ps at bs t.spelled)
-    fields_met (inserted name g (Some r) fs) none w around u env is ps at bs t = fields_met fs none w.1 around (last_two u) env is ps (at + length t.front) t.back t.second
-    fields_met (inserted name g None fs) none w around u env is ps at bs t = fields_met fs none w.1 around (last_two u) env is ps (at + length t.front) t.back t.second
+    fields_met (inserted name g (Some r) fs) none w around u env is ps at bs t = fields_met fs none w.1 around u env is ps (at + length t.front) t.back t.second
+    fields_met (inserted name g None fs) none w around u env is ps at bs t = fields_met fs none w.1 around u env is ps (at + length t.front) t.back t.second
     fields_met _ none w around u env is ps at bs t = absurd t.0
 
     case_met : (cases : Alternatives) → CasesNot s cases → SteadyAlternatives cases → (rule : ChoiceRule) (around : List ℕ) → CasesUsed root around rule cases → (env : Env) → at_slot env s ≡ Some x → (i : ℕ) (d : Data) (at : ℕ) (bs : List Bool) → AlternativePart root mode cases rule env i d at bs → Met (alternative_asks_on root s cases rule i d)

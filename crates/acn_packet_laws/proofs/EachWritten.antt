@@ -9,7 +9,6 @@ use Rattle.acn_packet_laws.specs.Laws.{EachValueIsWrittenOrRefused}
 use Rattle.acn_packet_laws.proofs.AskHomes.{tree_homes}
 use Rattle.acn_packet_laws.proofs.FirstUnmets.{first_or_met}
 use Rattle.acn_packet_laws.proofs.Lengths.{root_steady}
-use Rattle.acn_packet_laws.proofs.NodeLaws.{accepted_sound}
 use Rattle.acn_packet_laws.proofs.OneRefusals.{EachMet}
 use Rattle.acn_packet_laws.proofs.SoundLaws.{accepted_sound_nodes}
 use Rattle.acn_packet_laws.proofs.Used.{accepted_used}
@@ -29,7 +28,7 @@ each_written root d a shaped = by (breach root d) refl
 
     written : EachMet root (moments root root [] [] d) → breaches [] root d ≡ [] → (bs : List Bool) × IsWritten root d bs
     written met none =
-        write_node root a d met root 0 [] (λ s. false) (accepted_sound_nodes root a) (tree_homes root a.formed) (root_steady root a.formed (accepted_sound root a)) (accepted_used root a) [] (λ m q. refl) [] d (λ r o e. e) shaped none
+        write_node root a d met root 0 [] (λ s. false) (accepted_sound_nodes root a) (tree_homes root a.formed) (root_steady root a) (accepted_used root a) [] (λ m q. refl) [] d (λ r o e. e) shaped none
         (all_counted (moments root root [] [] d) [] (moments root root [] [] d) met refl) [] (λ t h. cc) 0
 
     by : (o : Option Unfit) → breach root d ≡ o → ((bs : List Bool) × IsWritten root d bs) ⊎ ((u : Unfit) × Refused root d u)

@@ -11,13 +11,14 @@ use Rattle.acn_packet_laws.specs.Laws.{EachInputIsReadOrFails}
 use Rattle.acn_packet_laws.proofs.EndedTextTotal.{text_total}
 use Rattle.acn_packet_laws.proofs.Envs.{SameKeys, FrontOf, Stuck}
 use Rattle.acn_packet_laws.proofs.Exclusion.{take_front}
-use Rattle.acn_packet_laws.proofs.LaidOut.{root_laid}
-use Rattle.acn_packet_laws.proofs.NodeLaws.{accepted_scoped, accepted_sound}
+use Rattle.acn_packet_laws.proofs.NodeLaws.{accepted_scoped}
 use Rattle.acn_packet_laws.proofs.NodeTotal.{node_total}
+use Rattle.acn_packet_laws.proofs.SoundLaid.{sound_laid}
+use Rattle.acn_packet_laws.proofs.SoundLaws.{accepted_sound_nodes}
 
 pub each_input_is_read_or_fails : EachInputIsReadOrFails
 each_input_is_read_or_fails root input accepted =
-    let o = node_total root text_total root (λ s. false) (λ s. false) (tree_fine root accepted.formed) (root_laid root accepted.formed (accepted_sound root accepted)) (accepted_scoped root accepted) (λ s h. h) (λ s h. cc) []
+    let o = node_total root text_total root (λ s. false) (λ s. false) (tree_fine root accepted.formed) (sound_laid root root 0 [] (λ s. false) (accepted_sound_nodes root accepted) (λ s. false) (λ s. refl)) (accepted_scoped root accepted) (λ s h. h) (λ s h. cc) []
     (record { permitted = tt; have = λ s h. cc; only = λ s h. refl }) false 0 [] 0 input in
     by o.moved.now o.moved.same o.result
   where

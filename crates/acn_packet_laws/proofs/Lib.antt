@@ -32,7 +32,6 @@ mod Homes
 mod InputTotal
 mod InsideReaches
 mod Items
-mod LaidOut
 mod LaterStarts
 mod LeadFails
 mod Leads
@@ -56,7 +55,6 @@ mod Occurrences
 mod OneFault
 mod OneRefusals
 mod OneWriting
-mod OpenFields
 mod Overlaps
 mod PathSlots
 mod PlaceRows
@@ -73,6 +71,7 @@ mod ShortNear
 mod SizeRows
 mod SlotLeaves
 mod SlotNumbers
+mod SoundLaid
 mod SoundLaws
 mod SoundNodes
 mod SoundRows

@@ -9,11 +9,11 @@ use Rattle.acn_grammar.specs.Grammar.{Grammar, Form, Fields, Alternatives, Data,
 use Rattle.acn_grammar.specs.Length.{ending}
 use Rattle.acn_grammar.specs.Scoped.{Known, with_slot, with_own, Agree, RuleIn, PresenceIn, TestsIn, choose_known, after, form_after, fields_after, tests_at, Scoped, FormScoped, FieldsScoped, AlternativesScoped}
 use Rattle.acn_grammar.specs.Slots.{domain_of}
+use Rattle.acn_grammar.specs.Sound.{IsNull}
 use Rattle.acn_grammar.specs.Spell.{Part, SizePart, RulePart, Carries, ListPart, RunPart, EndedPart, Spell, FormPart, FieldsPart, SlotField, AlternativePart, Chosen, with_home}
 use Rattle.acn_grammar.specs.Tree.{holds}
 use Rattle.acn_grammar.specs.declared.node.ChoiceRule.{ChoiceRule}
 use Rattle.acn_grammar.specs.declared.node.ChoiceRule.TheVariants.{Index, Tests, Item}
-use Rattle.acn_grammar.specs.declared.node.NumKind.TheVariants.{Null}
 use Rattle.acn_grammar.specs.declared.node.Presence.{Presence}
 use Rattle.acn_grammar.specs.declared.node.Presence.TheVariants.{Always, Bit, When}
 use Rattle.acn_grammar.specs.declared.node.Sizing.{Sizing}
@@ -91,11 +91,6 @@ module _ (root : Grammar) where
   OwnLaid keys None g = Unit {0}
   OwnLaid keys (Some s) g = SlotLaid keys s g
 
-  -- a field that is always the same
-  abbrev pub NullLaid : Grammar → Type 0
-  NullLaid (node align (num leaf)) = leaf.kind ≡ Null
-  NullLaid _ = ⊥
-
   -- slots of a field and those behind it are others
   abbrev pub Others : (ℕ → Bool) → (ℕ → Bool) → Type 0
   Others p q = (s : ℕ) → p s ≡ true → q s ≡ false
@@ -116,7 +111,7 @@ module _ (root : Grammar) where
     FieldsLaid keys (component name g presence default own fs) =
         Laid keys g × OwnLaid keys own g × Others (is_own own) (fields_opens fs) × Others (opens g) (fields_opens fs) × FieldsLaid keys fs
     FieldsLaid keys (inserted name g (Some s) fs) = SlotLaid keys s g × Others (nat_eq s) (fields_opens fs) × FieldsLaid keys fs
-    FieldsLaid keys (inserted name g None fs) = Laid keys g × Shut g × NullLaid g × FieldsLaid keys fs
+    FieldsLaid keys (inserted name g None fs) = Laid keys g × Shut g × IsNull g × FieldsLaid keys fs
 
     pub CasesLaid : Known → Alternatives → Type 0
     CasesLaid keys no_alternatives = Unit {0}

@@ -194,7 +194,7 @@ module _ (root : Grammar) where
         each_both IsLed (presence_asks paths (p ++ k ∷ []) false presence) (fields_moments root fs paths p (suc k) ps) (led_presence around paths outer (p ++ k ∷ []) false presence (second_four u))
         (led_fields fs homes.1 around (last_four u) paths outer p (suc k) (led_behind p k name g presence default o fs led) ps)
     led_fields (component name g presence default o fs) homes around u paths outer p k led no_places = tt
-    led_fields (inserted name g slot fs) homes around u paths outer p k led ps = led_fields fs homes around (last_two u) paths outer p (suc k) (led_inserted p k name g slot fs led) ps
+    led_fields (inserted name g slot fs) homes around u paths outer p k led ps = led_fields fs homes around u paths outer p (suc k) (led_inserted p k name g slot fs led) ps
 
     led_case : (cases : Alternatives) → CasesHomes cases → (rule : ChoiceRule) (around : List ℕ) → ChoiceFits root around rule → CasesUsed root around rule cases → (paths : FieldPaths) → Outer around paths → (p : List ℕ) (i j : ℕ) → ((m : ℕ) (q : List ℕ) → slot_at root None (p ++ i ∷ m ∷ q) ≡ case_slot_at cases j (m ∷ q)) → (d : Data)
         → AllLed (alternative_moments root cases rule paths p i j d)

@@ -178,9 +178,9 @@ module _ (root : Grammar) (tree : IsTree root) (mode : Mode) (whole : Data) wher
         each_both Good (presence_asks paths (p ++ k ∷ []) false presence) (fields_moments root fs paths p (suc k) ps) (good_presence around paths outer (p ++ k ∷ []) false presence (second_four u))
         (good_fields fs homes.1 w.1 around (last_four u) paths outer p (suc k) env ps (λ m r x l e. s m r x (omega arith) (if_no (nat_eq m k) None (field_part fs (suc k) ps m r) (differs m k l) ∙ e)) at bs t.spelled)
     good_fields (inserted name g (Some n) fs) homes w around u paths outer p k env ps s at bs t =
-        good_fields fs homes w.1 around (last_two u) paths outer p (suc k) env ps (λ m r x l e. s m r x (omega arith) (if_no (nat_eq m k) None (field_part fs (suc k) ps m r) (differs m k l) ∙ e)) (at + length t.front) t.back t.second
+        good_fields fs homes w.1 around u paths outer p (suc k) env ps (λ m r x l e. s m r x (omega arith) (if_no (nat_eq m k) None (field_part fs (suc k) ps m r) (differs m k l) ∙ e)) (at + length t.front) t.back t.second
     good_fields (inserted name g None fs) homes w around u paths outer p k env ps s at bs t =
-        good_fields fs homes w.1 around (last_two u) paths outer p (suc k) env ps (λ m r x l e. s m r x (omega arith) (if_no (nat_eq m k) None (field_part fs (suc k) ps m r) (differs m k l) ∙ e)) (at + length t.front) t.back t.second
+        good_fields fs homes w.1 around u paths outer p (suc k) env ps (λ m r x l e. s m r x (omega arith) (if_no (nat_eq m k) None (field_part fs (suc k) ps m r) (differs m k l) ∙ e)) (at + length t.front) t.back t.second
     good_fields _ homes w around u paths outer p k env ps s at bs t = absurd t.0
 
     good_case : (cases : Alternatives) → CasesHomes cases → SteadyAlternatives cases → (rule : ChoiceRule) (around : List ℕ) → ChoiceFits root around rule → CasesUsed root around rule cases → (paths : FieldPaths) → Outer around paths → (p : List ℕ) (i : ℕ) (env : Env) (j : ℕ) (d : Data)
@@ -204,7 +204,7 @@ pub refused_is_not_spelled : RefusedIsNotSpelled
 refused_is_not_spelled root mode d u bs a r t = by (breach root d) (first_none (breaches [] root d) (unbreached root mode root [] [] d 0 bs t)) r
   where
     all_good : AllByRecursion (Good root a.formed mode d) (moments root root [] [] d)
-    all_good = good_node root a.formed mode d root (tree_homes root a.formed) (root_steady root a.formed (accepted_sound root a)) [] (accepted_used root a) [] (λ n h. cc) [] [] d (λ q o e. e) 0 bs t
+    all_good = good_node root a.formed mode d root (tree_homes root a.formed) (root_steady root a) [] (accepted_used root a) [] (λ n h. cc) [] [] d (λ q o e. e) 0 bs t
 
     can : (before : List Moment) (here : Moment) (after : List Moment) → moments root root [] [] d ≡ before ++ here ∷ after → Good root a.formed mode d here → CanBeMet root before here
     can before (counts path n sizing) after e g = g

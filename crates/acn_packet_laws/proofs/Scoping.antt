@@ -125,7 +125,7 @@ own_first : (own : Option ℕ) (ks : Known) (s : ℕ) → is_slot s own ≡ true
 own_first None ks s h = cc
 own_first (Some t) ks s h = or_left (nat_eq t s) (ks s) h
 
-own_second : (own : Option ℕ) (ks : Known) (s : ℕ) → ks s ≡ true → with_own own ks s ≡ true
+pub own_second : (own : Option ℕ) (ks : Known) (s : ℕ) → ks s ≡ true → with_own own ks s ≡ true
 own_second None ks s h = h
 own_second (Some t) ks s h = or_right (nat_eq t s) (ks s) h
 

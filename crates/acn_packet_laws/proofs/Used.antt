@@ -14,7 +14,7 @@ use Rattle.acn_grammar.specs.Leaves.{num_fine, is_range, no_items, all_differ, n
 use Rattle.acn_grammar.specs.Scoped.{Known, after, choose_known, with_own, with_slot}
 use Rattle.acn_grammar.specs.Slots.{slot_leaf, form_leaf, fields_leaf, alternatives_leaf, number_leaf, first_of_two, domain_of, is_slot as if_slot}
 use Rattle.acn_grammar.specs.Sound.{Sound, FormSound, FieldsSound, AlternativesSound, PresenceSound, OwnSound, SaysSlot}
-use Rattle.acn_grammar.specs.Tree.{IsTree, holds, all_true, stand_rules, has_tests, choice_fine, choice_rule_fine, role_fine}
+use Rattle.acn_grammar.specs.Tree.{IsTree, holds, all_true, stand_rules, has_tests, choice_fine, choice_rule_fine}
 use Rattle.acn_grammar.specs.Walk.{Stand, Role, a_component, an_inserted, an_alternative, an_element, a_content, root_node, nodes, nodes_of, form_nodes, field_nodes, alternative_nodes, Use, condition, item_of, size_of, slot_of, uses, form_uses, own_tests, rule_uses, choice_uses, presence_tests, conditions_of}
 use Rattle.acn_grammar.specs.declared.node.ChoiceRule.{ChoiceRule}
 use Rattle.acn_grammar.specs.declared.node.ChoiceRule.TheVariants.{Index, Tests, Item}
@@ -33,11 +33,10 @@ use Rattle.acn_grammar.proofs.SpanLaw.{Fine, FormFine, FieldsFine, AlternativesF
 use Rattle.acn_grammar.proofs.TreeRules.{tree_fine, stand_fine}
 use Rattle.acn_packet_laws.specs.Laws.{IsAccepted}
 use Rattle.acn_packet_laws.proofs.Codes.{range_within}
-use Rattle.acn_packet_laws.proofs.SlotNumbers.{only_null}
 use Rattle.acn_packet_laws.proofs.Placed.{tree_rules}
 use Rattle.acn_packet_laws.proofs.SoundLaws.{accepted_sound_nodes}
 use Rattle.acn_packet_laws.proofs.UseKinds.{uses_fit}
-use Rattle.acn_packet_laws.proofs.Tuples.{first_five, first_three, first_two, fourth_five, last_five, last_four, last_three, last_two, second_five, second_three}
+use Rattle.acn_packet_laws.proofs.Tuples.{first_five, first_four, first_three, first_two, fourth_five, last_five, last_four, last_three, last_two, second_five, second_three}
 
 -- Lists.
 
@@ -167,15 +166,6 @@ module _ (root : Grammar) where
   EndFits (Some p) (Prefix low width) = Unit {0}
   EndFits (Some p) (Ended q) = Unit {0}
 
-  -- an inserted field without a slot is a NULL
-  abbrev pub IsNull : Grammar → Type 0
-  IsNull (node align (num leaf)) = leaf.kind ≡ Null
-  IsNull _ = ⊥
-
-  abbrev pub InsertedFits : Option ℕ → Grammar → Type 0
-  InsertedFits None g = IsNull g
-  InsertedFits (Some s) g = Unit {0}
-
   abbrev mutual
     -- each use in a node round which these slots are at home
     pub NodeUsed : List ℕ → Grammar → Type 0
@@ -194,7 +184,7 @@ module _ (root : Grammar) where
     pub FieldsUsed : List ℕ → Fields → Type 0
     FieldsUsed around no_fields = Unit {0}
     FieldsUsed around (component name g presence default own fs) = OwnFits around own × PresenceFits around presence × NodeUsed around g × FieldsUsed around fs
-    FieldsUsed around (inserted name g slot fs) = InsertedFits slot g × FieldsUsed around fs
+    FieldsUsed around (inserted name g slot fs) = FieldsUsed around fs
 
     pub CasesUsed : List ℕ → ChoiceRule → Alternatives → Type 0
     CasesUsed around rule no_alternatives = Unit {0}
@@ -206,7 +196,7 @@ module _ (root : Grammar) where
   UseFits around (size_of t) = holds around t ≡ true
 
   abbrev StandFits : Stand → Type 0
-  StandFits at = AllByRecursion (UseFits at.around) (uses at) × (role_fine at.role at.form ≡ true)
+  StandFits at = AllByRecursion (UseFits at.around) (uses at)
 
   tests_fit : (around : List ℕ) (ts : List Test) (us : List Use) → AllByRecursion (UseFits around) (map condition ts ++ us) → TestsFit around ts
   tests_fit around [] us h = tt
@@ -226,19 +216,13 @@ module _ (root : Grammar) where
   choice_fits around (Index width) h = tt
   choice_fits around Tests h = tt
 
-  says_home : (around : List ℕ) (s : ℕ) (g : Grammar) → SaysSlot root around s g → holds around s ≡ true
-  says_home around s (node align (num leaf)) h = h.0
-  says_home around s (node align (octets sizing)) h = absurd h
-  says_home around s (node align (bits sizing)) h = absurd h
-  says_home around s (node align (text leaf)) h = absurd h
-  says_home around s (node align (seq _ home)) h = absurd h
-  says_home around s (node align (list sizing g)) h = absurd h
-  says_home around s (node align (choice cases rule)) h = absurd h
-  says_home around s (node align (contained sizing g)) h = absurd h
+  says_home : (around : List ℕ) (ks : Known) (s : ℕ) (g : Grammar) → SaysSlot root around ks s g → holds around s ≡ true
+  says_home around ks s (node align (num leaf)) h = h.0
+  says_home around ks s (node align _) h = absurd h
 
-  own_fits : (around : List ℕ) (own : Option ℕ) (presence : Presence) (g : Grammar) → OwnSound root around own presence g → OwnFits around own
-  own_fits around None presence g h = tt
-  own_fits around (Some t) presence g h = says_home around t g h.1
+  own_fits : (around : List ℕ) (ks : Known) (own : Option ℕ) (presence : Presence) (g : Grammar) → OwnSound root around ks own presence g → OwnFits around own
+  own_fits around ks None presence g h = tt
+  own_fits around ks (Some t) presence g h = says_home around ks t g h.1
 
   presence_fits : (around : List ℕ) (ks : Known) (presence : Presence) → PresenceSound ks presence → TestsFit around (presence_tests presence) → PresenceFits around presence
   presence_fits around ks Always h t = tt
@@ -291,30 +275,20 @@ module _ (root : Grammar) where
   bare_more Tests name ts more h = tt
   bare_more (Item t) name ts more h = tt
 
-  null_fits : (name : List ℕ) (g : Grammar) (path around : List ℕ) → AllByRecursion StandFits (nodes (an_inserted name None) path around g) → IsNull g
-  null_fits name (node align (num leaf)) path around f = only_null leaf.kind (f.0).1
-  null_fits name (node align (octets sizing)) path around f = (let no' = (f.0).1 in cc)
-  null_fits name (node align (bits sizing)) path around f = (let no' = (f.0).1 in cc)
-  null_fits name (node align (text leaf)) path around f = (let no' = (f.0).1 in cc)
-  null_fits name (node align (seq _ home)) path around f = (let no' = (f.0).1 in cc)
-  null_fits name (node align (list sizing g)) path around f = (let no' = (f.0).1 in cc)
-  null_fits name (node align (choice cases rule)) path around f = (let no' = (f.0).1 in cc)
-  null_fits name (node align (contained sizing g)) path around f = (let no' = (f.0).1 in cc)
-
   mutual
     used_node : (g : Grammar) (role : Role) (path around : List ℕ) (k : ℕ) (ks : Known) → Sound root k around ks g → AllByRecursion StandFits (nodes role path around g) → TestsFit around (own_tests role) × NodeUsed around g
     used_node (node align form) role path around k ks h f =
-        (tests_fit around (own_tests role) (form_uses form) (f.0).0, used_form form path around k ks (last_three h) (form_fit around (own_tests role) (form_uses form) (f.0).0) f.1)
+        (tests_fit around (own_tests role) (form_uses form) f.0, used_form form path around k ks (last_three h) (form_fit around (own_tests role) (form_uses form) f.0) f.1)
 
     used_form : (form : Form) (path around : List ℕ) (k : ℕ) (ks : Known) → FormSound root k around ks form → AllByRecursion (UseFits around) (form_uses form) → AllByRecursion StandFits (form_nodes path around form) → FormUsed around form
     used_form (num leaf) path around k ks h u f = tt
     used_form (octets sizing) path around k ks h u f = rule_fits around sizing.rule u
     used_form (bits sizing) path around k ks h u f = rule_fits around sizing.rule u
     used_form (text leaf) path around k ks h u f = (rule_fits around leaf.sized.rule u, text_ends leaf (first_two h))
-    used_form (seq fields home) path around k ks h u f = used_fields fields path (home ++ around) 0 (suc k) ks (last_four h) f
+    used_form (seq fields home) path around k ks h u f = used_fields fields path (home ++ around) 0 (suc k) ks (last_two h) f
     used_form (list sizing g) path around k ks h u f = (rule_fits around sizing.rule u, (used_node g an_element (path ++ 0 ∷ []) around (suc k) ks (last_five h) f).1)
     used_form (contained sizing g) path around k ks h u f = (rule_fits around sizing.rule u, (used_node g a_content (path ++ 0 ∷ []) around (suc k) ks (last_four h) f).1)
-    used_form (choice cases rule) path around k ks h u f = (choice_fits around rule u, used_cases cases rule (bare rule (conditions_of cases) (first_three h)) path around 0 (suc k) ks (last_three h) f)
+    used_form (choice cases rule) path around k ks h u f = (choice_fits around rule u, used_cases cases rule (bare rule (conditions_of cases) (first_four h)) path around 0 (suc k) ks (last_four h) f)
 
     used_fields : (fs : Fields) (path around : List ℕ) (i k : ℕ) (ks : Known) → FieldsSound root k around ks fs → AllByRecursion StandFits (field_nodes path around i fs) → FieldsUsed around fs
     used_fields no_fields path around i k ks h f = tt
@@ -322,17 +296,15 @@ module _ (root : Grammar) where
         let a = nodes (a_component name presence own) (path ++ i ∷ []) around g in
         let b = field_nodes path around (suc i) fs in
         let n = used_node g (a_component name presence own) (path ++ i ∷ []) around k ks (fourth_five h) (each_left StandFits a b f) in (
-          own_fits around own presence g (second_five h),
+          own_fits around ks own presence g (second_five h),
           presence_fits around ks presence (first_five h) n.0,
           n.1,
           used_fields fs path around (suc i) k (choose_known presence ks (with_own own (after ks g))) (last_five h) (each_right StandFits a b f),
         )
     used_fields (inserted name g (Some s) fs) path around i k ks h f =
-        (tt, used_fields fs path around (suc i) k (with_slot s ks) (last_four h) (each_right StandFits (nodes (an_inserted name (Some s)) (path ++ i ∷ []) around g) (field_nodes path around (suc i) fs) f))
-    used_fields (inserted name g None fs) path around i k ks h f = (
-      null_fits name g (path ++ i ∷ []) around (each_left StandFits (nodes (an_inserted name None) (path ++ i ∷ []) around g) (field_nodes path around (suc i) fs) f),
-      used_fields fs path around (suc i) k ks (last_two h) (each_right StandFits (nodes (an_inserted name None) (path ++ i ∷ []) around g) (field_nodes path around (suc i) fs) f),
-    )
+        used_fields fs path around (suc i) k (with_slot s ks) (last_four h) (each_right StandFits (nodes (an_inserted name (Some s)) (path ++ i ∷ []) around g) (field_nodes path around (suc i) fs) f)
+    used_fields (inserted name g None fs) path around i k ks h f =
+        used_fields fs path around (suc i) k ks (last_three h) (each_right StandFits (nodes (an_inserted name None) (path ++ i ∷ []) around g) (field_nodes path around (suc i) fs) f)
 
     used_cases : (cases : Alternatives) (rule : ChoiceRule) → Bare rule (conditions_of cases) → (path around : List ℕ) (i k : ℕ) (ks : Known) → AlternativesSound root k around ks cases → AllByRecursion StandFits (alternative_nodes path around i cases) → CasesUsed around rule cases
     used_cases no_alternatives rule n path around i k ks h f = tt
@@ -390,4 +362,4 @@ accepted_used root a = (used_node root root root_node [] [] 0 (λ s. false) (acc
     stand_fits : (k : ℕ) (at : Stand) → slice_get (nodes_of root) k ≡ Some at → StandFits root at
     stand_fits k at is =
         let fine = stand_fine (nodes_of root) at (at_place (λ x. all_true (stand_rules (nodes_of root) x)) (nodes_of root) (tree_rules root a.formed) k at is) in
-        (with_all (λ u. holds at.around (slot_of u) ≡ true) (UseFits root at.around) (uses at) (all_open at.around (uses at) fine.uses) (λ u use' e h. use_fits k at is u use' e h), fine.role)
+        with_all (λ u. holds at.around (slot_of u) ≡ true) (UseFits root at.around) (uses at) (all_open at.around (uses at) fine.uses) (λ u use' e h. use_fits k at is u use' e h)

@@ -29,8 +29,7 @@ use Rattle.acn_packet_laws.specs.Laws.{ValuesLieWithinBounds}
 use Rattle.acn_packet_laws.proofs.Codes.{each_number_has_a_code, set_ordered}
 use Rattle.acn_packet_laws.proofs.FineNodes.{fine_at}
 use Rattle.acn_packet_laws.proofs.SlotNumbers.{some_number}
-use Rattle.acn_packet_laws.proofs.Lengths.{root_steady, steady_at, least_there}
-use Rattle.acn_packet_laws.proofs.NodeLaws.{accepted_sound}
+use Rattle.acn_packet_laws.proofs.Lengths.{steady_at, least_there}
 use Rattle.acn_packet_laws.proofs.Spans.{exactly_spans, plus_spans, hull_first, hull_second, times_spans, same_spans, octets_span, there_spans, away_spans, moved_spans}
 use Rattle.acn_packet_laws.proofs.WrittenParts.{nothing_left, no_breach, passes}
 use Rattle.acn_packet_laws.proofs.WrittenSizes.{TextRules, text_rules}
@@ -241,5 +240,5 @@ mutual
 
 pub values_lie_within_bounds : ValuesLieWithinBounds
 values_lie_within_bounds root k here d at a is small meets =
-    let b = node_spans (node here.align here.form) (fine_at root k here a.formed is) (steady_at root root_node [] [] (root_steady root a.formed (accepted_sound root a)) k here is) d meets.shaped [] meets.none at in
+    let b = node_spans (node here.align here.form) (fine_at root k here a.formed is) (steady_at root k here a is) d meets.shaped [] meets.none at in
     (b.low, b.high (omega arith))

@@ -20,7 +20,7 @@ use Rattle.acn_grammar.specs.Refused.{asks_of}
 use Rattle.acn_grammar.specs.Scoped.{Known, after, choose_known, with_own, with_slot}
 use Rattle.acn_grammar.specs.Shaped.{may_be_absent, num_fits, each_element, fits, form_fits, fields_fit, alternative_fits}
 use Rattle.acn_grammar.specs.Slots.{items_of, slot_leaf, domain_of}
-use Rattle.acn_grammar.specs.Sound.{Sound, FormSound, FieldsSound, AlternativesSound, SaysSlot, OwnSound, RuleSound}
+use Rattle.acn_grammar.specs.Sound.{Sound, FormSound, FieldsSound, AlternativesSound, IsNull, SaysSlot, SequenceSound, RuleSound}
 use Rattle.acn_grammar.specs.Spell.{Fill, Window, RunPart, Spell, FormPart, FieldsPart, AlternativePart, IndexPart, SlotField, Carries, Chosen, with_home}
 use Rattle.acn_grammar.specs.Tree.{holds, near, near_node, near_form, is_slot, choice_fine, choice_rule_fine, has_tests}
 use Rattle.acn_grammar.specs.declared.node.ChoiceRule.{ChoiceRule}
@@ -43,7 +43,7 @@ use Rattle.acn_packet_laws.proofs.Homes.{truth}
 use Rattle.acn_packet_laws.proofs.Answering.{at_home, not_at_home}
 use Rattle.acn_packet_laws.proofs.AskHomes.{FormHomes, NodeHomes, FieldsHomes, CasesHomes, tree_homes, differs, if_yes, if_no, some_is}
 use Rattle.acn_packet_laws.proofs.Codes.{each_number_has_a_code, range_within}
-use Rattle.acn_packet_laws.proofs.SlotNumbers.{some_number}
+use Rattle.acn_packet_laws.proofs.SlotNumbers.{some_number, domain_is}
 use Rattle.acn_packet_laws.proofs.LeastAnswers.{least_answer}
 use Rattle.acn_packet_laws.proofs.Occurrences.{each_occurrence_asks}
 use Rattle.acn_packet_laws.proofs.OneRefusals.{EachMet, Held, IsOf, held}
@@ -51,7 +51,7 @@ use Rattle.acn_packet_laws.proofs.PathSlots.{slot_at, LeadsTo, IsLed, Led, NodeL
 use Rattle.acn_packet_laws.proofs.Placed.{holds_either, near_parts, near_if_when}
 use Rattle.acn_packet_laws.proofs.Scoping.{same_eq}
 use Rattle.acn_packet_laws.proofs.Sounding.{got_name}
-use Rattle.acn_packet_laws.proofs.Used.{each_left, each_right, TestFits, TestsFit, PresenceFits, CaseFits, RuleFits, OwnFits, ChoiceFits, IsNull, NodeUsed, FormUsed, FieldsUsed, CasesUsed, accepted_used}
+use Rattle.acn_packet_laws.proofs.Used.{each_left, each_right, TestFits, TestsFit, PresenceFits, CaseFits, RuleFits, OwnFits, ChoiceFits, NodeUsed, FormUsed, FieldsUsed, CasesUsed, accepted_used}
 use Rattle.acn_packet_laws.proofs.WrittenParts.{Writes, then_writes, where_writes, exactly_writes, padding_writes, RuleHas, size_writes, nothing_left, no_breach, passes, text_writes, list_writes, window_writes}
 use Rattle.acn_packet_laws.proofs.WrittenSizes.{text_rules}
 use Rattle.acn_grammar.proofs.Characters.{same_name-is}
@@ -177,55 +177,6 @@ module _ (root : Grammar) where
       let few = ltb-true (n - 1) (2 ^ width) (and_parts (nat_lt (n - 1) (2 ^ width)) (nat_eq width 0 || nat_le (2 ^ (width - 1)) (n - 1)) c.0).0 in
       (low_bits width i, number_bits width i (omega (arith, few, l)))
 
-  -- Slots.
-
-  domain_is : (t : ℕ) (leaf : NumLeaf) → slot_leaf root t ≡ Some leaf → domain_of root t ≡ leaf.set
-  domain_is t leaf e = ap (λ o. unwrap_or (option_map (λ l. l.set) o) []) e
-
-  says_some : (k : ℕ) (around : List ℕ) (ks : Known) (s : ℕ) (g : Grammar) → Sound root k around ks g → SaysSlot root around s g → (x : ℤ) × In (domain_of root s) x
-  says_some k around ks s (node align (num leaf)) h q =
-      let x = some_number leaf (last_three h) in
-      (x.0, subst (λ set. In set x.0) (sym (domain_is s leaf q.1)) x.1)
-  says_some k around ks s (node align (octets sizing)) h q = absurd q
-  says_some k around ks s (node align (bits sizing)) h q = absurd q
-  says_some k around ks s (node align (text leaf)) h q = absurd q
-  says_some k around ks s (node align (seq _ home)) h q = absurd q
-  says_some k around ks s (node align (list sizing g)) h q = absurd q
-  says_some k around ks s (node align (choice cases rule)) h q = absurd q
-  says_some k around ks s (node align (contained sizing g)) h q = absurd q
-
-  own_some : (k : ℕ) (around : List ℕ) (ks : Known) (own : Option ℕ) (presence : Presence) (s : ℕ) (g : Grammar) → Sound root k around ks g → OwnSound root around own presence g → is_slot s own ≡ true → (x : ℤ) × In (domain_of root s) x
-  own_some k around ks None presence s g h q e = cc
-  own_some k around ks (Some t) presence s g h q e = subst (λ n. (x : ℤ) × In (domain_of root n) x) (eqb-true t s e) (says_some k around ks t g h q.1)
-
-  -- a slot whose field is near has some number
-  mutual
-    near_some : (fs : Fields) (k : ℕ) (around : List ℕ) (ks : Known) → FieldsSound root k around ks fs → (s : ℕ) → holds (near fs) s ≡ true → (x : ℤ) × In (domain_of root s) x
-    near_some no_fields k around ks h s e = cc
-    near_some (component name g presence default own fs) k around ks h s e =
-        near_parts {F = (x : ℤ) × In (domain_of root s) x} own presence (near_node g) (near fs) s e
-        (λ q. own_some k around ks own presence s g (fourth_five h) (second_five h) q)
-        (λ q. near_node_some g k around ks (fourth_five h) s (near_if_when presence (near_node g) s q).1)
-        (λ q. near_some fs k around (choose_known presence ks (with_own own (after ks g))) (last_five h) s q)
-    near_some (inserted name g (Some t) fs) k around ks h s e =
-        either {F = (x : ℤ) × In (domain_of root s) x} (nat_eq t s) (holds (near fs) s) e
-        (λ q. subst (λ n. (x : ℤ) × In (domain_of root n) x) (eqb-true t s q) (says_some k around ks t g (third_four h) (first_four h)))
-        (λ q. near_some fs k around (with_slot t ks) (last_four h) s q)
-    near_some (inserted name g None fs) k around ks h s e = near_some fs k around ks (last_two h) s e
-
-    near_node_some : (g : Grammar) (k : ℕ) (around : List ℕ) (ks : Known) → Sound root k around ks g → (s : ℕ) → holds (near_node g) s ≡ true → (x : ℤ) × In (domain_of root s) x
-    near_node_some (node align form) k around ks h s e = near_form_some form k around ks (last_three h) s e
-
-    near_form_some : (form : Form) (k : ℕ) (around : List ℕ) (ks : Known) → FormSound root k around ks form → (s : ℕ) → holds (near_form form) s ≡ true → (x : ℤ) × In (domain_of root s) x
-    near_form_some (seq fields home) k around ks h s e = near_some fields (suc k) (home ++ around) ks (last_four h) s e
-    near_form_some (num leaf) k around ks h s e = cc
-    near_form_some (octets sizing) k around ks h s e = cc
-    near_form_some (bits sizing) k around ks h s e = cc
-    near_form_some (text leaf) k around ks h s e = cc
-    near_form_some (list sizing g) k around ks h s e = cc
-    near_form_some (choice cases rule) k around ks h s e = cc
-    near_form_some (contained sizing g) k around ks h s e = cc
-
 -- a number for each slot at home
 choose : (P : ℕ → ℤ → Type 0) (home : List ℕ) → ((s : ℕ) → holds home s ≡ true → (x : ℤ) × P s x) → (xs : List ℤ) × (length xs ≡ length home) × AllByRecursion (λ e. P e.0 e.1) (zip home xs)
 choose P [] h = ([], refl, tt)
@@ -255,9 +206,9 @@ module _ (root : Grammar) (accepted : IsAccepted root) (whole : Data) (met : Eac
   led_of (asks path field s a) h = h
   led_of (counts path n sizing) h = tt
 
-  meetable : (p : List ℕ) (align : ℕ) (fields : Fields) (home : List ℕ) (part : Data) (k : ℕ) (around : List ℕ) (ks : Known) → FieldsSound root k around ks fields → FormHomes (seq fields home) → Led root p (seq fields home) → part_at root whole p ≡ Some (occurrence (node align (seq fields home)) part)
+  meetable : (p : List ℕ) (align : ℕ) (fields : Fields) (home : List ℕ) (part : Data) (around : List ℕ) (ks : Known) → SequenceSound root around ks fields home → FormHomes (seq fields home) → Led root p (seq fields home) → part_at root whole p ≡ Some (occurrence (node align (seq fields home)) part)
       → (s : ℕ) → holds home s ≡ true → Meetable (domain_of root s) (form_asks_on root s (seq fields home) part)
-  meetable p align fields home part k around ks sound homes led stands s h =
+  meetable p align fields home part around ks sound homes led stands s h =
       by (held root (LeadsTo root) (field_path p fields s) (moments root root [] [] whole) (weaker (IsLed root) (IsOf root (LeadsTo root)) led_of (moments root root [] [] whole) (moments_led root (tree_homes root accepted.formed) (accepted_used root accepted) whole)) met)
     where
       is : asks_of (field_path p fields s) (moments root root [] [] whole) ≡ form_asks_on root s (seq fields home) part
@@ -268,14 +219,14 @@ module _ (root : Grammar) (accepted : IsAccepted root) (whole : Data) (met : Eac
 
       by : Held root (LeadsTo root) (field_path p fields s) (moments root root [] [] whole) → Meetable (domain_of root s) (form_asks_on root s (seq fields home) part)
       by (inl e) =
-          let x = near_some root fields k around ks sound s (homes.0 s h).0 in
+          let x = sound.permits s h in
           (x.0, record { permitted = x.1; meets = subst (AllByRecursion (MeetsAsk x.0)) (sym e ∙ is) tt })
       by (inr r) = subst (Meetable (domain_of root s)) is (subst (λ n. Meetable (domain_of root n) (asks_of (field_path p fields s) (moments root root [] [] whole))) (some_is r.0 s (sym r.1 ∙ mine)) r.2)
 
-  slot_writes : (k : ℕ) (around : List ℕ) (ks : Known) (s : ℕ) (g : Grammar) → Sound root k around ks g → SaysSlot root around s g → (env : Env) (wanted : ℕ → List Ask) → Told root env around wanted → Writes (SlotField root Written g env s)
+  slot_writes : (k : ℕ) (around : List ℕ) (ks : Known) (s : ℕ) (g : Grammar) → Sound root k around ks g → SaysSlot root around ks s g → (env : Env) (wanted : ℕ → List Ask) → Told root env around wanted → Writes (SlotField root Written g env s)
   slot_writes k around ks s (node align (num leaf)) sound says env wanted told at =
       let r = told s says.0 in
-      let c = each_number_has_a_code Written leaf (last_three sound) r.0 (subst (λ set. In set r.0) (domain_is root s leaf says.1) r.2) in
+      let c = each_number_has_a_code Written leaf (last_three sound) r.0 (subst (λ set. In set r.0) (domain_is root s leaf says.2) r.2) in
       let t = then_writes {Q = λ n cs. Code Written leaf r.0 cs} (padding_writes align (first_three sound)) (λ n. c) at in
       (t.0, (r.0, r.1, t.1))
   slot_writes k around ks s (node align (octets sizing)) sound says env wanted told at = absurd says
@@ -295,7 +246,7 @@ module _ (root : Grammar) (accepted : IsAccepted root) (whole : Data) (met : Eac
   zero_only : (x : ℤ) → pos 0 ≤ℤ x → x ≤ℤ pos 0 → x ≡ pos 0
   zero_only x h k = omega (arith, ints)
 
-  null_writes : (k : ℕ) (around : List ℕ) (ks : Known) (g : Grammar) → Sound root k around ks g → IsNull root g → (env : Env) → Writes (Spell root Written g env null)
+  null_writes : (k : ℕ) (around : List ℕ) (ks : Known) (g : Grammar) → Sound root k around ks g → IsNull g → (env : Env) → Writes (Spell root Written g env null)
   null_writes k around ks (node align (num leaf)) sound n env =
       let x = some_number leaf (last_three sound) in
       let set = rw n at (rules_of leaf (last_three sound)).set in
@@ -349,12 +300,12 @@ module _ (root : Grammar) (accepted : IsAccepted root) (whole : Data) (met : Eac
     write_form (text leaf) align k around ks sound homes w u p led paths (characters cs) s f n c env told =
         text_writes leaf (text_rules leaf (first_two sound)) env cs (no_breach p (text_breach leaf cs) n) (λ e. size_had root around leaf.sized.rule (first_two u) env (length cs) told)
     write_form (seq fields home) align k around ks sound homes w u p led paths (record_of ps) s f n c env told = λ at.
-        let t = then_writes (exactly_writes (presence_bits fields ps)) (write_fields fields (suc k) (home ++ around) ks (last_four sound) homes.1 w u p 0 (λ m q l. led m q) (with_fields p fields home paths) ps (λ m r o l e. s (m ∷ r) o e) f n c (with_home home xs.0 env) inner) at in
+        let t = then_writes (exactly_writes (presence_bits fields ps)) (write_fields fields (suc k) (home ++ around) ks (last_two sound) homes.1 w u p 0 (λ m q l. led m q) (with_fields p fields home paths) ps (λ m r o l e. s (m ∷ r) o e) f n c (with_home home xs.0 env) inner) at in
         (t.0, record { numbers = xs.0; fine = record { count = xs.1; permitted = weaker (λ e. LeastAnswer (domain_of root e.0) (form_asks_on root e.0 (seq fields home) (record_of ps)) e.1) (λ e. In (domain_of root e.0) e.1) (λ e l. (l.answers).permitted) (zip home xs.0) xs.2; least = λ e. xs.2 }; spelled = t.1 })
       where
         xs : (xs : List ℤ) × (length xs ≡ length home) × AllByRecursion (λ e. LeastAnswer (domain_of root e.0) (form_asks_on root e.0 (seq fields home) (record_of ps)) e.1) (zip home xs)
         xs = choose (λ r x. LeastAnswer (domain_of root r) (form_asks_on root r (seq fields home) (record_of ps)) x) home (λ r h. least_answer (domain_of root r) (form_asks_on root r (seq fields home) (record_of ps))
-            (meetable p align fields home (record_of ps) (suc k) (home ++ around) ks (last_four sound) homes led (ap (part_at root whole) (sym (append-nil p)) ∙ s [] (occurrence (node align (seq fields home)) (record_of ps)) refl) r h))
+            (meetable p align fields home (record_of ps) around ks (first_two sound) homes led (ap (part_at root whole) (sym (append-nil p)) ∙ s [] (occurrence (node align (seq fields home)) (record_of ps)) refl) r h))
 
         inner : Told root (with_home home xs.0 env) (home ++ around) (λ t. fields_asks_on root t fields ps)
         inner r h = truth {F = (x : ℤ) × (at_slot (with_home home xs.0 env) r ≡ Some x) × In (domain_of root r) x × AllByRecursion (MeetsAsk x) (fields_asks_on root r fields ps)} (holds home r)
@@ -370,8 +321,8 @@ module _ (root : Grammar) (accepted : IsAccepted root) (whole : Data) (met : Eac
         (each_right Counted (size_asks paths p (element_count es) sizing.rule) (run_moments (λ j d. moments root g paths (p ++ j ∷ []) d) 0 es) c)
         (right root env around (λ t. size_asks_on t (element_count es) sizing.rule) (λ t. run_asks_on (asks_on root t g) es) told))
     write_form (choice cases rule) align k around ks sound homes w u p led paths (alt i d) s f n c env told =
-        then_writes (index_writes root cases rule i (first_three sound) (case_there root cases i d f))
-        (write_case cases rule (each_has_item root ks cases rule (second_three sound)) (suc k) around ks (last_three sound) homes w (first_two u) (last_two u) p i i (λ m q. led i (m ∷ q)) paths d (deeper p i (alternative_part cases i d) (λ r o e. s (i ∷ r) o (if_yes (nat_eq i i) (alternative_part cases i d r) None (same_eq i) ∙ e))) f n c env told)
+        then_writes (index_writes root cases rule i (first_four sound) (case_there root cases i d f))
+        (write_case cases rule (each_has_item root ks cases rule (third_four sound)) (suc k) around ks (last_four sound) homes w (first_two u) (last_two u) p i i (λ m q. led i (m ∷ q)) paths d (deeper p i (alternative_part cases i d) (λ r o e. s (i ∷ r) o (if_yes (nat_eq i i) (alternative_part cases i d r) None (same_eq i) ∙ e))) f n c env told)
     write_form (contained sizing g) align k around ks sound homes w u p led paths d s f n c env told = λ at.
         let m = octets_for (bit_length g 0 d) in
         let x = moments root g paths (p ++ 0 ∷ []) d in
@@ -416,11 +367,11 @@ module _ (root : Grammar) (accepted : IsAccepted root) (whole : Data) (met : Eac
         (right root env around (λ t. presence_asks_on t false presence) (λ t. fields_asks_on root t fs ps) told))
     write_fields (inserted name g (Some r) fs) k around ks sound homes w u p i led paths ps s f n c env told =
         then_writes (slot_writes k around ks r g (third_four sound) (first_four sound) env (λ t. fields_asks_on root t fs ps) told)
-        (write_fields fs k around (with_slot r ks) (last_four sound) homes w.1 (last_two u) p (suc i) (led_inserted root p i name g (Some r) fs led) paths ps
+        (write_fields fs k around (with_slot r ks) (last_four sound) homes w.1 u p (suc i) (led_inserted root p i name g (Some r) fs led) paths ps
         (λ m q o l e. s m q o (omega arith) (if_no (nat_eq m i) None (field_part fs (suc i) ps m q) (differs m i l) ∙ e)) f n c env told)
     write_fields (inserted name g None fs) k around ks sound homes w u p i led paths ps s f n c env told =
-        then_writes (null_writes k around ks g (first_two sound) (first_two u) env)
-        (write_fields fs k around ks (last_two sound) homes w.1 (last_two u) p (suc i) (led_inserted root p i name g None fs led) paths ps
+        then_writes (null_writes k around ks g (second_three sound) (first_three sound) env)
+        (write_fields fs k around ks (last_three sound) homes w.1 u p (suc i) (led_inserted root p i name g None fs led) paths ps
         (λ m q o l e. s m q o (omega arith) (if_no (nat_eq m i) None (field_part fs (suc i) ps m q) (differs m i l) ∙ e)) f n c env told)
     write_fields no_fields k around ks sound homes w u p i led paths _ s f n c env told = cc
     write_fields (component name g presence default o fs) k around ks sound homes w u p i led paths no_places s f n c env told = cc

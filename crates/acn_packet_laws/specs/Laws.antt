@@ -1,7 +1,7 @@
 -- Laws of the definitions, as contracts name them.
 use Rattle.std.specs.Prelude.{◌*◌, ◌≡◌, ◌≢◌, ℕ, ◌+◌, ◌≤◌, ◌<◌, ℤ, Bool, true, false, List, [], ◌∷◌, ◌++◌, length, map, take, slice_get, Some, IsTrue, ◌⊎◌}
 use Rattle.std.specs.List.{flat_map}
-use Rattle.acn_grammar.specs.Grammar.{Grammar, Fields, Data, node, seq}
+use Rattle.acn_grammar.specs.Grammar.{Grammar, Fields, Data, node, num, seq}
 use Rattle.acn_grammar.specs.Asks.{moments, field_path}
 use Rattle.acn_grammar.specs.AsksOn.{form_asks_on}
 use Rattle.acn_num.specs.Ranges.{In}
@@ -19,9 +19,9 @@ use Rattle.acn_grammar.specs.Refused.{Refused, asks_of}
 use Rattle.acn_grammar.specs.PartAt.{part_at, occurrence}
 use Rattle.acn_grammar.specs.Scoped.{Known, Agree, after, FineField, Permitted, Scoped}
 use Rattle.acn_grammar.specs.Shaped.{Shaped}
-use Rattle.acn_grammar.specs.Sound.{Sound}
+use Rattle.acn_grammar.specs.Sound.{SaysSlot, Sound}
 use Rattle.acn_grammar.specs.Spell.{Spell, SlotField}
-use Rattle.acn_grammar.specs.Slots.{slot_leaf}
+use Rattle.acn_grammar.specs.Slots.{domain_of, slot_leaf}
 use Rattle.acn_grammar.specs.Tree.{IsTree, holds, slots_of}
 use Rattle.acn_grammar.specs.Walk.{Stand, Use, inside, slot_here, slot_of, uses}
 use Rattle.acn_grammar.specs.declared.node.NumLeaf.{NumLeaf}
@@ -82,6 +82,14 @@ SoundIsScoped = (root : Grammar) (k : ℕ) (around : List ℕ) (ks : Known) (g :
 -- a slot that is known behind a sound node was known before it, or is at home round it
 abbrev pub KnownBehind : Type 0
 KnownBehind = (root : Grammar) (k : ℕ) (around : List ℕ) (ks : Known) (g : Grammar) → Sound root k around ks g → (s : ℕ) → after ks g s ≡ true → (ks s ≡ true) ⊎ (holds around s ≡ true)
+
+-- a slot that is known before a sound node is known behind it
+abbrev pub KnownStays : Type 0
+KnownStays = (root : Grammar) (k : ℕ) (around : List ℕ) (ks : Known) (g : Grammar) → Sound root k around ks g → (s : ℕ) → ks s ≡ true → after ks g s ≡ true
+
+-- a slot permits the numbers of its field
+abbrev pub SlotsPermitTheirFields : Type 0
+SlotsPermitTheirFields = (root : Grammar) (around : List ℕ) (ks : Known) (s align : ℕ) (leaf : NumLeaf) → SaysSlot root around ks s (node align (num leaf)) → domain_of root s ≡ leaf.set
 
 -- not too many slots are at home on the path to a node
 abbrev pub FewAreOpen : Type 0
