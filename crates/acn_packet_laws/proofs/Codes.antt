@@ -3,7 +3,6 @@ use Rattle.std.proofs.Common.{◌≡◌, ℕ, zero, suc, ◌-◌, ◌<◌, ℤ, 
 use Rattle.std.specs.Prelude.{◌≤ℤ◌, int_le, nat_lt, if◌then◌else◌, slice_get, option_map}
 use Rattle.std.specs.Ordering.{int_eq}
 use Rattle.std.proofs.lemmas.Int.{ints}
-use Rattle.std.proofs.lemmas.Bool.Decides.{nat_tests}
 use Rattle.acn_num.specs.Ranges.{In, has, are_ranges}
 use Rattle.acn_grammar.specs.Code.{image_by, image_of, item_number}
 use Rattle.acn_grammar.specs.Images.{ends, images_of}

@@ -1,7 +1,6 @@
 -- A node that fails for another reason than the want of bits has as many bits before it as lead its spellings.
-use Rattle.std.proofs.Common.{◌≡◌, ℕ, ◌+◌, ◌≤◌, Bool, true, false, not, ◌&&◌, List, [], ◌∷◌, ◌++◌, length, drop, Some, None, ap, ◌∙◌, arith, inl, inr, ◌⊎◌, nat_eq, nat_le, length-append}
+use Rattle.std.proofs.Common.{◌≡◌, ℕ, ◌+◌, ◌≤◌, Bool, true, false, not, ◌&&◌, List, [], ◌∷◌, ◌++◌, length, drop, Some, None, ap, ◌∙◌, arith, inl, inr, ◌⊎◌, nat_eq, length-append}
 use Rattle.std.proofs.lemmas.List.{length-drop}
-use Rattle.std.proofs.lemmas.Bool.Decides.{nat_tests}
 use Rattle.acn_grammar.specs.Check.{is_wide, has_no_table, is_lead, lead, form_lead, fields_lead}
 use Rattle.acn_grammar.specs.Env.{Env}
 use Rattle.acn_grammar.specs.Fails.{Fault, Fails, FormFails, FieldsFail, presence_count}

@@ -14,7 +14,7 @@ use Rattle.acn_grammar.specs.declared.node.NumLeaf.{NumLeaf}
 use Rattle.acn_grammar.proofs.Codings.{patterns_differ}
 use Rattle.acn_packet_laws.proofs.Exclusion.{take_n, drop_n}
 use Rattle.acn_grammar.proofs.Octets.{low_bits-number}
-use Rattle.std.proofs.lemmas.Bool.{lt-ltb, ne_eqb, and_parts, not-true, eqb-true}
+use Rattle.std.proofs.lemmas.Bool.{lt-ltb, ne_eqb, and_parts, not-true}
 
 -- Digits come back.
 

@@ -2,7 +2,6 @@
 use Rattle.std.proofs.Common.{◌≡◌, ℕ, zero, suc, ◌+◌, ◌-◌, ◌*◌, ◌/◌, ◌%◌, ◌^◌, ◌<◌, ◌≤◌, ℤ, pos, Bool, true, false, List, [], ◌∷◌, ◌++◌, length, map, take, drop, Option, Some, None, refl, sym, ap, ◌∙◌, arith, append-nil, take-append-drop, inl, inr, ◌⊎◌, nat_eq, subst, IsTrue}
 use Rattle.std.specs.Prelude.{neg_ℤ}
 use Rattle.std.specs.List.{AllByRecursion}
-use Rattle.std.proofs.lemmas.Bool.Decides.{nat_tests}
 use Rattle.std.proofs.lemmas.List.{length-take-le}
 use native.Mathlib.Decide.{dec_lt}
 use Rattle.acn_num.specs.Bits.{number, low_bits, bits}

@@ -1,5 +1,5 @@
 -- In a sound node every slot's leaf has one width, so a spelling has the length that is told.
-use Rattle.std.proofs.Common.{◌≡◌, ℕ, suc, ℤ, pos, List, [], ◌∷◌, ◌++◌, length, true, false, Some, None, refl, sym, ap, ◌∙◌, arith, nat_eq, ◌&&◌, ◌||◌, IsTrue}
+use Rattle.std.proofs.Common.{◌≡◌, ℕ, suc, ℤ, pos, List, [], ◌∷◌, ◌++◌, length, true, false, Some, None, refl, sym, ap, ◌∙◌, arith, ◌&&◌, IsTrue}
 use Rattle.std.proofs.lemmas.Bool.{or_left, and_parts}
 use Rattle.std.specs.Prelude.{◌≤ℤ◌, int_le}
 use Rattle.std.proofs.lemmas.Int.{ints}

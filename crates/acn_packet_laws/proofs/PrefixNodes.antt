@@ -1,7 +1,6 @@
 -- No spelling of a node begins another, from laws of the leaves.
 use Rattle.std.proofs.Common.{◌≡◌, ℕ, zero, suc, ◌+◌, ◌-◌, ◌<◌, ℤ, pos, Bool, true, false, List, [], ◌∷◌, ◌++◌, length, Option, Some, None, refl, sym, ap, ◌∙◌, arith, nat_eq, ◌||◌, ◌&&◌, not, IsTrue, ◌*◌}
 use Rattle.std.proofs.lemmas.Bool.{not-true, or_parts, and_parts, eqb-true}
-use Rattle.std.proofs.lemmas.Bool.Decides.{nat_tests}
 use Rattle.std.specs.Prelude.{slice_get}
 use Rattle.std.specs.List.{list_any, zip, AllByRecursion}
 use Rattle.acn_num.specs.Ranges.{In}

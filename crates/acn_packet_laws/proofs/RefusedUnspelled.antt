@@ -32,7 +32,6 @@ use Rattle.acn_packet_laws.proofs.Answering.{at_home, fields_met}
 use Rattle.acn_packet_laws.proofs.AskHomes.{FormHomes, NodeHomes, FieldsHomes, CasesHomes, tree_homes, differs, if_yes, if_no}
 use Rattle.acn_packet_laws.proofs.Contents.{content_octets}
 use Rattle.acn_packet_laws.proofs.Lengths.{root_steady}
-use Rattle.acn_packet_laws.proofs.NodeLaws.{accepted_sound}
 use Rattle.acn_packet_laws.proofs.Occurrences.{field_in, field_out, each_occurrence_asks}
 use Rattle.acn_packet_laws.proofs.Placed.{holds_either}
 use Rattle.acn_packet_laws.proofs.Scoping.{same_eq}

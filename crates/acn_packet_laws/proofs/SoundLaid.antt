@@ -1,17 +1,16 @@
 -- In a sound node each slot's field stands where its home is open, it is one, and its numbers are the slot's.
-use Rattle.std.proofs.Common.{◌≡◌, ℕ, suc, ℤ, Bool, true, false, not, ◌&&◌, ◌||◌, List, [], ◌++◌, Option, Some, None, refl, sym, ap, ◌∙◌, nat_eq, subst}
+use Rattle.std.proofs.Common.{◌≡◌, ℕ, suc, true, false, not, ◌||◌, List, ◌++◌, Option, Some, None, refl, sym, ap, ◌∙◌, nat_eq, subst}
 use Rattle.std.proofs.lemmas.Bool.{and_from, false_from_ne_true, or_left, or_right, and_parts, eqb-true}
 use Rattle.acn_num.specs.Ranges.{In}
 use Rattle.acn_grammar.specs.Grammar.{Grammar, Form, Fields, Alternatives, node, num, octets, bits, text, seq, list, choice, contained, no_fields, component, inserted, no_alternatives, alternative}
 use Rattle.acn_grammar.specs.Scoped.{Known, with_slot, with_own, choose_known, after, fields_after}
 use Rattle.acn_grammar.specs.Sound.{NothingLeaves, IsNull, SaysSlot, OwnSound, Sound, FormSound, FieldsSound, AlternativesSound}
 use Rattle.acn_grammar.specs.Tree.{holds}
-use Rattle.acn_grammar.specs.declared.node.NumLeaf.{NumLeaf}
 use Rattle.acn_grammar.specs.declared.node.Presence.{Presence}
 use Rattle.acn_grammar.specs.declared.node.Presence.TheVariants.{Always, Bit, When}
 use Rattle.acn_grammar.proofs.Texts.{either}
 use Rattle.acn_packet_laws.specs.Laws.{KnownStays, SlotsPermitTheirFields}
-use Rattle.acn_packet_laws.proofs.Moves.{is_own, opens, form_opens, fields_opens, Shut, Others, SlotLaid, OwnLaid, Laid, FormLaid, FieldsLaid, CasesLaid}
+use Rattle.acn_packet_laws.proofs.Moves.{is_own, opens, fields_opens, Shut, Others, SlotLaid, OwnLaid, Laid, FormLaid, FieldsLaid, CasesLaid}
 use Rattle.acn_packet_laws.proofs.Placed.{holds-append}
 use Rattle.acn_packet_laws.proofs.Scoping.{own_second, not_true}
 use Rattle.acn_packet_laws.proofs.SlotNumbers.{domain_is}

@@ -16,7 +16,7 @@ use Rattle.acn_packet_laws.proofs.NodeLaws.{accepted_sound}
 use Rattle.acn_packet_laws.proofs.Scoping.{names_are}
 use Rattle.acn_packet_laws.proofs.Sounding.{root_sound, sound_after, at_most}
 use Rattle.std.proofs.lemmas.Bool.{and_parts}
-use Rattle.acn_packet_laws.proofs.Tuples.{first_five, first_four, first_three, first_two, fourth_five, last_five, last_four, last_three, last_two, second_five, second_four, second_three, third_five, third_four}
+use Rattle.acn_packet_laws.proofs.Tuples.{first_five, first_four, first_two, fourth_five, last_five, last_four, last_three, last_two, second_five, second_four, second_three, third_five, third_four}
 
 pub accepted_sound_nodes : AcceptedIsSound
 accepted_sound_nodes root a = root_sound root a.formed (accepted_sound root a)

@@ -11,7 +11,7 @@ use Rattle.acn_packet_laws.proofs.OneFault.{some_same}
 use Rattle.acn_packet_laws.proofs.Placed.{here_at}
 use Rattle.acn_packet_laws.proofs.SoundLaws.{accepted_sound_nodes}
 use Rattle.acn_packet_laws.proofs.Sounding.{one_step}
-use Rattle.acn_packet_laws.proofs.Tuples.{first_two, fourth_five, last_five, last_four, last_three, last_two, second_three, third_four}
+use Rattle.acn_packet_laws.proofs.Tuples.{fourth_five, last_five, last_four, last_three, last_two, second_three, third_four}
 
 module _ (root : Grammar) where
   abbrev Somewhere : Stand → Type 0

@@ -3,7 +3,6 @@ use Rattle.std.proofs.Common.{◌≡◌, ℕ, zero, suc, ◌+◌, ◌-◌, ◌*�
 use Rattle.std.proofs.lemmas.Bool.{false_from_ne_true, leb-true, and_parts, not-true, eqb-true}
 use Rattle.std.specs.Prelude.{cond}
 use Rattle.std.specs.List.{find, range_with_len}
-use Rattle.std.proofs.lemmas.Bool.Decides.{nat_tests}
 use Rattle.std.proofs.lemmas.List.{take-append-le, drop-append-le, length-drop}
 use Rattle.std.proofs.Math.Seq.{take-append_seam, take-append-add, drop-append_seam}
 use Rattle.acn_num.specs.Bits.{number}

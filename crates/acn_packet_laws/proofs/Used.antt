@@ -36,7 +36,7 @@ use Rattle.acn_packet_laws.proofs.Codes.{range_within}
 use Rattle.acn_packet_laws.proofs.Placed.{tree_rules}
 use Rattle.acn_packet_laws.proofs.SoundLaws.{accepted_sound_nodes}
 use Rattle.acn_packet_laws.proofs.UseKinds.{uses_fit}
-use Rattle.acn_packet_laws.proofs.Tuples.{first_five, first_four, first_three, first_two, fourth_five, last_five, last_four, last_three, last_two, second_five, second_three}
+use Rattle.acn_packet_laws.proofs.Tuples.{first_five, first_four, first_two, fourth_five, last_five, last_four, last_three, last_two, second_five, second_three}
 
 -- Lists.
 

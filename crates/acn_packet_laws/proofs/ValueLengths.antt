@@ -12,7 +12,6 @@ use Rattle.acn_grammar.specs.Length.{padding, bit_length, form_length, fields_le
 use Rattle.acn_grammar.specs.Meets.{where_found, bad_character, end_breach, out_of_range, size_out_of_range, unless, size_breach, text_breach, at_path, run_breaches, breaches, form_breaches, field_breaches, alternative_breaches}
 use Rattle.acn_grammar.specs.Shaped.{may_be_absent, each_element, fits, form_fits, fields_fit, alternative_fits}
 use Rattle.acn_grammar.specs.Spell.{Padding, Spell, SlotField}
-use Rattle.acn_grammar.specs.Walk.{root_node}
 use Rattle.acn_grammar.specs.declared.bounds.Bounds.{Bounds}
 use Rattle.acn_grammar.specs.declared.node.NumLeaf.{NumLeaf}
 use Rattle.acn_grammar.specs.declared.node.Presence.{Presence}

@@ -1,7 +1,7 @@
 -- A value of a node's form without a breach, whose walk can be met, is written.
 use Rattle.std.proofs.Common.{◌≡◌, ℕ, zero, suc, ◌-◌, ◌^◌, ◌<◌, ◌≤◌, ℤ, pos, true, false, not, List, [], ◌∷◌, ◌++◌, length, map, Option, Some, None, refl, sym, ap, ◌∙◌, arith, inl, inr, ◌&&◌, ◌||◌, nat_eq, nat_lt, nat_le, subst, append_assoc, append-nil}
-use Rattle.std.proofs.lemmas.Bool.{or_left, or_right, and_parts, eqb-true, ltb-true}
-use Rattle.std.specs.Prelude.{slice_get, Contains, unwrap_or, option_map, ◌≤ℤ◌}
+use Rattle.std.proofs.lemmas.Bool.{or_left, or_right, and_parts, ltb-true}
+use Rattle.std.specs.Prelude.{slice_get, Contains, ◌≤ℤ◌}
 use Rattle.std.specs.List.{AllByRecursion, list_any, flat_map, zip}
 use Rattle.std.proofs.lemmas.Int.{ints}
 use Rattle.acn_num.specs.Bits.{low_bits, bits as bits_of, octets as octets_for, is_least_width}
@@ -19,15 +19,14 @@ use Rattle.acn_grammar.specs.PartAt.{Occurrence, occurrence, part_at, field_part
 use Rattle.acn_grammar.specs.Refused.{asks_of}
 use Rattle.acn_grammar.specs.Scoped.{Known, after, choose_known, with_own, with_slot}
 use Rattle.acn_grammar.specs.Shaped.{may_be_absent, num_fits, each_element, fits, form_fits, fields_fit, alternative_fits}
-use Rattle.acn_grammar.specs.Slots.{items_of, slot_leaf, domain_of}
+use Rattle.acn_grammar.specs.Slots.{items_of, domain_of}
 use Rattle.acn_grammar.specs.Sound.{Sound, FormSound, FieldsSound, AlternativesSound, IsNull, SaysSlot, SequenceSound, RuleSound}
 use Rattle.acn_grammar.specs.Spell.{Fill, Window, RunPart, Spell, FormPart, FieldsPart, AlternativePart, IndexPart, SlotField, Carries, Chosen, with_home}
-use Rattle.acn_grammar.specs.Tree.{holds, near, near_node, near_form, is_slot, choice_fine, choice_rule_fine, has_tests}
+use Rattle.acn_grammar.specs.Tree.{holds, choice_fine, choice_rule_fine, has_tests}
 use Rattle.acn_grammar.specs.declared.node.ChoiceRule.{ChoiceRule}
 use Rattle.acn_grammar.specs.declared.node.ChoiceRule.TheVariants.{Index, Tests, Item}
 use Rattle.acn_grammar.specs.declared.node.NumKind.{NumKind}
 use Rattle.acn_grammar.specs.declared.node.NumKind.TheVariants.{Integer, Boolean, Enumerated, Null}
-use Rattle.acn_grammar.specs.declared.node.NumLeaf.{NumLeaf}
 use Rattle.acn_grammar.specs.declared.node.Presence.{Presence}
 use Rattle.acn_grammar.specs.declared.node.Presence.TheVariants.{Always, Bit, When}
 use Rattle.acn_grammar.specs.declared.node.SizeRule.{SizeRule}
@@ -37,7 +36,6 @@ use Rattle.acn_grammar.specs.declared.node.Test.TheVariants.{Flag, Equals}
 use Rattle.acn_grammar.proofs.Counts.{number_bits}
 use Rattle.acn_grammar.proofs.FineLeaves.{rules_of}
 use Rattle.acn_grammar.proofs.SpellLength.{Steady, SteadyForm, SteadyFields, SteadyAlternatives}
-use Rattle.acn_grammar.proofs.Texts.{either}
 use Rattle.acn_packet_laws.specs.Laws.{IsAccepted}
 use Rattle.acn_packet_laws.proofs.Homes.{truth}
 use Rattle.acn_packet_laws.proofs.Answering.{at_home, not_at_home}
@@ -48,14 +46,14 @@ use Rattle.acn_packet_laws.proofs.LeastAnswers.{least_answer}
 use Rattle.acn_packet_laws.proofs.Occurrences.{each_occurrence_asks}
 use Rattle.acn_packet_laws.proofs.OneRefusals.{EachMet, Held, IsOf, held}
 use Rattle.acn_packet_laws.proofs.PathSlots.{slot_at, LeadsTo, IsLed, Led, NodeLed, FieldsLed, case_slot_at, led_on, led_component, led_behind, led_inserted, home_leads, moments_led}
-use Rattle.acn_packet_laws.proofs.Placed.{holds_either, near_parts, near_if_when}
+use Rattle.acn_packet_laws.proofs.Placed.{holds_either}
 use Rattle.acn_packet_laws.proofs.Scoping.{same_eq}
 use Rattle.acn_packet_laws.proofs.Sounding.{got_name}
 use Rattle.acn_packet_laws.proofs.Used.{each_left, each_right, TestFits, TestsFit, PresenceFits, CaseFits, RuleFits, OwnFits, ChoiceFits, NodeUsed, FormUsed, FieldsUsed, CasesUsed, accepted_used}
 use Rattle.acn_packet_laws.proofs.WrittenParts.{Writes, then_writes, where_writes, exactly_writes, padding_writes, RuleHas, size_writes, nothing_left, no_breach, passes, text_writes, list_writes, window_writes}
 use Rattle.acn_packet_laws.proofs.WrittenSizes.{text_rules}
 use Rattle.acn_grammar.proofs.Characters.{same_name-is}
-use Rattle.acn_packet_laws.proofs.Tuples.{first_five, first_four, first_three, first_two, fourth_five, last_five, last_four, last_three, last_two, second_five, second_four, second_three, third_four}
+use Rattle.acn_packet_laws.proofs.Tuples.{first_five, first_four, first_three, first_two, fourth_five, last_five, last_four, last_three, last_two, second_four, second_three, third_four}
 
 -- The number of a value, and of a NULL.
 
