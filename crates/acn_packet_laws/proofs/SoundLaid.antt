@@ -9,7 +9,7 @@ use Rattle.acn_grammar.specs.Tree.{holds}
 use Rattle.acn_grammar.specs.declared.node.Presence.{Presence}
 use Rattle.acn_grammar.specs.declared.node.Presence.TheVariants.{Always, Bit, When}
 use Rattle.acn_grammar.proofs.Texts.{either}
-use Rattle.acn_packet_laws.specs.Laws.{KnownStays, SlotsPermitTheirFields}
+use Rattle.acn_packet_laws.specs.Laws.{KnownStays, SlotsPermitWhatTheirFieldsSay}
 use Rattle.acn_packet_laws.proofs.Moves.{is_own, opens, fields_opens, Shut, Others, SlotLaid, OwnLaid, Laid, FormLaid, FieldsLaid, CasesLaid}
 use Rattle.acn_packet_laws.proofs.Placed.{holds-append}
 use Rattle.acn_packet_laws.proofs.Scoping.{own_second, not_true}
@@ -169,5 +169,5 @@ module _ (root : Grammar) where
 pub known_stays : KnownStays
 known_stays root k around ks g h s e = sound_stays root g k around ks h s e
 
-pub slots_permit_their_fields : SlotsPermitTheirFields
-slots_permit_their_fields root around ks s align leaf h = domain_is root s leaf h.2
+pub slots_permit_what_their_fields_say : SlotsPermitWhatTheirFieldsSay
+slots_permit_what_their_fields_say root around ks s align leaf h = domain_is root s leaf h.2

@@ -15,7 +15,7 @@ use Rattle.acn_packet_laws.specs.WorkedRows.{u8}
 use Rattle.acn_packet_laws.proofs.Sounding.{got_name}
 use Rattle.acn_grammar.proofs.Texts.{either}
 use Rattle.acn_grammar.proofs.WidthLaw.{width_holds}
-use Rattle.acn_packet_laws.proofs.Tuples.{first_five, fourth_five, last_four, last_three, last_two, third_four, third_five}
+use Rattle.acn_packet_laws.proofs.Tuples.{first_five, first_four, first_three, first_two, fourth_five, last_four, last_three, last_two, third_five, third_four}
 
 abbrev shared : Fields
 shared = octets_by_len 120 (octets_by_len 121 no_fields)
@@ -62,6 +62,11 @@ unsound_nodes_are_told_law = record {
   wide_prefix = λ h. (let f = last_three h in cc);
   two_conditions = λ h. (let f = first_five (rest_of twice h) in let one' = f.0 in absurd (omega (arith, one')));
   size_before = λ h. (let x = fourth_five (last_two (last_three h)) in let f = last_two (last_three x) in cc);
+  two_fields = λ h. (let says = first_four (last_four (last_two (last_three h))) in let f = says.1 in cc);
+  no_field = λ h. (let f = (first_two (last_three h)).read_inside 0 refl in cc);
+  two_homes = λ h. (let inner = fourth_five (last_two (last_three h)) in let f = (first_two (last_three inner)).not_around 0 refl in cc);
+  not_null = λ h. (let f = first_three (last_two (last_three h)) in cc);
+  names_alike = λ h. (let f = (first_two (last_three h)).names_differ in cc);
   field_leaves = λ h. (let f = third_five (last_two (last_three h)) 0 in cc);
   no_item = λ h. (
       let x = fourth_five (last_four (last_two (last_three h))) in

@@ -381,7 +381,7 @@ module _ (root : Grammar) (tree : IsTree root) (sound : (f : CheckFault) → Und
         ((place_fine all (numbers root tree sound) (rules root tree sound) pre role path around align (text leaf) post p).form, rule_in ks leaf.sized.rule (form_known root tree sound pre role path around align (text leaf) post p ks kept.knows))
     sound_form (seq fields home) pre role path around align post p ks kept d e =
         let inner = sound_fields fields (pre ++ here_at role path around align (seq fields home) ∷ []) path (home ++ around) 0 post (to_fields all (numbers root tree sound) (rules root tree sound) pre role path around align fields home post p) ks (fields_in root tree sound pre role path around align fields home post p ks kept.knows)
-            (in_fields root tree sound pre role path around align fields home post p kept.homed) kept.leafed (suc d) (ap suc e) in
+        (in_fields root tree sound pre role path around align fields home post p kept.homed) kept.leafed (suc d) (ap suc e) in
         (sequence pre role path around align fields home post p ks kept.knows (suc d) inner, inner)
     sound_form (list sizing g) pre role path around align post p ks kept d e =
         let here = here_at role path around align (list sizing g) in

@@ -88,8 +88,8 @@ abbrev pub KnownStays : Type 0
 KnownStays = (root : Grammar) (k : ℕ) (around : List ℕ) (ks : Known) (g : Grammar) → Sound root k around ks g → (s : ℕ) → ks s ≡ true → after ks g s ≡ true
 
 -- a slot permits the numbers of its field
-abbrev pub SlotsPermitTheirFields : Type 0
-SlotsPermitTheirFields = (root : Grammar) (around : List ℕ) (ks : Known) (s align : ℕ) (leaf : NumLeaf) → SaysSlot root around ks s (node align (num leaf)) → domain_of root s ≡ leaf.set
+abbrev pub SlotsPermitWhatTheirFieldsSay : Type 0
+SlotsPermitWhatTheirFieldsSay = (root : Grammar) (around : List ℕ) (ks : Known) (s align : ℕ) (leaf : NumLeaf) → SaysSlot root around ks s (node align (num leaf)) → domain_of root s ≡ leaf.set
 
 -- not too many slots are at home on the path to a node
 abbrev pub FewAreOpen : Type 0

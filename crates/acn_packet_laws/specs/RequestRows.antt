@@ -92,6 +92,16 @@ pub record UnsoundNodesAreTold : Type 0 where
   pub two_conditions : IsSound (behind_len (component (120 ∷ []) u8 (When (Equals 0 (pos 1) ∷ Equals 0 (pos 2) ∷ [])) None None no_fields)) → ⊥
   -- a size before its field
   pub size_before : IsSound (node 1 (seq (octets_by_len 120 (inserted (108 ∷ []) u8 (Some 0) no_fields)) (0 ∷ []))) → ⊥
+  -- a slot with two fields
+  pub two_fields : IsSound (behind_len (inserted (109 ∷ []) u8 (Some 0) (octets_by_len 120 no_fields))) → ⊥
+  -- a slot at home that has no field inside
+  pub no_field : IsSound (node 1 (seq (component (120 ∷ []) u8 Always None None no_fields) (0 ∷ []))) → ⊥
+  -- a slot at home in a SEQUENCE and in one inside it
+  pub two_homes : IsSound (node 1 (seq (component (97 ∷ []) (behind_len (octets_by_len 120 no_fields)) Always None None no_fields) (0 ∷ []))) → ⊥
+  -- an inserted number that says no slot and isn't a NULL
+  pub not_null : IsSound (node 1 (seq (inserted (108 ∷ []) u8 None no_fields) [])) → ⊥
+  -- two components of one name
+  pub names_alike : IsSound (behind_len (octets_by_len 120 (octets_by_len 120 no_fields))) → ⊥
   pub field_leaves : IsSound leaving → ⊥
   pub no_item : IsSound without_item → ⊥
   -- nothing tells an octet string from the pattern that ends the list
