@@ -62,6 +62,8 @@ mod PlaceRows
 pub mod Placed
 mod PrefixNodes
 mod Reaches
+-- for acn_plain
+pub mod ReadParts
 mod RefusedUnspelled
 mod RequestRows
 mod Rows

@@ -1,7 +1,6 @@
 -- Every input begins with a spelling of a node, or the node fails, under numbers that may move at slots whose fields stand in it.
-use Rattle.std.proofs.Common.{◌≡◌, ℕ, zero, suc, ◌+◌, ◌*◌, ◌%◌, ◌<◌, ◌≤◌, max, ℤ, pos, negsuc, Bool, true, false, not, ◌&&◌, ◌||◌, List, [], ◌∷◌, ◌++◌, length, take, drop, Option, Some, None, refl, sym, ap, ◌∙◌, arith, append_assoc, length-append, inl, inr, ◌⊎◌, nat_eq, subst, take-append-drop, IsTrue}
+use Rattle.std.proofs.Common.{◌≡◌, ℕ, zero, suc, ◌+◌, ◌*◌, ◌<◌, ◌≤◌, max, ℤ, pos, Bool, true, false, not, ◌&&◌, ◌||◌, List, [], ◌∷◌, ◌++◌, length, take, drop, Option, Some, None, refl, sym, ap, ◌∙◌, arith, append_assoc, inl, inr, ◌⊎◌, nat_eq, subst, take-append-drop, IsTrue}
 use Rattle.std.proofs.lemmas.Bool.{or_parts, or_right, and_parts, eqb-true}
-use Rattle.std.specs.Prelude.{slice_get}
 use Rattle.std.specs.List.{zip, AllByRecursion}
 use Rattle.std.proofs.lemmas.List.{length-take-le}
 use Rattle.acn_num.specs.Bits.{number}
@@ -9,13 +8,13 @@ use Rattle.acn_num.specs.Ranges.{In, greatest}
 use Rattle.acn_grammar.specs.Code.{Any, NumberOf}
 use Rattle.acn_grammar.specs.Env.{Env, at_slot}
 use Rattle.acn_grammar.specs.Fails.{Failing, Here, Fault, Short, SizeFails, PartsFail, TextFails, presence_count, IsThere, flags_behind, count_of, RunFails, EndFails, EndedFails, ListFails, Overlong, NoneChosen, IndexFails, IndexIs, Fails, FormFails, FieldsFail, AlternativeFails}
-use Rattle.acn_grammar.specs.Grammar.{Grammar, Form, Fields, Alternatives, Data, Places, Elements, node, num, octets, bits, text, seq, list, choice, contained, no_fields, component, inserted, no_alternatives, alternative, null, octet_string, bit_string, characters, record_of, list_of, alt, no_places, empty, filled, no_elements, element, element_count}
+use Rattle.acn_grammar.specs.Grammar.{Grammar, Form, Fields, Alternatives, Data, Places, Elements, node, num, octets, bits, text, seq, list, choice, contained, no_fields, component, inserted, no_alternatives, alternative, null, characters, record_of, list_of, alt, no_places, empty, filled, no_elements, element, element_count}
 use Rattle.acn_grammar.specs.Interval.{size_of}
-use Rattle.acn_grammar.specs.LeafFails.{Reason, short, too_long, size_out_of_range, no_alternative, content_size, octet_values, LeafFails}
+use Rattle.acn_grammar.specs.LeafFails.{Reason, short, too_long, size_out_of_range, no_alternative, content_size, LeafFails}
 use Rattle.acn_grammar.specs.Leaves.{num_fine, sizing_fine, sizes_fine, list_rule_fine}
 use Rattle.acn_grammar.specs.Length.{padding, presence_bits, ending, index_width}
 use Rattle.acn_grammar.specs.Scoped.{Known, with_slot, with_own, Agree, RuleIn, choose_known, after, Scoped, FormScoped, FieldsScoped, AlternativesScoped}
-use Rattle.acn_grammar.specs.Slots.{domain_of, items_of}
+use Rattle.acn_grammar.specs.Slots.{domain_of}
 use Rattle.acn_grammar.specs.Spell.{Part, ◌then◌, Where, Exactly, Padding, Fill, SizePart, EndedPart, Carries, RunPart, ListPart, Window, Spell, FormPart, FieldsPart, SlotField, AlternativePart, Chosen, IndexPart, with_home}
 use Rattle.acn_grammar.specs.Tree.{holds}
 use Rattle.acn_grammar.specs.declared.node.ChoiceRule.{ChoiceRule}
@@ -31,10 +30,11 @@ use Rattle.acn_grammar.proofs.FineLeaves.{rules_of}
 use Rattle.acn_grammar.proofs.SpanLaw.{Fine, FormFine, FieldsFine, AlternativesFine}
 use Rattle.acn_packet_laws.specs.Laws.{CodeAtFront}
 use Rattle.acn_packet_laws.proofs.Envs.{Good, Moved, unmoved, moved_more, moved_as, move_to, Numbers, some_numbers, good_home, outside, FrontOf, Stuck, says, in_or_not, ASize, size_total}
-use Rattle.acn_packet_laws.proofs.LeafTotal.{less_or_not, same_or_not, octets_whole}
+use Rattle.acn_packet_laws.proofs.LeafTotal.{less_or_not, same_or_not}
 use Rattle.acn_packet_laws.proofs.Moves.{is_own, opens, form_opens, fields_opens, Shut, or_either, self_eq, RuleKnown, SlotLaid, OwnLaid, Others, Laid, FormLaid, FieldsLaid, CasesLaid, after_within, chosen_within, size_moves, own_moves, spell_moves, chosen_moves, CasesKnown, cases_known}
 use Rattle.acn_packet_laws.proofs.NumberTotal.{each_input_is_a_number_or_fails}
-use Rattle.acn_packet_laws.proofs.NodeParts.{padded, join_front, join_stuck, value_by, number_is, null_is, octets_count, octets_are, all_or_not, there_or_not, may_be_there, may_be_away, is_there_moves, flags_there, flags_away, flags_left, name_or_not, TextTotal, none}
+use Rattle.acn_packet_laws.proofs.NodeParts.{join_front, join_stuck, TextTotal, none}
+use Rattle.acn_packet_laws.proofs.ReadParts.{ChosenAt, bits_make, choose, content_makes, flags_away, flags_left, flags_there, index_chosen, is_there_moves, may_be_away, may_be_there, null_is, number_is, octets_make, padded, there_or_not, value_by}
 
 module _ (root : Grammar) (text_total : TextTotal) where
   -- an env that moved, and under it a value at the front or a failure
@@ -55,7 +55,7 @@ module _ (root : Grammar) (text_total : TextTotal) where
 
   -- Strings.
 
-  parts_total : (each : ℕ) (here : Here) (sizing : Sizing) (env : Env) (P : Data → Part) (at : ℕ) (rest : List Bool) → ((n : ℕ) (bs : List Bool) → length bs ≡ each * n → (at' : ℕ) → (d : Data) × ((front : List Bool) → SizePart sizing env n at front → P d at (front ++ bs)))
+  parts_total : (each : ℕ) (here : Here) (sizing : Sizing) (env : Env) (P : Data → Part) (at : ℕ) (rest : List Bool) → ((n : ℕ) (bs : List Bool) → length bs ≡ each * n → (d : Data) × ((front : List Bool) → SizePart sizing env n at front → P d at (front ++ bs)))
       → ASize sizing env at rest ⊎ Stuck (SizeFails here sizing env) at rest → ((d : Data) × FrontOf (P d) at rest) ⊎ Stuck (PartsFail here each sizing env) at rest
   parts_total each here sizing env P at rest make (inr f) = inr (f.0, f.1, inl f.2)
   parts_total each here sizing env P at rest make (inl s) = by (less_or_not (length s.front.back) (each * s.n))
@@ -64,7 +64,7 @@ module _ (root : Grammar) (text_total : TextTotal) where
       by (inl h) =
           inr (says here short, length s.front.front + length s.front.back, inr (record { n = s.n; behind = record { front = s.front.front; back = s.front.back; whole = s.front.whole; spelled = s.front.spelled; more = length s.front.back; fails = (h, refl, refl); reaches = refl } }))
       by (inr h) =
-          let m = make s.n (take (each * s.n) s.front.back) (length-take-le (each * s.n) s.front.back h) at in
+          let m = make s.n (take (each * s.n) s.front.back) (length-take-le (each * s.n) s.front.back h) in
           inl (
             m.0,
             record {
@@ -74,22 +74,6 @@ module _ (root : Grammar) (text_total : TextTotal) where
               spelled = m.1 s.front.front s.front.spelled;
             },
           )
-
-  octets_make : (sizing : Sizing) (env : Env) (at n : ℕ) (bs : List Bool) → length bs ≡ 8 * n → (at' : ℕ) → (d : Data) × ((front : List Bool) → SizePart sizing env n at front → FormPart root Any (octets sizing) env d at (front ++ bs))
-  octets_make sizing env at n bs l at' = (
-    octet_string (octet_values bs),
-    λ front s. record {
-      front = front;
-      back = bs;
-      whole = refl;
-      first = subst (λ (m : ℕ). SizePart sizing env m at front) (sym (octets_count n bs l)) s;
-      second = record { given = octets_are n bs l; spelled = sym (octets_whole n bs l) };
-    },
-  )
-
-  bits_make : (sizing : Sizing) (env : Env) (at n : ℕ) (bs : List Bool) → length bs ≡ 1 * n → (at' : ℕ) → (d : Data) × ((front : List Bool) → SizePart sizing env n at front → FormPart root Any (bits sizing) env d at (front ++ bs))
-  bits_make sizing env at n bs l at' =
-      (bit_string bs, λ front s. record { front = front; back = bs; whole = refl; first = subst (λ (m : ℕ). SizePart sizing env m at front) (omega arith) s; second = refl })
 
   -- Elements.
 
@@ -320,9 +304,6 @@ module _ (root : Grammar) (text_total : TextTotal) where
         }),
       )
 
-      filled_up : (a b n : ℕ) → a + b ≡ 8 * n → ((0 + a) + b) % 8 ≡ 0
-      filled_up a b n h = omega (arith, h)
-
       content_read : (n : ℕ) (f : FrontOf (SizePart sizing env n) at rest) (q : Moved root keys none env) → 8 * n ≤ length f.back → (d : Data) (c : FrontOf (Spell root Any g q.now d) 0 (take (8 * n) f.back)) → (length c.back < 8) ⊎ (8 ≤ length c.back)
           → ((d : Data) × FrontOf (FormPart root Any (contained sizing g) q.now d) at rest) ⊎ Stuck (FormFails root (contained sizing g) q.now here origin) at rest
       content_read n f q h d c (inr byte) =
@@ -335,19 +316,7 @@ module _ (root : Grammar) (text_total : TextTotal) where
               front = f.front ++ take (8 * n) f.back;
               back = drop (8 * n) f.back;
               whole = f.whole ∙ (ap (λ z. f.front ++ z) (sym (take-append-drop (8 * n) f.back)) ∙ sym (append_assoc f.front (take (8 * n) f.back) (drop (8 * n) f.back)));
-              spelled = record {
-                some = n;
-                spelled = record {
-                  front = f.front;
-                  back = take (8 * n) f.back;
-                  whole = refl;
-                  first = size_moves root sizing ks known env q.now (λ s k. q.rest s refl) n at f.front f.spelled;
-                  second = record {
-                    size = l;
-                    inside = record { front = c.front; back = c.back; whole = c.whole; first = c.spelled; second = record { aligned = filled_up (length c.front) (length c.back) n (sym (ap length c.whole ∙ length-append c.front c.back) ∙ l); few = few; zeros = λ e. cc } };
-                  };
-                };
-              };
+              spelled = content_makes root sizing g q.now d at n f.front (take (8 * n) f.back) c.front c.back (size_moves root sizing ks known env q.now (λ s k. q.rest s refl) n at f.front f.spelled) l c.whole c.spelled few;
             },
           )
 
@@ -366,45 +335,9 @@ module _ (root : Grammar) (text_total : TextTotal) where
 
   -- Alternatives.
 
-  abbrev ChosenAt : Alternatives → ChoiceRule → Env → ℕ → Type 0
-  ChosenAt no_alternatives rule env i = ⊥
-  ChosenAt (alternative name g tests more) rule env zero = Chosen root rule env name tests
-  ChosenAt (alternative name g tests more) rule env (suc i) = ChosenAt more rule env i
-
-  index_chosen : (cases : Alternatives) (width : ℕ) (env : Env) (i : ℕ) → i < count_of cases → ChosenAt cases (Index width) env i
-  index_chosen no_alternatives width env i h = absurd (omega arith)
-  index_chosen (alternative name g tests more) width env zero h = tt
-  index_chosen (alternative name g tests more) width env (suc i) h = index_chosen more width env i (omega arith)
-
-  item_chosen : (env : Env) (s : ℕ) (name : List ℕ) (o : Option ℤ) → at_slot env s ≡ o → Chosen root (Item s) env name [] ⊎ (Chosen root (Item s) env name [] → ⊥)
-  item_chosen env s name None e = inr (λ c. let h = c.2 in cc)
-  item_chosen env s name (Some (negsuc n)) e = inr (λ c. let h = c.2 in cc)
-  item_chosen env s name (Some (pos i)) e = by (name_or_not (items_of root s) i name)
-    where
-      by : ((x : ℤ) × (slice_get (items_of root s) i ≡ Some (name, x))) ⊎ (((x : ℤ) × (slice_get (items_of root s) i ≡ Some (name, x))) → ⊥) → Chosen root (Item s) env name [] ⊎ (Chosen root (Item s) env name [] → ⊥)
-      by (inl h) = inl (i, h.0, e, h.1)
-      by (inr h) = inr (λ c. h (c.1, ap (slice_get (items_of root s)) (same_index i c.0 (sym e ∙ c.2)) ∙ c.3))
-        where
-          same_index : (i j : ℕ) → Some (pos i) ≡ Some (pos j) → i ≡ j
-          same_index i j q = cc
-
-  chosen_or_not : (rule : ChoiceRule) (env : Env) (name : List ℕ) (tests : List Test) → Chosen root rule env name tests ⊎ (Chosen root rule env name tests → ⊥)
-  chosen_or_not (Index width) env name tests = inl tt
-  chosen_or_not Tests env name tests = all_or_not env tests
-  chosen_or_not (Item s) env name tests = item_chosen env s name (at_slot env s) refl
-
-  choose : (cases : Alternatives) (rule : ChoiceRule) (env : Env) → ((i : ℕ) × ChosenAt cases rule env i) ⊎ NoneChosen root cases rule env
-  choose no_alternatives rule env = inr tt
-  choose (alternative name g tests more) rule env = by (chosen_or_not rule env name tests) (choose more rule env)
-    where
-      by : Chosen root rule env name tests ⊎ (Chosen root rule env name tests → ⊥) → ((i : ℕ) × ChosenAt more rule env i) ⊎ NoneChosen root more rule env → ((i : ℕ) × ChosenAt (alternative name g tests more) rule env i) ⊎ NoneChosen root (alternative name g tests more) rule env
-      by (inl c) r = inl (zero, c)
-      by (inr c) (inl r) = inl (suc r.0, r.1)
-      by (inr c) (inr r) = inr (c, r)
-
   -- an alternative, with an index in front of it or none
   choice_done : (keys : Known) (cases : Alternatives) (rule : ChoiceRule) (env : Env) → Good root keys env → (here : Here) (origin at : ℕ) (rest : List Bool)
-      → ((i : ℕ) → ChosenAt cases rule env i → Outcome keys none env (λ e. AlternativePart root Any cases rule e i) (λ e. AlternativeFails root cases rule e here origin i i) (at + index_width rule) (drop (index_width rule) rest))
+      → ((i : ℕ) → ChosenAt root cases rule env i → Outcome keys none env (λ e. AlternativePart root Any cases rule e i) (λ e. AlternativeFails root cases rule e here origin i i) (at + index_width rule) (drop (index_width rule) rest))
       → Outcome keys none env (λ e. FormPart root Any (choice cases rule) e) (λ e. FormFails root (choice cases rule) e here origin) at rest
   choice_done keys cases rule env good here origin at rest case = by rule refl
     where
@@ -424,7 +357,7 @@ module _ (root : Grammar) (text_total : TextTotal) where
           )
       ended i now h is p (inr x) = inr (x.0, index_width rule + x.1, inr (i, is, (h, (x.1, x.2, refl))))
 
-      go : (i : ℕ) → index_width rule ≤ length rest → IndexIs root rule rest i → IndexPart root rule i at (take (index_width rule) rest) → ChosenAt cases rule env i → Goal
+      go : (i : ℕ) → index_width rule ≤ length rest → IndexIs root rule rest i → IndexPart root rule i at (take (index_width rule) rest) → ChosenAt root cases rule env i → Goal
       go i h is p c = (let o = case i c in record { moved = o.moved; result = ended i o.moved.now h is p o.result })
 
       with_rule : (r : ChoiceRule) → rule ≡ r → (P : ChoiceRule → Type 0) → P r → P rule
@@ -436,20 +369,20 @@ module _ (root : Grammar) (text_total : TextTotal) where
       indexed width e (inr h) (inl c) =
           go (number (take width rest)) (with_rule (Index width) e (λ r. index_width r ≤ length rest) h) (with_rule (Index width) e (λ r. IndexIs root r rest (number (take width rest))) refl)
           (with_rule (Index width) e (λ r. IndexPart root r (number (take width rest)) at (take (index_width r) rest)) (record { width = length-take-le width rest h; value = refl }))
-          (with_rule (Index width) e (λ r. ChosenAt cases r env (number (take width rest))) (index_chosen cases width env (number (take width rest)) c))
+          (with_rule (Index width) e (λ r. ChosenAt root cases r env (number (take width rest))) (index_chosen root cases width env (number (take width rest)) c))
 
-      tested : rule ≡ Tests → ((i : ℕ) × ChosenAt cases rule env i) ⊎ NoneChosen root cases rule env → Goal
+      tested : rule ≡ Tests → ((i : ℕ) × ChosenAt root cases rule env i) ⊎ NoneChosen root cases rule env → Goal
       tested e (inl c) = go c.0 (with_rule Tests e (λ r. index_width r ≤ length rest) (omega arith)) (with_rule Tests e (λ r. IndexIs root r rest c.0) tt) (with_rule Tests e (λ r. IndexPart root r c.0 at (take (index_width r) rest)) refl) c.1
       tested e (inr n) = failed (with_rule Tests e (λ r. Stuck (IndexFails root here r cases env) at rest) (says here no_alternative, 0, (subst (λ r. NoneChosen root cases r env) e n, refl, refl)))
 
-      by_item : (s : ℕ) → rule ≡ Item s → ((i : ℕ) × ChosenAt cases rule env i) ⊎ NoneChosen root cases rule env → Goal
+      by_item : (s : ℕ) → rule ≡ Item s → ((i : ℕ) × ChosenAt root cases rule env i) ⊎ NoneChosen root cases rule env → Goal
       by_item s e (inl c) = go c.0 (with_rule (Item s) e (λ r. index_width r ≤ length rest) (omega arith)) (with_rule (Item s) e (λ r. IndexIs root r rest c.0) tt) (with_rule (Item s) e (λ r. IndexPart root r c.0 at (take (index_width r) rest)) refl) c.1
       by_item s e (inr n) = failed (with_rule (Item s) e (λ r. Stuck (IndexFails root here r cases env) at rest) (says here no_alternative, 0, (subst (λ r. NoneChosen root cases r env) e n, refl, refl)))
 
       by : (r : ChoiceRule) → rule ≡ r → Goal
       by (Index width) e = indexed width e (less_or_not (length rest) width) (less_or_not (number (take width rest)) (count_of cases))
-      by Tests e = tested e (choose cases rule env)
-      by (Item s) e = by_item s e (choose cases rule env)
+      by Tests e = tested e (choose root cases rule env)
+      by (Item s) e = by_item s e (choose root cases rule env)
 
   -- Fields.
 
@@ -740,11 +673,11 @@ module _ (root : Grammar) (text_total : TextTotal) where
     form_total (num leaf) keys ks fine laid scoped within apart env good here origin at rest = record { moved = unmoved root keys (λ s. form_opens (num leaf) s) env good; result = number_total leaf fine env here origin at rest }
     form_total (octets sizing) keys ks fine laid scoped within apart env good here origin at rest = record {
       moved = unmoved root keys (λ s. form_opens (octets sizing) s) env good;
-      result = parts_total 8 here sizing env (FormPart root Any (octets sizing) env) at rest (λ n bs l at'. octets_make sizing env at n bs l at') (size_total root here sizing fine ks keys scoped within env good at rest);
+      result = parts_total 8 here sizing env (FormPart root Any (octets sizing) env) at rest (λ n bs l. octets_make root sizing env at n bs l) (size_total root here sizing fine ks keys scoped within env good at rest);
     }
     form_total (bits sizing) keys ks fine laid scoped within apart env good here origin at rest = record {
       moved = unmoved root keys (λ s. form_opens (bits sizing) s) env good;
-      result = parts_total 1 here sizing env (FormPart root Any (bits sizing) env) at rest (λ n bs l at'. bits_make sizing env at n bs l at') (size_total root here sizing fine ks keys scoped within env good at rest);
+      result = parts_total 1 here sizing env (FormPart root Any (bits sizing) env) at rest (λ n bs l. bits_make root sizing env at n bs l) (size_total root here sizing fine ks keys scoped within env good at rest);
     }
     form_total (text leaf) keys ks fine laid scoped within apart env good here origin at rest = record {
       moved = unmoved root keys (λ s. form_opens (text leaf) s) env good;
@@ -765,7 +698,7 @@ module _ (root : Grammar) (text_total : TextTotal) where
         contained_done keys ks here origin sizing fine.0 scoped.0 within g env good at rest (λ place window.
         closed keys g laid.1 env (λ e. Spell root Any g e) (λ e. Fails root g e true (origin + place) (here.path ++ 0 ∷ [])) 0 window (node_total g keys ks fine.1 laid.0 scoped.1 within (λ s h. laid.1 s) env good true (origin + place) (here.path ++ 0 ∷ []) 0 window))
 
-    case_total : (cases : Alternatives) (rule : ChoiceRule) (keys ks : Known) → AlternativesFine cases → CasesLaid root keys cases → CasesKnown root ks rule cases → AlternativesScoped root ks cases → ((s : ℕ) → ks s ≡ true → keys s ≡ true) → (env : Env) → Good root keys env → (i j : ℕ) → ChosenAt cases rule env j → (here : Here) (origin at : ℕ) (rest : List Bool)
+    case_total : (cases : Alternatives) (rule : ChoiceRule) (keys ks : Known) → AlternativesFine cases → CasesLaid root keys cases → CasesKnown root ks rule cases → AlternativesScoped root ks cases → ((s : ℕ) → ks s ≡ true → keys s ≡ true) → (env : Env) → Good root keys env → (i j : ℕ) → ChosenAt root cases rule env j → (here : Here) (origin at : ℕ) (rest : List Bool)
         → Outcome keys none env (λ e d. AlternativePart root Any cases rule e j d) (λ e at' rest' fault reach. AlternativeFails root cases rule e here origin i j at' rest' fault reach) at rest
     case_total no_alternatives rule keys ks fine laid known scoped within env good i j c here origin at rest = absurd c
     case_total (alternative name g tests more) rule keys ks fine laid known scoped within env good i zero c here origin at rest =
