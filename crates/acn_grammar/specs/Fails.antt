@@ -176,6 +176,12 @@ module _ (root : Grammar) where
     pub byte : 8 ≤ length left
     pub says : Says here (content_size n (length used)) fault
 
+  -- n octets round a content: they aren't all there, or the content fails inside them, or it leaves a byte or more
+  abbrev pub ContentFails : Here → (content : Data → Part) → (inside : (place : ℕ) → Failing) → (n : ℕ) → Failing
+  ContentFails here content inside n at rest fault reach =
+      Short here (8 * n) at rest fault reach
+      ⊎ ((8 * n ≤ length rest) × (((inner : ℕ) × inside at 0 (take (8 * n) rest) fault inner) ⊎ ((d : Data) × Overlong here n (content d) (take (8 * n) rest) fault)) × (reach ≡ 8 * n))
+
   -- no alternative is chosen
   abbrev pub NoneChosen : Alternatives → ChoiceRule → Env → Type 0
   NoneChosen no_alternatives rule env = Unit {0}
@@ -214,10 +220,7 @@ module _ (root : Grammar) where
         ⊎ ((i : ℕ) × IndexIs rule rest i × After (index_width rule) (AlternativeFails cases rule env here origin i i) at rest fault reach)
     FormFails (contained sizing g) env here origin at rest fault reach =
         SizeFails here sizing env at rest fault reach
-        ⊎ Sized sizing env (λ n at' back fault' reach'.
-        Short here (8 * n) at' back fault' reach'
-        ⊎ ((8 * n ≤ length back) × (((inner : ℕ) × Fails g env true (origin + at') (here.path ++ 0 ∷ []) 0 (take (8 * n) back) fault' inner)
-        ⊎ ((d : Data) × Overlong here n (Spell root Any g env d) (take (8 * n) back) fault')) × (reach' ≡ 8 * n))) at rest fault reach
+        ⊎ Sized sizing env (ContentFails here (Spell root Any g env) (λ place. Fails g env true (origin + place) (here.path ++ 0 ∷ []))) at rest fault reach
 
     pub FieldsFail : Fields → Env → (flags : List Bool) → Here → (origin : ℕ) → (k : ℕ) → Failing
     FieldsFail (component name g presence default own fs) env flags here origin k at rest fault reach =

@@ -114,16 +114,22 @@ pub record DigitAt (code : List ℕ → List Bool) (rest : List Bool) : Type 0 w
 abbrev pub EndAt : List Bool → List Bool → Type 0
 EndAt end rest = take (length end) rest ≡ end
 
--- digits so far, the reason at the character behind them, and how many bits behind the digits it rests on
-abbrev pub CharacterFails : NumLeaf → (code : List ℕ → List Bool) → (size : ℕ) → (end : List Bool) → (most : ℕ) → (IsValue : ℕ → ℤ → Type 0) → List ℕ → List Bool → Reason → (more : ℕ) → Type 0
-CharacterFails leaf code size end most IsValue ds rest r more =
-    ((length rest < size) × (r ≡ short) × (more ≡ length rest))
-    ⊎ ((size ≤ length rest) × (DigitAt code rest → ⊥) × (length rest < length end) × (r ≡ short) × (more ≡ length rest))
-    ⊎ ((size ≤ length rest) × DigitAt code rest × (length ds ≡ most) × (r ≡ too_long) × (more ≡ size))
-    ⊎ ((size ≤ length rest) × (DigitAt code rest → ⊥) × (length end ≤ length rest) × (EndAt end rest → ⊥) × (r ≡ bad_digit) × (more ≡ max size (length end)))
-    ⊎ ((length end ≤ length rest) × EndAt end rest × (ds ≡ []) × (r ≡ bad_digit) × (more ≡ length end))
-    ⊎ ((length end ≤ length rest) × EndAt end rest × (0 < length ds) × (IsMinimal ds × ((x : ℤ) × IsValue (decimal_number ds) x) → ⊥) × (r ≡ not_minimal) × (more ≡ length end))
-    ⊎ ((length end ≤ length rest) × EndAt end rest × IsMinimal ds × ((x : ℤ) × IsValue (decimal_number ds) x × NoneHas leaf x × (r ≡ out_of_range x)) × (more ≡ length end))
+-- Digits stand so far: why what stands behind them ends no permitted number, and how many bits behind the digits that rests on.
+pub data CharacterFails (leaf : NumLeaf) (code : List ℕ → List Bool) (size : ℕ) (end : List Bool) (most : ℕ) (IsValue : ℕ → ℤ → Type 0) (ds : List ℕ) (rest : List Bool) (r : Reason) (more : ℕ) : Type 0 where
+  -- the bits of a character aren't all there
+  cut : (length rest < size) × (r ≡ short) × (more ≡ length rest) → CharacterFails leaf code size end most IsValue ds rest r more
+  -- no digit, and the bits of the end aren't all there
+  end_cut : (size ≤ length rest) × (DigitAt code rest → ⊥) × (length rest < length end) × (r ≡ short) × (more ≡ length rest) → CharacterFails leaf code size end most IsValue ds rest r more
+  -- a digit behind as many as there may be
+  digit_too_many : (size ≤ length rest) × DigitAt code rest × (length ds ≡ most) × (r ≡ too_long) × (more ≡ size) → CharacterFails leaf code size end most IsValue ds rest r more
+  -- neither a digit nor the end
+  no_digit_no_end : (size ≤ length rest) × (DigitAt code rest → ⊥) × (length end ≤ length rest) × (EndAt end rest → ⊥) × (r ≡ bad_digit) × (more ≡ max size (length end)) → CharacterFails leaf code size end most IsValue ds rest r more
+  -- the end behind no digit
+  end_alone : (length end ≤ length rest) × EndAt end rest × (ds ≡ []) × (r ≡ bad_digit) × (more ≡ length end) → CharacterFails leaf code size end most IsValue ds rest r more
+  -- the end behind more digits than the number needs, or behind digits that say no number
+  not_shortest : (length end ≤ length rest) × EndAt end rest × (0 < length ds) × (IsMinimal ds × ((x : ℤ) × IsValue (decimal_number ds) x) → ⊥) × (r ≡ not_minimal) × (more ≡ length end) → CharacterFails leaf code size end most IsValue ds rest r more
+  -- the end behind a number that isn't permitted
+  not_permitted : (length end ≤ length rest) × EndAt end rest × IsMinimal ds × ((x : ℤ) × IsValue (decimal_number ds) x × NoneHas leaf x × (r ≡ out_of_range x)) × (more ≡ length end) → CharacterFails leaf code size end most IsValue ds rest r more
 
 pub record EndedFails (leaf : NumLeaf) (code : List ℕ → List Bool) (size : ℕ) (end : List Bool) (most : ℕ) (IsValue : ℕ → ℤ → Type 0) (rest : List Bool) (r : Reason) (reach : ℕ) : Type 0 where
   pub digits : List ℕ

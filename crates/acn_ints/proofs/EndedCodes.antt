@@ -9,7 +9,7 @@ use Rattle.acn_num.proofs.BitLists.{number_same, number-low_bits, length-low_bit
 use Rattle.acn_bits.proofs.Loads.{small}
 use Rattle.acn_grammar.specs.Code.{Any, CodingCode, IsMinimal, InMinimalDigits, nibbles, digit_octets}
 use Rattle.acn_grammar.specs.Images.{images_of}
-use Rattle.acn_grammar.specs.LeafFails.{Reason, bad_digit, too_long, not_minimal, out_of_range, DigitAt, EndAt, CharacterFails, EndedFails, NoneHas, Positive, most_digits}
+use Rattle.acn_grammar.specs.LeafFails.{Reason, bad_digit, too_long, not_minimal, out_of_range, DigitAt, EndAt, CharacterFails, cut, end_cut, digit_too_many, no_digit_no_end, end_alone, not_shortest, not_permitted, EndedFails, NoneHas, Positive, most_digits}
 use Rattle.acn_grammar.specs.ReadFaults.{reason_of}
 use Rattle.acn_grammar.specs.declared.node.NumLeaf.{NumLeaf}
 use Rattle.acn_grammar.specs.declared.node.NumCoding.TheVariants.{BcdEnded, AsciiEnded}
@@ -73,11 +73,11 @@ module _ (code : List ℕ → List Bool) (size z : ℕ) (style : Style code size
       go : CharacterWrong size z end w.behind r
           ⊎ ((size ≤ length w.behind) × ((d : ℕ) × (d < 10) × (number (take size w.behind) ≡ z + d)) × (length w.digits ≡ most) × (r ≡ too_long))
           ⊎ ((length end ≤ length w.behind) × EndAt end w.behind × (w.digits ≡ []) × (r ≡ bad_digit)) → Fails leaf most IsValue rest r
-      go (inl (inl c)) = at (length w.behind) (inl (c.0, c.1, refl))
-      go (inl (inr (inl c))) = at (length w.behind) (inr (inl (c.0, no_digit_at w.behind c.1, c.2, c.3, refl)))
-      go (inl (inr (inr c))) = at (max size (length end)) (inr (inr (inr (inl (c.0, no_digit_at w.behind c.1, c.2, c.3, c.4, refl)))))
-      go (inr (inl c)) = at size (inr (inr (inl (c.0, digit_at w.behind c.1.0 c.0 c.1.1 c.1.2, c.2, c.3, refl))))
-      go (inr (inr c)) = at (length end) (inr (inr (inr (inr (inl (c.0, c.1, c.2, c.3, refl))))))
+      go (inl (inl c)) = at (length w.behind) (cut (c.0, c.1, refl))
+      go (inl (inr (inl c))) = at (length w.behind) (end_cut (c.0, no_digit_at w.behind c.1, c.2, c.3, refl))
+      go (inl (inr (inr c))) = at (max size (length end)) (no_digit_no_end (c.0, no_digit_at w.behind c.1, c.2, c.3, c.4, refl))
+      go (inr (inl c)) = at size (digit_too_many (c.0, digit_at w.behind c.1.0 c.0 c.1.1 c.1.2, c.2, c.3, refl))
+      go (inr (inr c)) = at (length end) (end_alone (c.0, c.1, c.2, c.3, refl))
 
   -- what stands behind the digits
   behind_long : (new : Reading) → length end ≤ length (end ++ new.rest)
@@ -92,7 +92,7 @@ module _ (code : List ℕ → List Bool) (size z : ℕ) (style : Style code size
   pub ended_not_minimal : (leaf : NumLeaf) (most k : ℕ) (minimal : Bool) (IsValue : ℕ → ℤ → Type 0) (old new : Reading) → PassedEnded size z end most old new k minimal → ((minimal ≡ true) × ((x : ℤ) × IsValue k x) → ⊥) → Fails leaf most IsValue old.rest not_minimal
   ended_not_minimal leaf most k minimal IsValue old new p none =
       fails_at leaf most IsValue old.rest (end ++ new.rest) p.digits not_minimal (length end) (whole_of most k minimal old new p) p.are p.few
-      (inr (inr (inr (inr (inr (inl (behind_long new, behind_end new, p.some, (λ both. none (is_true minimal p.longer both.0, (both.1.0, subst (λ (j : ℕ). IsValue j both.1.0) (sym p.value) both.1.1))), refl, refl)))))))
+      (not_shortest (behind_long new, behind_end new, p.some, (λ both. none (is_true minimal p.longer both.0, (both.1.0, subst (λ (j : ℕ). IsValue j both.1.0) (sym p.value) both.1.1))), refl, refl))
     where
       is_true : (b : Bool) → ((b ≡ true → ⊥) → IsMinimal p.digits → ⊥) → IsMinimal p.digits → b ≡ true
       is_true true f m = refl
@@ -101,7 +101,7 @@ module _ (code : List ℕ → List Bool) (size z : ℕ) (style : Style code size
   pub ended_out_of_range : (leaf : NumLeaf) (most k : ℕ) (minimal : Bool) (IsValue : ℕ → ℤ → Type 0) (old new : Reading) (x : ℤ) → PassedEnded size z end most old new k minimal → minimal ≡ true → IsValue k x → NoneHas leaf x → Fails leaf most IsValue old.rest (out_of_range x)
   ended_out_of_range leaf most k minimal IsValue old new x p m v none =
       fails_at leaf most IsValue old.rest (end ++ new.rest) p.digits (out_of_range x) (length end) (whole_of most k minimal old new p) p.are p.few
-      (inr (inr (inr (inr (inr (inr (behind_long new, behind_end new, p.least m, (x, subst (λ (j : ℕ). IsValue j x) p.value v, none, refl), refl)))))))
+      (not_permitted (behind_long new, behind_end new, p.least m, (x, subst (λ (j : ℕ). IsValue j x) p.value v, none, refl), refl))
 
   pub ended_read : (most k : ℕ) (minimal : Bool) (old new : Reading) → PassedEnded size z end most old new k minimal → minimal ≡ true → Reads (InMinimalDigits k code [] end) old new
   ended_read most k minimal old new p m =

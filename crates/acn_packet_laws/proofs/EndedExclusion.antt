@@ -3,7 +3,7 @@ use Rattle.std.proofs.Common.{◌≡◌, ℕ, zero, suc, ◌+◌, ◌<◌, ◌�
 use Rattle.std.specs.List.{AllByRecursion}
 use Rattle.acn_num.specs.Ranges.{In}
 use Rattle.acn_grammar.specs.Code.{image_of, decimal_number, IsMinimal}
-use Rattle.acn_grammar.specs.LeafFails.{Reason, short, out_of_range, not_minimal, bad_digit, too_long, NoneHas, DigitAt, EndAt, CharacterFails, EndedFails}
+use Rattle.acn_grammar.specs.LeafFails.{Reason, short, out_of_range, not_minimal, bad_digit, too_long, NoneHas, DigitAt, EndAt, CharacterFails, cut, end_cut, digit_too_many, no_digit_no_end, end_alone, not_shortest, not_permitted, EndedFails}
 use Rattle.acn_grammar.specs.declared.node.NumLeaf.{NumLeaf}
 use Rattle.acn_packet_laws.proofs.Exclusion.{take_front}
 use Rattle.acn_grammar.proofs.Prefix.{same_front}
@@ -73,13 +73,13 @@ module _ (code : List ℕ → List Bool) (size : ℕ) (end : List Bool) (coded :
 
     -- where a digit stands behind these, they are as many as there may be
     full : (ds : List ℕ) (b : List Bool) (r : Reason) (more : ℕ) → Front b → Character ds b r more → length ds ≡ most
-    full ds b r more f (inl h) = let l = front_long b f in let s = h.0 in absurd (omega arith)
-    full ds b r more f (inr (inl h)) = absurd (h.1 (front_at b f))
-    full ds b r more f (inr (inr (inl h))) = h.2
-    full ds b r more f (inr (inr (inr (inl h)))) = absurd (h.1 (front_at b f))
-    full ds b r more f (inr (inr (inr (inr (inl h))))) = absurd (end_no_digit b h.1 f)
-    full ds b r more f (inr (inr (inr (inr (inr (inl h)))))) = absurd (end_no_digit b h.1 f)
-    full ds b r more f (inr (inr (inr (inr (inr (inr h)))))) = absurd (end_no_digit b h.1 f)
+    full ds b r more f (cut h) = let l = front_long b f in let s = h.0 in absurd (omega arith)
+    full ds b r more f (end_cut h) = absurd (h.1 (front_at b f))
+    full ds b r more f (digit_too_many h) = h.2
+    full ds b r more f (no_digit_no_end h) = absurd (h.1 (front_at b f))
+    full ds b r more f (end_alone h) = absurd (end_no_digit b h.1 f)
+    full ds b r more f (not_shortest h) = absurd (end_no_digit b h.1 f)
+    full ds b r more f (not_permitted h) = absurd (end_no_digit b h.1 f)
 
     abbrev Out : (len : ℕ) → List ℕ → Reason → ℕ → Type 0
     Out len ds r more =
@@ -96,13 +96,13 @@ module _ (code : List ℕ → List Bool) (size : ℕ) (end : List Bool) (coded :
         ⊎ ((length end ≤ length b) × EndAt end b × Out (length b) ds r more)
 
     group : (ds : List ℕ) (b : List Bool) (r : Reason) (more : ℕ) → Character ds b r more → Grouped ds b r more
-    group ds b r more (inl h) = inl h
-    group ds b r more (inr (inl h)) = inr (inr (inl (h.0, h.1, (λ e. h.2), inl (h.2, h.3, h.4))))
-    group ds b r more (inr (inr (inl h))) = inr (inl (h.0, h.1, h.3, h.4))
-    group ds b r more (inr (inr (inr (inl h)))) = inr (inr (inl (h.0, h.1, (λ e. absurd (h.3 e)), inr (h.2, h.4, h.5))))
-    group ds b r more (inr (inr (inr (inr (inl h))))) = inr (inr (inr (h.0, h.1, inl (h.2, h.3, h.4))))
-    group ds b r more (inr (inr (inr (inr (inr (inl h)))))) = inr (inr (inr (h.0, h.1, inr (inl (h.2, h.3, h.4, h.5)))))
-    group ds b r more (inr (inr (inr (inr (inr (inr h)))))) = inr (inr (inr (h.0, h.1, inr (inr (h.2, h.3, h.4)))))
+    group ds b r more (cut h) = inl h
+    group ds b r more (end_cut h) = inr (inr (inl (h.0, h.1, (λ e. h.2), inl (h.2, h.3, h.4))))
+    group ds b r more (digit_too_many h) = inr (inl (h.0, h.1, h.3, h.4))
+    group ds b r more (no_digit_no_end h) = inr (inr (inl (h.0, h.1, (λ e. absurd (h.3 e)), inr (h.2, h.4, h.5))))
+    group ds b r more (end_alone h) = inr (inr (inr (h.0, h.1, inl (h.2, h.3, h.4))))
+    group ds b r more (not_shortest h) = inr (inr (inr (h.0, h.1, inr (inl (h.2, h.3, h.4, h.5)))))
+    group ds b r more (not_permitted h) = inr (inr (inr (h.0, h.1, inr (inr (h.2, h.3, h.4)))))
 
     not_empty : (ds : List ℕ) → ds ≡ [] → IsMinimal ds → ⊥
     not_empty [] e m = m

@@ -6,7 +6,7 @@ use Rattle.acn_num.specs.Bits.{number, low_bits}
 use Rattle.acn_num.specs.Ranges.{has}
 use Rattle.acn_grammar.specs.Code.{Any, CodingCode, SignOctet, image_of, decimal_number, IsMinimal, nibbles, digit_octets}
 use Rattle.acn_grammar.specs.Images.{images_of}
-use Rattle.acn_grammar.specs.LeafFails.{Reason, short, out_of_range, not_minimal, bad_digit, too_long, NoneHas, DigitAt, EndAt, CharacterFails, EndedFails, Positive, Negative, AsciiEndedFails, most_digits}
+use Rattle.acn_grammar.specs.LeafFails.{Reason, short, out_of_range, not_minimal, bad_digit, too_long, NoneHas, DigitAt, EndAt, CharacterFails, cut, end_cut, digit_too_many, no_digit_no_end, end_alone, not_shortest, not_permitted, EndedFails, Positive, Negative, AsciiEndedFails, most_digits}
 use Rattle.acn_grammar.specs.Leaves.{num_fine}
 use Rattle.acn_grammar.specs.declared.node.NumCoding.{NumCoding}
 use Rattle.acn_grammar.specs.declared.node.NumCoding.TheVariants.{BcdEnded, AsciiEnded}
@@ -104,21 +104,21 @@ module _ (code : List ℕ → List Bool) (size : ℕ) (end : List Bool) (coded :
     permitted = i.1;
     maps = i.2;
   })
-  imaged input ds b s long e m v (inr n) = failed input ds b s (out_of_range v.0) (length end) (inr (inr (inr (inr (inr (inr (long, e, m, (v.0, v.1, n, refl), refl)))))))
+  imaged input ds b s long e m v (inr n) = failed input ds b s (out_of_range v.0) (length end) (not_permitted (long, e, m, (v.0, v.1, n, refl), refl))
 
   valued : (input : List Bool) (d : ℕ) (ds : List ℕ) (b : List Bool) → State input (d ∷ ds) b → length end ≤ length b → EndAt end b → IsMinimal (d ∷ ds) ⊎ (IsMinimal (d ∷ ds) → ⊥) → ((x : ℤ) × IsValue (decimal_number (d ∷ ds)) x) ⊎ (((x : ℤ) × IsValue (decimal_number (d ∷ ds)) x) → ⊥) → Result input
   valued input d ds b s long e (inl m) (inl v) = imaged input (d ∷ ds) b s long e m v (image_or_none leaf fine v.0)
-  valued input d ds b s long e (inr m) v = failed input (d ∷ ds) b s not_minimal (length end) (inr (inr (inr (inr (inr (inl (long, e, omega arith, (λ h. m h.0), refl, refl)))))))
-  valued input d ds b s long e (inl m) (inr v) = failed input (d ∷ ds) b s not_minimal (length end) (inr (inr (inr (inr (inr (inl (long, e, omega arith, (λ h. v h.1), refl, refl)))))))
+  valued input d ds b s long e (inr m) v = failed input (d ∷ ds) b s not_minimal (length end) (not_shortest (long, e, omega arith, (λ h. m h.0), refl, refl))
+  valued input d ds b s long e (inl m) (inr v) = failed input (d ∷ ds) b s not_minimal (length end) (not_shortest (long, e, omega arith, (λ h. v h.1), refl, refl))
 
   ended : (input : List Bool) (ds : List ℕ) (b : List Bool) → State input ds b → length end ≤ length b → EndAt end b → Result input
-  ended input [] b s long e = failed input [] b s bad_digit (length end) (inr (inr (inr (inr (inl (long, e, refl, refl, refl))))))
+  ended input [] b s long e = failed input [] b s bad_digit (length end) (end_alone (long, e, refl, refl, refl))
   ended input (d ∷ ds) b s long e = valued input d ds b s long e (minimal_or_not (d ∷ ds)) (value_or_not (decimal_number (d ∷ ds)))
 
   undigit : (input : List Bool) (ds : List ℕ) (b : List Bool) → State input ds b → size ≤ length b → (DigitAt code b → ⊥) → (length b < length end) ⊎ (length end ≤ length b) → EndAt end b ⊎ (EndAt end b → ⊥) → Result input
-  undigit input ds b s h n (inl l) e = failed input ds b s short (length b) (inr (inl (h, n, l, refl, refl)))
+  undigit input ds b s h n (inl l) e = failed input ds b s short (length b) (end_cut (h, n, l, refl, refl))
   undigit input ds b s h n (inr l) (inl e) = ended input ds b s l e
-  undigit input ds b s h n (inr l) (inr e) = failed input ds b s bad_digit (max size (length end)) (inr (inr (inr (inl (h, n, l, e, refl, refl)))))
+  undigit input ds b s h n (inr l) (inr e) = failed input ds b s bad_digit (max size (length end)) (no_digit_no_end (h, n, l, e, refl, refl))
 
   next : (input : List Bool) (ds : List ℕ) (b : List Bool) → State input ds b → (t : DigitAt code b) → length ds < most → State input (ds ++ t.digit ∷ []) (drop size b)
   next input ds b s t few =
@@ -134,13 +134,13 @@ module _ (code : List ℕ → List Bool) (size : ℕ) (end : List Bool) (coded :
   run zero input ds b f s = by (less_or_not (length b) size) (digit_or_not b)
     where
       by : (length b < size) ⊎ (size ≤ length b) → DigitAt code b ⊎ (DigitAt code b → ⊥) → Result input
-      by (inl h) d = failed input ds b s short (length b) (inl (h, refl, refl))
-      by (inr h) (inl d) = failed input ds b s too_long size (inr (inr (inl (h, d, omega (arith, f), refl, refl))))
+      by (inl h) d = failed input ds b s short (length b) (cut (h, refl, refl))
+      by (inr h) (inl d) = failed input ds b s too_long size (digit_too_many (h, d, omega (arith, f), refl, refl))
       by (inr h) (inr d) = undigit input ds b s h d (less_or_not (length b) (length end)) (same_or_not (take (length end) b) end)
   run (suc fuel) input ds b f s = by (less_or_not (length b) size) (digit_or_not b) (λ t. run fuel input (ds ++ t.digit ∷ []) (drop size b) (omega (arith, length-append ds (t.digit ∷ []), f)) (next input ds b s t (omega (arith, f))))
     where
       by : (length b < size) ⊎ (size ≤ length b) → DigitAt code b ⊎ (DigitAt code b → ⊥) → (DigitAt code b → Result input) → Result input
-      by (inl h) d more = failed input ds b s short (length b) (inl (h, refl, refl))
+      by (inl h) d more = failed input ds b s short (length b) (cut (h, refl, refl))
       by (inr h) (inl d) more = more d
       by (inr h) (inr d) more = undigit input ds b s h d (less_or_not (length b) (length end)) (same_or_not (take (length end) b) end)
 

@@ -5,7 +5,7 @@ use Rattle.std.specs.Prelude.{nat_abs, ◌+ℤ◌}
 use Rattle.acn_grammar.specs.Length.{least_octets, least_signed_octets, flag_width}
 use Rattle.acn_num.specs.Bits.{number, signed_number, low_bits}
 use Rattle.acn_grammar.specs.Code.{nibbles, digit_octets}
-use Rattle.acn_grammar.specs.LeafFails.{Reason, short, CodingFails, FixedFails, CountedFails, DigitAt, CharacterFails, EndedFails, BehindSign, AsciiEndedFails, Positive, Negative, most_digits}
+use Rattle.acn_grammar.specs.LeafFails.{Reason, short, CodingFails, FixedFails, CountedFails, DigitAt, CharacterFails, cut, end_cut, digit_too_many, no_digit_no_end, end_alone, not_shortest, not_permitted, EndedFails, BehindSign, AsciiEndedFails, Positive, Negative, most_digits}
 use Rattle.acn_grammar.specs.Images.{images_of}
 use Rattle.acn_grammar.specs.declared.node.NumLeaf.{NumLeaf}
 use Rattle.acn_grammar.specs.declared.node.NumCoding.{NumCoding}
@@ -78,17 +78,17 @@ digit_too code size m w l a b e d =
     record { digit = d.digit; below = d.below; stands = same_within m (length (code (d.digit ∷ []))) a b (omega arith) e ∙ d.stands }
 
 character_steady : (leaf : NumLeaf) (code : List ℕ → List Bool) (size : ℕ) (end : List Bool) (most : ℕ) (IsValue : ℕ → ℤ → Type 0) (ds : List ℕ) → ((d : ℕ) → length (code (d ∷ [])) ≡ size) → Holds (CharacterFails leaf code size end most IsValue ds)
-character_steady leaf code size end most IsValue ds w rest r more (inl t) s = absurd (s t.1)
-character_steady leaf code size end most IsValue ds w rest r more (inr (inl t)) s = absurd (s t.3)
-character_steady leaf code size end most IsValue ds w rest r more (inr (inr (inl t))) s =
+character_steady leaf code size end most IsValue ds w rest r more (cut t) s = absurd (s t.1)
+character_steady leaf code size end most IsValue ds w rest r more (end_cut t) s = absurd (s t.3)
+character_steady leaf code size end most IsValue ds w rest r more (digit_too_many t) s =
     let is = t.4 in
     let l = t.0 in (
       omega arith,
       λ other e.
           let far = long_enough size other rest l (same_within more size other rest (omega arith) e) in
-          inr (inr (inl (far, digit_too code size more w (omega arith) other rest e t.1, t.2, t.3, t.4))),
+          digit_too_many (far, digit_too code size more w (omega arith) other rest e t.1, t.2, t.3, t.4),
     )
-character_steady leaf code size end most IsValue ds w rest r more (inr (inr (inr (inl t)))) s =
+character_steady leaf code size end most IsValue ds w rest r more (no_digit_no_end t) s =
     let is = t.5 in
     let l = t.0 in
     let k = t.2 in (
@@ -97,34 +97,34 @@ character_steady leaf code size end most IsValue ds w rest r more (inr (inr (inr
           let far = long_enough size other rest l (same_within more size other rest (omega arith) e) in
           let same = same_within more (length end) other rest (omega arith) e in
           let far' = long_enough (length end) other rest k same in
-          inr (inr (inr (inl (far, (λ d. t.1 (digit_too code size more w (omega arith) rest other (sym e) d)), far', (λ x. t.3 (sym same ∙ x)), t.4, t.5)))),
+          no_digit_no_end (far, (λ d. t.1 (digit_too code size more w (omega arith) rest other (sym e) d)), far', (λ x. t.3 (sym same ∙ x)), t.4, t.5),
     )
-character_steady leaf code size end most IsValue ds w rest r more (inr (inr (inr (inr (inl t))))) s =
+character_steady leaf code size end most IsValue ds w rest r more (end_alone t) s =
     let is = t.4 in
     let l = t.0 in (
       omega arith,
       λ other e.
           let same = same_within more (length end) other rest (omega arith) e in
           let far = long_enough (length end) other rest l same in
-          inr (inr (inr (inr (inl (far, same ∙ t.1, t.2, t.3, t.4))))),
+          end_alone (far, same ∙ t.1, t.2, t.3, t.4),
     )
-character_steady leaf code size end most IsValue ds w rest r more (inr (inr (inr (inr (inr (inl t)))))) s =
+character_steady leaf code size end most IsValue ds w rest r more (not_shortest t) s =
     let is = t.5 in
     let l = t.0 in (
       omega arith,
       λ other e.
           let same = same_within more (length end) other rest (omega arith) e in
           let far = long_enough (length end) other rest l same in
-          inr (inr (inr (inr (inr (inl (far, same ∙ t.1, t.2, t.3, t.4, t.5)))))),
+          not_shortest (far, same ∙ t.1, t.2, t.3, t.4, t.5),
     )
-character_steady leaf code size end most IsValue ds w rest r more (inr (inr (inr (inr (inr (inr t)))))) s =
+character_steady leaf code size end most IsValue ds w rest r more (not_permitted t) s =
     let is = t.4 in
     let l = t.0 in (
       omega arith,
       λ other e.
           let same = same_within more (length end) other rest (omega arith) e in
           let far = long_enough (length end) other rest l same in
-          inr (inr (inr (inr (inr (inr (far, same ∙ t.1, t.2, t.3, t.4)))))),
+          not_permitted (far, same ∙ t.1, t.2, t.3, t.4),
     )
 
 ended_steady : (leaf : NumLeaf) (code : List ℕ → List Bool) (size : ℕ) (end : List Bool) (most : ℕ) (IsValue : ℕ → ℤ → Type 0) → ((d : ℕ) → length (code (d ∷ [])) ≡ size) → Holds (EndedFails leaf code size end most IsValue)

@@ -7,7 +7,7 @@ use Rattle.acn_grammar.specs.Grammar.{Grammar, Data, node, num, int, boolean}
 use Rattle.acn_grammar.specs.Code.{Mode, Written, Any, Code, NumberOf}
 use Rattle.acn_grammar.specs.Spell.{Spell, Padding}
 use Rattle.acn_grammar.specs.Fails.{Refusal}
-use Rattle.acn_grammar.specs.LeafFails.{Reason, LeafFails, bad_digit, bad_pattern, not_minimal, wrong}
+use Rattle.acn_grammar.specs.LeafFails.{Reason, LeafFails, bad_digit, bad_pattern, not_minimal, wrong, not_shortest}
 use Rattle.acn_grammar.specs.Front.{IsWritten}
 use Rattle.acn_grammar.specs.Interval.{span}
 use Rattle.acn_grammar.specs.Tree.{is_tree}
@@ -146,7 +146,7 @@ leading_zero = leaf_fails ended_leaf _ not_minimal 16 (record {
   are = (omega arith, (omega arith, (omega arith, tt)));
   few = omega arith;
   more = 4;
-  fails = inr (inr (inr (inr (inr (inl (omega arith, refl, omega arith, (λ h. absurd (omega (arith, h.0))), refl, refl))))));
+  fails = not_shortest (omega arith, refl, omega arith, (λ h. absurd (omega (arith, h.0))), refl, refl);
   reaches = refl;
 })
 

@@ -8,7 +8,7 @@ use Rattle.acn_num.specs.Ranges.{In, has}
 use Rattle.acn_grammar.specs.Code.{Written, image_in, item_number, nibbles}
 use Rattle.acn_grammar.specs.Front.{IsWritten}
 use Rattle.acn_grammar.specs.Grammar.{int, item}
-use Rattle.acn_grammar.specs.LeafFails.{DigitAt, Negative, short, out_of_range, not_minimal, bad_digit, too_long, says}
+use Rattle.acn_grammar.specs.LeafFails.{DigitAt, Negative, short, out_of_range, not_minimal, bad_digit, too_long, says, cut, digit_too_many, end_alone, no_digit_no_end, not_shortest}
 use Rattle.acn_grammar.specs.declared.node.NumCoding.{NumCoding}
 use Rattle.acn_grammar.specs.declared.node.NumCoding.TheVariants.{Range, CountedFrom, PosInt, Twos, BcdEnded, AsciiEnded}
 use Rattle.acn_grammar.specs.declared.node.NumKind.TheVariants.{Integer, Enumerated}
@@ -166,7 +166,7 @@ characters_with_an_end_are_least_law = record {
         are = (omega arith, tt);
         few = omega arith;
         more = 8;
-        fails = inr (inr (inr (inr (inr (inl (omega arith, refl, omega arith, (λ h. no_minus_zero h.1.0 h.1.1), refl, refl))))));
+        fails = not_shortest (omega arith, refl, omega arith, (λ h. no_minus_zero h.1.0 h.1.1), refl, refl);
         reaches = refl;
       },
       refl,
@@ -184,7 +184,7 @@ characters_with_an_end_are_least_law = record {
         are = (omega arith, (omega arith, tt));
         few = omega arith;
         more = 8;
-        fails = inr (inr (inr (inr (inr (inl (omega arith, refl, omega arith, (λ h. absurd (omega (arith, h.0))), refl, refl))))));
+        fails = not_shortest (omega arith, refl, omega arith, (λ h. absurd (omega (arith, h.0))), refl, refl);
         reaches = refl;
       },
       refl,
@@ -203,7 +203,7 @@ characters_with_an_end_are_least_law = record {
         are = (omega arith, (omega arith, tt));
         few = omega arith;
         more = 8;
-        fails = inr (inr (inl (omega arith, record { digit = 3; below = omega arith; stands = refl }, refl, refl, refl)));
+        fails = digit_too_many (omega arith, record { digit = 3; below = omega arith; stands = refl }, refl, refl, refl);
         reaches = refl;
       },
       refl,
@@ -214,7 +214,7 @@ characters_with_an_end_are_least_law = record {
     refl,
     (
       8,
-      record { digits = 4 ∷ []; behind = []; whole = refl; are = (omega arith, tt); few = omega arith; more = 0; fails = inl (omega arith, refl, refl); reaches = refl },
+      record { digits = 4 ∷ []; behind = []; whole = refl; are = (omega arith, tt); few = omega arith; more = 0; fails = cut (omega arith, refl, refl); reaches = refl },
       refl,
     ),
   )));
@@ -281,11 +281,11 @@ zero_in_front e = absurd (let q : 16 ≡ 20 = ap length e in omega (arith, q))
 pub digits_have_an_end_law : rows.DigitsHaveAnEnd
 digits_have_an_end_law = record {
   written = zero_alone;
-  no_end = leaf_fails nibbles_leaf _ short 8 (record { digits = 1 ∷ 2 ∷ []; behind = []; whole = refl; are = (omega arith, (omega arith, tt)); few = omega arith; more = 0; fails = inl (omega arith, refl, refl); reaches = refl });
+  no_end = leaf_fails nibbles_leaf _ short 8 (record { digits = 1 ∷ 2 ∷ []; behind = []; whole = refl; are = (omega arith, (omega arith, tt)); few = omega arith; more = 0; fails = cut (omega arith, refl, refl); reaches = refl });
   no_digit = leaf_fails nibbles_leaf _ bad_digit 4
-      (record { digits = []; behind = bits_of (240 ∷ []); whole = refl; are = tt; few = omega arith; more = 4; fails = inr (inr (inr (inr (inl (omega arith, refl, refl, refl, refl))))); reaches = refl });
+      (record { digits = []; behind = bits_of (240 ∷ []); whole = refl; are = tt; few = omega arith; more = 4; fails = end_alone (omega arith, refl, refl, refl, refl); reaches = refl });
   refused = leaf_fails nibbles_leaf _ bad_digit 8
-      (record { digits = 1 ∷ []; behind = low_bits 4 10; whole = refl; are = (omega arith, tt); few = omega arith; more = 4; fails = inr (inr (inr (inl (omega arith, ten_apart, omega arith, (λ e. cc), refl, refl)))); reaches = refl });
+      (record { digits = 1 ∷ []; behind = low_bits 4 10; whole = refl; are = (omega arith, tt); few = omega arith; more = 4; fails = no_digit_no_end (omega arith, ten_apart, omega arith, (λ e. cc), refl, refl); reaches = refl });
   five_digits = leaf_fails nibbles_leaf _ too_long 20 (record {
     digits = 1 ∷ 2 ∷ 3 ∷ 4 ∷ [];
     behind = low_bits 4 5 ++ low_bits 4 15;
@@ -293,7 +293,7 @@ digits_have_an_end_law = record {
     are = (omega arith, (omega arith, (omega arith, (omega arith, tt))));
     few = omega arith;
     more = 4;
-    fails = inr (inr (inl (omega arith, record { digit = 5; below = omega arith; stands = refl }, refl, refl, refl)));
+    fails = digit_too_many (omega arith, record { digit = 5; below = omega arith; stands = refl }, refl, refl, refl);
     reaches = refl;
   });
   never = λ w. zero_in_front (writing_of_a_tree rows.ended_nibbles refl (int (pos 120)) _ _ hundred_twenty w);

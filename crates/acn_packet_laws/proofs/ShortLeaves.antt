@@ -9,7 +9,7 @@ use Rattle.acn_num.specs.Bits.{number, signed_number, low_bits}
 use Rattle.acn_grammar.specs.Code.{nibbles, digit_octets}
 use Rattle.acn_grammar.specs.Images.{images_of}
 use Rattle.acn_grammar.specs.Interval.{held, span_by, fixed_width, num_span}
-use Rattle.acn_grammar.specs.LeafFails.{Reason, short, not_minimal, bad_digit, bad_pattern, Wire, says, wrong, SignedWire, DigitsWire, PatternWire, OnePatternWire, FixedWire, WireFails, FixedFails, CountedFails, CharacterFails, EndedFails, AsciiEndedFails, Positive, Negative, most_digits, CodingFails, LeafFails, octet_values}
+use Rattle.acn_grammar.specs.LeafFails.{Reason, short, not_minimal, bad_digit, bad_pattern, Wire, says, wrong, SignedWire, DigitsWire, PatternWire, OnePatternWire, FixedWire, WireFails, FixedFails, CountedFails, CharacterFails, cut, end_cut, digit_too_many, no_digit_no_end, end_alone, not_shortest, not_permitted, EndedFails, AsciiEndedFails, Positive, Negative, most_digits, CodingFails, LeafFails, octet_values}
 use Rattle.acn_grammar.specs.Leaves.{num_fine, coding_fine, is_terminator, is_pattern, begins_number}
 use Rattle.acn_grammar.specs.Length.{digit_count, least_octets, least_signed_octets, flag_width}
 use Rattle.acn_grammar.specs.Spell.{octet_numbers}
@@ -97,13 +97,13 @@ most_few [] = omega arith
 most_few (i ∷ is) = let a = few_digits (nat_abs i.0) in let b = few_digits (nat_abs i.1) in let c = most_few is in omega arith
 
 character_short : (leaf : NumLeaf) (code : List ℕ → List Bool) (size : ℕ) (end : List Bool) (most : ℕ) (IsValue : ℕ → ℤ → Type 0) (ds : List ℕ) (rest : List Bool) (r : Reason) (more : ℕ) → CharacterFails leaf code size end most IsValue ds rest r more → r ≡ short → length rest < size + length end
-character_short leaf code size end most IsValue ds rest r more (inl t) e = let a = t.0 in omega arith
-character_short leaf code size end most IsValue ds rest r more (inr (inl t)) e = let a = t.2 in omega arith
-character_short leaf code size end most IsValue ds rest r more (inr (inr (inl t))) e = let q = t.3 in cc
-character_short leaf code size end most IsValue ds rest r more (inr (inr (inr (inl t)))) e = let q = t.4 in cc
-character_short leaf code size end most IsValue ds rest r more (inr (inr (inr (inr (inl t))))) e = let q = t.3 in cc
-character_short leaf code size end most IsValue ds rest r more (inr (inr (inr (inr (inr (inl t)))))) e = let q = t.4 in cc
-character_short leaf code size end most IsValue ds rest r more (inr (inr (inr (inr (inr (inr t)))))) e = let q = t.3.2 in cc
+character_short leaf code size end most IsValue ds rest r more (cut t) e = let a = t.0 in omega arith
+character_short leaf code size end most IsValue ds rest r more (end_cut t) e = let a = t.2 in omega arith
+character_short leaf code size end most IsValue ds rest r more (digit_too_many t) e = let q = t.3 in cc
+character_short leaf code size end most IsValue ds rest r more (no_digit_no_end t) e = let q = t.4 in cc
+character_short leaf code size end most IsValue ds rest r more (end_alone t) e = let q = t.3 in cc
+character_short leaf code size end most IsValue ds rest r more (not_shortest t) e = let q = t.4 in cc
+character_short leaf code size end most IsValue ds rest r more (not_permitted t) e = let q = t.3.2 in cc
 
 ended_short : (leaf : NumLeaf) (code : List ℕ → List Bool) (size : ℕ) (end : List Bool) (most : ℕ) (IsValue : ℕ → ℤ → Type 0) (rest : List Bool) (r : Reason) (reach : ℕ) → ((ds : List ℕ) → length (code ds) ≡ size * length ds) → size ≤ 8 → most ≤ 20 → length end ≤ 64
     → EndedFails leaf code size end most IsValue rest r reach → r ≡ short → length rest < 300
