@@ -146,7 +146,7 @@ module _ (root : Grammar) where
   says_open around ks s (node align (choice cases rule)) h = absurd h
   says_open around ks s (node align (contained sizing g)) h = absurd h
 
-  own_open : (around : List ℕ) (before : Known) (own : Option ℕ) (presence : Presence) (g : Grammar) → OwnSound root around before own presence g → (ks : Known) (s : ℕ) → with_own own ks s ≡ true → (ks s ≡ true) ⊎ (holds around s ≡ true)
+  pub own_open : (around : List ℕ) (before : Known) (own : Option ℕ) (presence : Presence) (g : Grammar) → OwnSound root around before own presence g → (ks : Known) (s : ℕ) → with_own own ks s ≡ true → (ks s ≡ true) ⊎ (holds around s ≡ true)
   own_open around before None presence g h ks s e = inl e
   own_open around before (Some t) presence g h ks s e = either {F = (ks s ≡ true) ⊎ (holds around s ≡ true)} (nat_eq t s) (ks s) e
       (λ q. inr (subst (λ n. holds around n ≡ true) (eqb-true t s q) (says_open around before t g h.1)))

@@ -71,9 +71,11 @@ AcceptedIsScoped = (root : Grammar) → IsAccepted root → Scoped root (λ s. f
 abbrev pub AcceptedIsSound : Type 0
 AcceptedIsSound = (root : Grammar) → IsAccepted root → Sound root 0 [] (λ s. false) root
 
--- so is each node by its number, where some slots are known
+-- so is each node by its number, where some slots are known, all of them at home round it
 abbrev pub EachNodeIsSound : Type 0
-EachNodeIsSound = (root : Grammar) (k : ℕ) (here : Stand) → IsAccepted root → NodeAt root k here → (ks : Known) × Sound root (length here.path) here.around ks (node here.align here.form)
+EachNodeIsSound =
+    (root : Grammar) (k : ℕ) (here : Stand) → IsAccepted root → NodeAt root k here
+    → (ks : Known) × ((s : ℕ) → ks s ≡ true → holds here.around s ≡ true) × Sound root (length here.path) here.around ks (node here.align here.form)
 
 -- what is sound is scoped
 abbrev pub SoundIsScoped : Type 0

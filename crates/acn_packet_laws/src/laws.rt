@@ -41,7 +41,7 @@ pub fn accepted_is_sound()
     ensures { AcceptedIsSound }
 {}
 
-/// The same of each node by its number.
+/// The same of each node by its number, where some slots are known, all of them at home round it.
 pub fn each_node_is_sound()
     ensures { EachNodeIsSound }
 {}
