@@ -91,17 +91,20 @@ FixedFails coding leaf width input r reach =
     ((length input < width) × (r ≡ short) × (reach ≡ length input))
     ⊎ ((width ≤ length input) × ((w : Wire) × FixedWire coding leaf.little (take width input) w × WireFails leaf w r) × (reach ≡ width))
 
--- a count octet c and c octets, of which least says how many the number needs
+-- A count octet c and a value in the c octets behind it, of which least says how many it needs: why they code no permitted number, and
+-- how many bits that rests on.
+pub data CountFails (leaf : NumLeaf) (least : ℤ → ℕ) (image : ℤ → ℤ) (c : ℕ) (value : ℤ) (input : List Bool) (r : Reason) (reach : ℕ) : Type 0 where
+  no_count : (length input < 8) × (r ≡ short) × (reach ≡ length input) → CountFails leaf least image c value input r reach
+  none_counted : (8 ≤ length input) × (c ≡ 0) × (r ≡ not_minimal) × (reach ≡ 8) → CountFails leaf least image c value input r reach
+  -- more octets than a number has
+  many_counted : (8 ≤ length input) × (8 < c) × (r ≡ too_long) × (reach ≡ 8) → CountFails leaf least image c value input r reach
+  octets_cut : (8 ≤ length input) × (0 < c) × (c ≤ 8) × (length input < 8 + 8 * c) × (r ≡ short) × (reach ≡ length input) → CountFails leaf least image c value input r reach
+  -- fewer octets would do
+  octets_to_spare : (8 + 8 * c ≤ length input) × (0 < c) × (c ≤ 8) × (least value < c) × (r ≡ not_minimal) × (reach ≡ 8 + 8 * c) → CountFails leaf least image c value input r reach
+  counted_not_permitted : (8 + 8 * c ≤ length input) × (0 < c) × (c ≤ 8) × (least value ≡ c) × NoneHas leaf (image value) × (r ≡ out_of_range value) × (reach ≡ 8 + 8 * c) → CountFails leaf least image c value input r reach
+
 abbrev pub CountedFails : NumLeaf → (number_in : List Bool → ℤ) → (least : ℤ → ℕ) → (image : ℤ → ℤ) → List Bool → Reason → (reach : ℕ) → Type 0
-CountedFails leaf number_in least image input r reach =
-    let c = number (take 8 input) in
-    let body = take (8 * c) (drop 8 input) in
-    ((length input < 8) × (r ≡ short) × (reach ≡ length input))
-    ⊎ ((8 ≤ length input) × (c ≡ 0) × (r ≡ not_minimal) × (reach ≡ 8))
-    ⊎ ((8 ≤ length input) × (8 < c) × (r ≡ too_long) × (reach ≡ 8))
-    ⊎ ((8 ≤ length input) × (0 < c) × (c ≤ 8) × (length input < 8 + 8 * c) × (r ≡ short) × (reach ≡ length input))
-    ⊎ ((8 + 8 * c ≤ length input) × (0 < c) × (c ≤ 8) × (least (number_in body) < c) × (r ≡ not_minimal) × (reach ≡ 8 + 8 * c))
-    ⊎ ((8 + 8 * c ≤ length input) × (0 < c) × (c ≤ 8) × (least (number_in body) ≡ c) × NoneHas leaf (image (number_in body)) × (r ≡ out_of_range (number_in body)) × (reach ≡ 8 + 8 * c))
+CountedFails leaf number_in least image input r reach = CountFails leaf least image (number (take 8 input)) (number_in (take (8 * number (take 8 input)) (drop 8 input))) input r reach
 
 -- Ended numbers, character by character.
 

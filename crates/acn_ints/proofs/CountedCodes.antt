@@ -8,7 +8,7 @@ use Rattle.acn_bits.specs.Reading.{Reading, passed, Reads}
 use Rattle.acn_num.proofs.BitLists.{number_below}
 use Rattle.acn_bits.proofs.Loads.{take_add}
 use Rattle.acn_grammar.specs.Code.{Any, CodingCode, Counted}
-use Rattle.acn_grammar.specs.LeafFails.{NoneHas, CountedFails, Reason, short, not_minimal, out_of_range}
+use Rattle.acn_grammar.specs.LeafFails.{NoneHas, CountedFails, Reason, short, not_minimal, out_of_range, no_count, none_counted, many_counted, octets_cut, octets_to_spare, counted_not_permitted}
 use Rattle.acn_grammar.specs.Length.{least_octets, least_signed_octets}
 use Rattle.acn_grammar.specs.declared.node.NumLeaf.{NumLeaf}
 use Rattle.acn_grammar.specs.declared.node.NumCoding.TheVariants.{CountedFrom, CountedSigned}
@@ -106,13 +106,13 @@ module _ (number_in : List Bool → ℤ) (least : ℤ → ℕ) (image : ℤ → 
       let B = take (8 * c) (drop 8 old.rest) in
       let last : Last leaf old.rest (out_of_range y) (8 + 8 * c) c =
       (p.within, p.some, p.few, ap least e ∙ l, subst (λ (z : ℤ). NoneHas leaf (image z)) (sym e) none, ap out_of_range (sym e), refl) in
-      (8 + 8 * c, inr (inr (inr (inr (inr (subst (Last leaf old.rest (out_of_range y) (8 + 8 * c)) (sym p.count) last))))))
+      (8 + 8 * c, counted_not_permitted (subst (Last leaf old.rest (out_of_range y) (8 + 8 * c)) (sym p.count) last))
 
   pub count_not_minimal : (leaf : NumLeaf) (old new : Reading) (c v : ℕ) (y : ℤ) → Parts old new c v → number_in (take (8 * c) (drop 8 old.rest)) ≡ y → least y < c → Counts leaf old.rest not_minimal
   count_not_minimal leaf old new c v y p e l =
       let Some : ℕ → Type 0 = λ d. (8 + 8 * d ≤ length old.rest) × (0 < d) × (d ≤ 8) × (least (number_in (take (8 * d) (drop 8 old.rest))) < d) × (not_minimal ≡ not_minimal) × (8 + 8 * c ≡ 8 + 8 * d) in
       let here : Some c = (p.within, p.some, p.few, subst (λ (z : ℤ). least z < c) (sym e) l, refl, refl) in
-      (8 + 8 * c, inr (inr (inr (inr (inl (subst Some (sym p.count) here))))))
+      (8 + 8 * c, octets_to_spare (subst Some (sym p.count) here))
 
 pub counted_read : (fits : ℕ → List Bool → Type 0) (old new : Reading) (c v : ℕ) → Parts old new c v → fits c (take (8 * c) (drop 8 old.rest)) → ((d : ℕ) (other : List Bool) → 0 < d → fits d other → c ≤ d)
     → Reads (Counted fits) old new
@@ -172,9 +172,9 @@ signed_said old new c v y p value minimal leaf =
 
 module _ (number_in : List Bool → ℤ) (least : ℤ → ℕ) (image : ℤ → ℤ) where
   pub count_wrong : (leaf : NumLeaf) (rest : List Bool) (r : Reason) → CountWrong rest r → Counts number_in least image leaf rest r
-  count_wrong leaf rest r (inl t) = (length rest, inl (t.0, t.1, refl))
-  count_wrong leaf rest r (inr (inl t)) = (8, inr (inl (t.0, t.1, t.2, refl)))
-  count_wrong leaf rest r (inr (inr t)) = (8, inr (inr (inl (t.0, t.1, t.2, refl))))
+  count_wrong leaf rest r (inl t) = (length rest, no_count (t.0, t.1, refl))
+  count_wrong leaf rest r (inr (inl t)) = (8, none_counted (t.0, t.1, t.2, refl))
+  count_wrong leaf rest r (inr (inr t)) = (8, many_counted (t.0, t.1, t.2, refl))
 
   pub body_short : (leaf : NumLeaf) (old mid new : Reading) (c : ℕ) (x : ReadFault) → IsCount old mid c → (x ≡ Short) × TooFew (8 * c) mid new → Counts number_in least image leaf old.rest (reason_of x)
   body_short leaf old mid new c x i t =
@@ -183,4 +183,4 @@ module _ (number_in : List Bool → ℤ) (least : ℤ → ℕ) (image : ℤ → 
       let within = i.taken.within in
       let Some : ℕ → Type 0 = λ d. (8 ≤ length old.rest) × (0 < d) × (d ≤ 8) × (length old.rest < 8 + 8 * d) × (short ≡ short) × (length old.rest ≡ length old.rest) in
       let here : Some c = (within, i.some, i.few, omega (arith, n, few, within), refl, refl) in
-      subst (λ (f : ReadFault). Counts number_in least image leaf old.rest (reason_of f)) (sym t.0) (length old.rest, inr (inr (inr (inl (subst Some i.taken.value here)))))
+      subst (λ (f : ReadFault). Counts number_in least image leaf old.rest (reason_of f)) (sym t.0) (length old.rest, octets_cut (subst Some i.taken.value here))

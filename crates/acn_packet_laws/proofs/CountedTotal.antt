@@ -7,7 +7,7 @@ use Rattle.std.proofs.Math.Nat.{pow-le-pow_right}
 use Rattle.acn_num.specs.Bits.{number, signed_number, IsNumber, IsSigned}
 use Rattle.acn_num.specs.Ranges.{has}
 use Rattle.acn_grammar.specs.Code.{Any, CodingCode, image_of}
-use Rattle.acn_grammar.specs.LeafFails.{Reason, short, out_of_range, not_minimal, too_long, NoneHas, CountedFails}
+use Rattle.acn_grammar.specs.LeafFails.{Reason, short, out_of_range, not_minimal, too_long, NoneHas, CountedFails, no_count, none_counted, many_counted, octets_cut, octets_to_spare, counted_not_permitted}
 use Rattle.acn_grammar.specs.Leaves.{num_fine}
 use Rattle.acn_grammar.specs.Length.{least_octets, least_signed_octets, fits_octets}
 use Rattle.acn_grammar.specs.declared.node.NumCoding.{NumCoding}
@@ -123,21 +123,21 @@ module _ (leaf : NumLeaf) (fine : IsTrue (num_fine leaf)) (coding : NumCoding) (
           (counted.codes (number (take 8 input)) (take 8 input) (take (8 * number (take 8 input)) (drop 8 input)) some few (body_long long) need (record { width = length-take-le 8 input (omega arith); value = refl }));
     };
   })
-  last long some few need (inr none) = inr (out_of_range (number_in (take (8 * number (take 8 input)) (drop 8 input))), 8 + 8 * number (take 8 input), inr (inr (inr (inr (inr (long, some, few, need, none, refl, refl))))))
+  last long some few need (inr none) = inr (out_of_range (number_in (take (8 * number (take 8 input)) (drop 8 input))), 8 + 8 * number (take 8 input), counted_not_permitted (long, some, few, need, none, refl, refl))
 
   enough : 8 + 8 * number (take 8 input) ≤ length input → 0 < number (take 8 input) → number (take 8 input) ≤ 8 → (needs (number_in (take (8 * number (take 8 input)) (drop 8 input))) < number (take 8 input)) ⊎ (number (take 8 input) ≤ needs (number_in (take (8 * number (take 8 input)) (drop 8 input)))) → Result
-  enough long some few (inl h) = inr (not_minimal, 8 + 8 * number (take 8 input), inr (inr (inr (inr (inl (long, some, few, h, refl, refl))))))
+  enough long some few (inl h) = inr (not_minimal, 8 + 8 * number (take 8 input), octets_to_spare (long, some, few, h, refl, refl))
   enough long some few (inr h) =
       let most = counted.enough (number (take 8 input)) (take (8 * number (take 8 input)) (drop 8 input)) some few (body_long long) in
       last long some few (omega arith) (image_or_none leaf fine (image (number_in (take (8 * number (take 8 input)) (drop 8 input)))))
 
   octets : 8 ≤ length input → 0 < number (take 8 input) → number (take 8 input) ≤ 8 → (length input < 8 + 8 * number (take 8 input)) ⊎ (8 + 8 * number (take 8 input) ≤ length input) → Result
-  octets eight some few (inl h) = inr (short, length input, inr (inr (inr (inl (eight, some, few, h, refl, refl)))))
+  octets eight some few (inl h) = inr (short, length input, octets_cut (eight, some, few, h, refl, refl))
   octets eight some few (inr h) = enough h some few (less_or_not (needs (number_in (take (8 * number (take 8 input)) (drop 8 input)))) (number (take 8 input)))
 
   count : 8 ≤ length input → (number (take 8 input) ≡ 0) ⊎ (number (take 8 input) ≡ 0 → ⊥) → (8 < number (take 8 input)) ⊎ (number (take 8 input) ≤ 8) → Result
-  count eight (inl z) m = inr (not_minimal, 8, inr (inl (eight, z, refl, refl)))
-  count eight (inr s) (inl over) = inr (too_long, 8, inr (inr (inl (eight, over, refl, refl))))
+  count eight (inl z) m = inr (not_minimal, 8, none_counted (eight, z, refl, refl))
+  count eight (inr s) (inl over) = inr (too_long, 8, many_counted (eight, over, refl, refl))
   count eight (inr s) (inr few) = octets eight (positive (number (take 8 input)) s) few (less_or_not (length input) (8 + 8 * number (take 8 input)))
     where
       positive : (n : ℕ) → (n ≡ 0 → ⊥) → 0 < n
@@ -145,7 +145,7 @@ module _ (leaf : NumLeaf) (fine : IsTrue (num_fine leaf)) (coding : NumCoding) (
       positive (suc n) h = omega arith
 
   first : (length input < 8) ⊎ (8 ≤ length input) → Result
-  first (inl h) = inr (short, length input, inl (h, refl, refl))
+  first (inl h) = inr (short, length input, no_count (h, refl, refl))
   first (inr h) = count h (is_or_not (number (take 8 input)) 0) (less_or_not 8 (number (take 8 input)))
 
   pub counted_total : Result

@@ -6,7 +6,7 @@ use Rattle.std.proofs.lemmas.Bool.Decides.{nat_tests}
 use Rattle.acn_num.specs.Bits.{number, signed_number, low_bits, bits, IsNumber}
 use Rattle.acn_num.specs.Ranges.{In}
 use Rattle.acn_grammar.specs.Code.{Any, CodingCode, decimal_number, nibbles, digit_octets, SignOctet, image_of, in_order}
-use Rattle.acn_grammar.specs.LeafFails.{Reason, short, out_of_range, not_minimal, too_long, Wire, says, wrong, nibbles_of, octet_values, AllDigits, value_of, SignedWire, DigitsWire, PatternWire, OnePatternWire, FixedWire, WireFails, FixedFails, CountedFails}
+use Rattle.acn_grammar.specs.LeafFails.{Reason, short, out_of_range, not_minimal, too_long, Wire, says, wrong, nibbles_of, octet_values, AllDigits, value_of, SignedWire, DigitsWire, PatternWire, OnePatternWire, FixedWire, WireFails, FixedFails, CountedFails, no_count, none_counted, many_counted, octets_cut, octets_to_spare, counted_not_permitted}
 use Rattle.acn_grammar.specs.Leaves.{coding_fine, is_pattern, same_bits}
 use Rattle.acn_grammar.specs.declared.node.NumCoding.{NumCoding}
 use Rattle.acn_grammar.specs.declared.node.NumCoding.TheVariants.{Range, CountedFrom, CountedSigned, PosInt, Twos, Bcd, BcdEnded, Ascii, AsciiEnded, Flag, Fixed}
@@ -233,19 +233,19 @@ IsFirst len c needed wire r reach = (r ≡ (first_reason len c needed wire).0) �
 
 counted_first : (leaf : NumLeaf) (number_in : List Bool → ℤ) (needs : ℤ → ℕ) (image : ℤ → ℤ) (input : List Bool) (r : Reason) (reach : ℕ) → CountedFails leaf number_in needs image input r reach
     → IsFirst (length input) (number (take 8 input)) (needs (number_in (take (8 * number (take 8 input)) (drop 8 input)))) (number_in (take (8 * number (take 8 input)) (drop 8 input))) r reach
-counted_first leaf number_in needs image input r reach (inl f) = rw (lt-ltb (length input) 8 f.0) (f.1, f.2)
-counted_first leaf number_in needs image input r reach (inr (inl f)) = rw (lt_false (length input) 8 f.0, eq_true (number (take 8 input)) 0 f.1) (f.2, f.3)
-counted_first leaf number_in needs image input r reach (inr (inr (inl f))) =
+counted_first leaf number_in needs image input r reach (no_count f) = rw (lt-ltb (length input) 8 f.0) (f.1, f.2)
+counted_first leaf number_in needs image input r reach (none_counted f) = rw (lt_false (length input) 8 f.0, eq_true (number (take 8 input)) 0 f.1) (f.2, f.3)
+counted_first leaf number_in needs image input r reach (many_counted f) =
     let over = f.1 in
     rw (lt_false (length input) 8 f.0, ne_eqb (number (take 8 input)) 0 (λ e. omega arith), lt-ltb 8 (number (take 8 input)) f.1) (f.2, f.3)
-counted_first leaf number_in needs image input r reach (inr (inr (inr (inl f)))) =
+counted_first leaf number_in needs image input r reach (octets_cut f) =
     let some = f.1 in
     rw (lt_false (length input) 8 f.0, ne_eqb (number (take 8 input)) 0 (λ e. omega arith), lt_false 8 (number (take 8 input)) f.2, lt-ltb (length input) (8 + 8 * number (take 8 input)) f.3) (f.4, f.5)
-counted_first leaf number_in needs image input r reach (inr (inr (inr (inr (inl f))))) =
+counted_first leaf number_in needs image input r reach (octets_to_spare f) =
     let some = f.1 in
     let long = f.0 in
     rw (lt_false (length input) 8 (omega arith), ne_eqb (number (take 8 input)) 0 (λ e. omega arith), lt_false 8 (number (take 8 input)) f.2, lt_false (length input) (8 + 8 * number (take 8 input)) f.0, lt-ltb (needs (number_in (take (8 * number (take 8 input)) (drop 8 input)))) (number (take 8 input)) f.3) (f.4, f.5)
-counted_first leaf number_in needs image input r reach (inr (inr (inr (inr (inr f))))) =
+counted_first leaf number_in needs image input r reach (counted_not_permitted f) =
     let some = f.1 in
     let long = f.0 in
     let is = f.3 in
@@ -272,9 +272,9 @@ counted_excl leaf number_in needs image x y c front body r reason reach counts l
     lengths h = let w = counts.width in omega arith
 
     by : CountedFails leaf number_in needs image ((front ++ body) ++ r) reason reach → (input : List Bool) → number (take 8 ((front ++ body) ++ r)) ≡ c → take (8 * number (take 8 ((front ++ body) ++ r))) (drop 8 ((front ++ body) ++ r)) ≡ body → length ((front ++ body) ++ r) ≡ 8 + (8 * c + length r) → ⊥
-    by (inl f) input count_is body_is all = let a = f.0 in omega arith
-    by (inr (inl f)) input count_is body_is all = let a = f.1 in omega arith
-    by (inr (inr (inl f))) input count_is body_is all = let a = f.1 in omega arith
-    by (inr (inr (inr (inl f)))) input count_is body_is all = let a = f.3 in omega arith
-    by (inr (inr (inr (inr (inl f))))) input count_is body_is all = let a = f.3 in let b : needs (number_in (take (8 * number (take 8 ((front ++ body) ++ r))) (drop 8 ((front ++ body) ++ r)))) ≡ c = ap (λ z. needs (number_in z)) body_is ∙ need in omega arith
-    by (inr (inr (inr (inr (inr f))))) input count_is body_is all = f.4 x p (m ∙ ap Some (sym (ap (λ z. image (number_in z)) body_is ∙ is)))
+    by (no_count f) input count_is body_is all = let a = f.0 in omega arith
+    by (none_counted f) input count_is body_is all = let a = f.1 in omega arith
+    by (many_counted f) input count_is body_is all = let a = f.1 in omega arith
+    by (octets_cut f) input count_is body_is all = let a = f.3 in omega arith
+    by (octets_to_spare f) input count_is body_is all = let a = f.3 in let b : needs (number_in (take (8 * number (take 8 ((front ++ body) ++ r))) (drop 8 ((front ++ body) ++ r)))) ≡ c = ap (λ z. needs (number_in z)) body_is ∙ need in omega arith
+    by (counted_not_permitted f) input count_is body_is all = f.4 x p (m ∙ ap Some (sym (ap (λ z. image (number_in z)) body_is ∙ is)))

@@ -5,7 +5,7 @@ use Rattle.std.specs.Prelude.{nat_abs, ◌+ℤ◌}
 use Rattle.acn_grammar.specs.Length.{least_octets, least_signed_octets, flag_width}
 use Rattle.acn_num.specs.Bits.{number, signed_number, low_bits}
 use Rattle.acn_grammar.specs.Code.{nibbles, digit_octets}
-use Rattle.acn_grammar.specs.LeafFails.{Reason, short, CodingFails, FixedFails, CountedFails, DigitAt, CharacterFails, cut, end_cut, digit_too_many, no_digit_no_end, end_alone, not_shortest, not_permitted, EndedFails, BehindSign, AsciiEndedFails, Positive, Negative, most_digits}
+use Rattle.acn_grammar.specs.LeafFails.{Reason, short, CodingFails, FixedFails, CountedFails, DigitAt, CharacterFails, cut, end_cut, digit_too_many, no_digit_no_end, end_alone, not_shortest, not_permitted, EndedFails, BehindSign, AsciiEndedFails, Positive, Negative, most_digits, no_count, none_counted, many_counted, octets_cut, octets_to_spare, counted_not_permitted}
 use Rattle.acn_grammar.specs.Images.{images_of}
 use Rattle.acn_grammar.specs.declared.node.NumLeaf.{NumLeaf}
 use Rattle.acn_grammar.specs.declared.node.NumCoding.{NumCoding}
@@ -37,17 +37,17 @@ fixed_steady coding leaf width rest r reach (inr t) s =
     )
 
 counted_steady : (leaf : NumLeaf) (number_in : List Bool → ℤ) (least : ℤ → ℕ) (image : ℤ → ℤ) → Holds (CountedFails leaf number_in least image)
-counted_steady leaf number_in least image rest r reach (inl t) s = absurd (s t.1)
-counted_steady leaf number_in least image rest r reach (inr (inl t)) s =
+counted_steady leaf number_in least image rest r reach (no_count t) s = absurd (s t.1)
+counted_steady leaf number_in least image rest r reach (none_counted t) s =
     let is = t.3 in
     let l = t.0 in
-    (omega arith, λ other e. let same = same_within reach 8 other rest (omega arith) e in let far = long_enough 8 other rest l same in inr (inl (far, rw same t.1, t.2, t.3)))
-counted_steady leaf number_in least image rest r reach (inr (inr (inl t))) s =
+    (omega arith, λ other e. let same = same_within reach 8 other rest (omega arith) e in let far = long_enough 8 other rest l same in none_counted (far, rw same t.1, t.2, t.3))
+counted_steady leaf number_in least image rest r reach (many_counted t) s =
     let is = t.3 in
     let l = t.0 in
-    (omega arith, λ other e. let same = same_within reach 8 other rest (omega arith) e in let far = long_enough 8 other rest l same in inr (inr (inl (far, rw same t.1, t.2, t.3))))
-counted_steady leaf number_in least image rest r reach (inr (inr (inr (inl t)))) s = absurd (s t.4)
-counted_steady leaf number_in least image rest r reach (inr (inr (inr (inr (inl t))))) s =
+    (omega arith, λ other e. let same = same_within reach 8 other rest (omega arith) e in let far = long_enough 8 other rest l same in many_counted (far, rw same t.1, t.2, t.3))
+counted_steady leaf number_in least image rest r reach (octets_cut t) s = absurd (s t.4)
+counted_steady leaf number_in least image rest r reach (octets_to_spare t) s =
     let is = t.5 in
     let l = t.0 in (
       omega arith,
@@ -56,9 +56,9 @@ counted_steady leaf number_in least image rest r reach (inr (inr (inr (inr (inl 
           let all = same_within reach (8 + 8 * number (take 8 rest)) other rest (omega arith) e in
           let body = behind_same 8 (8 * number (take 8 rest)) other rest l all in
           let far = long_enough (8 + 8 * number (take 8 rest)) other rest l all in
-          inr (inr (inr (inr (inl (rw (same, body) (far, t.1, t.2, t.3, t.4, t.5)))))),
+          octets_to_spare (rw (same, body) (far, t.1, t.2, t.3, t.4, t.5)),
     )
-counted_steady leaf number_in least image rest r reach (inr (inr (inr (inr (inr t))))) s =
+counted_steady leaf number_in least image rest r reach (counted_not_permitted t) s =
     let is = t.6 in
     let l = t.0 in (
       omega arith,
@@ -67,7 +67,7 @@ counted_steady leaf number_in least image rest r reach (inr (inr (inr (inr (inr 
           let all = same_within reach (8 + 8 * number (take 8 rest)) other rest (omega arith) e in
           let body = behind_same 8 (8 * number (take 8 rest)) other rest l all in
           let far = long_enough (8 + 8 * number (take 8 rest)) other rest l all in
-          inr (inr (inr (inr (inr (rw (same, body) (far, t.1, t.2, t.3, t.4, t.5, t.6)))))),
+          counted_not_permitted (rw (same, body) (far, t.1, t.2, t.3, t.4, t.5, t.6)),
     )
 
 -- Ended numbers.

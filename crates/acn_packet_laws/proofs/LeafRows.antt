@@ -7,7 +7,7 @@ use Rattle.acn_grammar.specs.Grammar.{Grammar, Data, node, num, int, boolean}
 use Rattle.acn_grammar.specs.Code.{Mode, Written, Any, Code, NumberOf}
 use Rattle.acn_grammar.specs.Spell.{Spell, Padding}
 use Rattle.acn_grammar.specs.Fails.{Refusal}
-use Rattle.acn_grammar.specs.LeafFails.{Reason, LeafFails, bad_digit, bad_pattern, not_minimal, wrong, not_shortest}
+use Rattle.acn_grammar.specs.LeafFails.{Reason, LeafFails, bad_digit, bad_pattern, not_minimal, wrong, not_shortest, octets_to_spare}
 use Rattle.acn_grammar.specs.Front.{IsWritten}
 use Rattle.acn_grammar.specs.Interval.{span}
 use Rattle.acn_grammar.specs.Tree.{is_tree}
@@ -80,7 +80,7 @@ counted_written = leaf_spelled Written free_leaf (int (pos 128)) (pos 128) _ ref
 
 -- 02 00 05: one octet would do
 pub counted_long : Refusal (root_of free_leaf) (bits_of (2 ∷ 0 ∷ 5 ∷ [])) (record { path = []; reason = not_minimal; at = 0 }) 24
-counted_long = leaf_fails free_leaf _ not_minimal 24 (inr (inr (inr (inr (inl (omega arith, omega arith, omega arith, omega arith, refl, refl))))))
+counted_long = leaf_fails free_leaf _ not_minimal 24 (octets_to_spare (omega arith, omega arith, omega arith, omega arith, refl, refl))
 
 -- BOOLEAN with 'A5'H for true: false is its complement, and every other octet is read as false
 abbrev a5 : List Bool

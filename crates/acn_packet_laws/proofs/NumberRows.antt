@@ -8,7 +8,7 @@ use Rattle.acn_num.specs.Ranges.{In, has}
 use Rattle.acn_grammar.specs.Code.{Written, image_in, item_number, nibbles}
 use Rattle.acn_grammar.specs.Front.{IsWritten}
 use Rattle.acn_grammar.specs.Grammar.{int, item}
-use Rattle.acn_grammar.specs.LeafFails.{DigitAt, Negative, short, out_of_range, not_minimal, bad_digit, too_long, says, cut, digit_too_many, end_alone, no_digit_no_end, not_shortest}
+use Rattle.acn_grammar.specs.LeafFails.{DigitAt, Negative, short, out_of_range, not_minimal, bad_digit, too_long, says, cut, digit_too_many, end_alone, no_digit_no_end, not_shortest, none_counted, many_counted, octets_cut, octets_to_spare}
 use Rattle.acn_grammar.specs.declared.node.NumCoding.{NumCoding}
 use Rattle.acn_grammar.specs.declared.node.NumCoding.TheVariants.{Range, CountedFrom, PosInt, Twos, BcdEnded, AsciiEnded}
 use Rattle.acn_grammar.specs.declared.node.NumKind.TheVariants.{Integer, Enumerated}
@@ -110,10 +110,10 @@ a_count_begins_at_the_lowest_law = record {
   tree = refl;
   least = five;
   written = far;
-  refused = leaf_fails five_leaf _ not_minimal 24 (inr (inr (inr (inr (inl (omega arith, omega arith, omega arith, omega arith, refl, refl))))));
-  none = leaf_fails five_leaf _ not_minimal 8 (inr (inl (omega arith, refl, refl, refl)));
-  nine = leaf_fails five_leaf _ too_long 8 (inr (inr (inl (omega arith, omega arith, refl, refl))));
-  cut = leaf_fails five_leaf _ short 16 (inr (inr (inr (inl (omega arith, omega arith, omega arith, omega arith, refl, refl)))));
+  refused = leaf_fails five_leaf _ not_minimal 24 (octets_to_spare (omega arith, omega arith, omega arith, omega arith, refl, refl));
+  none = leaf_fails five_leaf _ not_minimal 8 (none_counted (omega arith, refl, refl, refl));
+  nine = leaf_fails five_leaf _ too_long 8 (many_counted (omega arith, omega arith, refl, refl));
+  cut = leaf_fails five_leaf _ short 16 (octets_cut (omega arith, omega arith, omega arith, omega arith, refl, refl));
   never = λ w. not_itself (writing_of_a_tree rows.from_five refl (int (pos 5)) _ _ five w);
 }
 

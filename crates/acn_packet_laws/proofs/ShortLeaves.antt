@@ -9,7 +9,7 @@ use Rattle.acn_num.specs.Bits.{number, signed_number, low_bits}
 use Rattle.acn_grammar.specs.Code.{nibbles, digit_octets}
 use Rattle.acn_grammar.specs.Images.{images_of}
 use Rattle.acn_grammar.specs.Interval.{held, span_by, fixed_width, num_span}
-use Rattle.acn_grammar.specs.LeafFails.{Reason, short, not_minimal, bad_digit, bad_pattern, Wire, says, wrong, SignedWire, DigitsWire, PatternWire, OnePatternWire, FixedWire, WireFails, FixedFails, CountedFails, CharacterFails, cut, end_cut, digit_too_many, no_digit_no_end, end_alone, not_shortest, not_permitted, EndedFails, AsciiEndedFails, Positive, Negative, most_digits, CodingFails, LeafFails, octet_values}
+use Rattle.acn_grammar.specs.LeafFails.{Reason, short, not_minimal, bad_digit, bad_pattern, Wire, says, wrong, SignedWire, DigitsWire, PatternWire, OnePatternWire, FixedWire, WireFails, FixedFails, CountedFails, CharacterFails, cut, end_cut, digit_too_many, no_digit_no_end, end_alone, not_shortest, not_permitted, EndedFails, AsciiEndedFails, Positive, Negative, most_digits, CodingFails, LeafFails, octet_values, no_count, none_counted, many_counted, octets_cut, octets_to_spare, counted_not_permitted}
 use Rattle.acn_grammar.specs.Leaves.{num_fine, coding_fine, is_terminator, is_pattern, begins_number}
 use Rattle.acn_grammar.specs.Length.{digit_count, least_octets, least_signed_octets, flag_width}
 use Rattle.acn_grammar.specs.Spell.{octet_numbers}
@@ -80,12 +80,12 @@ fixed_short coding leaf width rest r reach (inr t) e =
     absurd (wire_not leaf w.0 r (wire_said coding leaf.little (take width rest) w.0 w.1) w.2 e)
 
 counted_short : (leaf : NumLeaf) (number_in : List Bool → ℤ) (least : ℤ → ℕ) (image : ℤ → ℤ) (rest : List Bool) (r : Reason) (reach : ℕ) → CountedFails leaf number_in least image rest r reach → r ≡ short → length rest < 1000
-counted_short leaf number_in least image rest r reach (inl t) e = let a = t.0 in omega arith
-counted_short leaf number_in least image rest r reach (inr (inl t)) e = let q = t.2 in cc
-counted_short leaf number_in least image rest r reach (inr (inr (inl t))) e = let q = t.2 in cc
-counted_short leaf number_in least image rest r reach (inr (inr (inr (inl t)))) e = let a = t.2 in let b = t.3 in omega arith
-counted_short leaf number_in least image rest r reach (inr (inr (inr (inr (inl t))))) e = let q = t.4 in cc
-counted_short leaf number_in least image rest r reach (inr (inr (inr (inr (inr t))))) e = let q = t.5 in cc
+counted_short leaf number_in least image rest r reach (no_count t) e = let a = t.0 in omega arith
+counted_short leaf number_in least image rest r reach (none_counted t) e = let q = t.2 in cc
+counted_short leaf number_in least image rest r reach (many_counted t) e = let q = t.2 in cc
+counted_short leaf number_in least image rest r reach (octets_cut t) e = let a = t.2 in let b = t.3 in omega arith
+counted_short leaf number_in least image rest r reach (octets_to_spare t) e = let q = t.4 in cc
+counted_short leaf number_in least image rest r reach (counted_not_permitted t) e = let q = t.5 in cc
 
 -- Digits.
 
