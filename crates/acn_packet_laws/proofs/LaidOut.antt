@@ -11,7 +11,8 @@ use Rattle.acn_grammar.specs.Leaves.{num_fine, set_fine, is_range, no_items, ite
 use Rattle.acn_grammar.specs.Scoped.{Known}
 use Rattle.acn_grammar.specs.Slots.{slot_leaf, fields_leaf, alternatives_leaf, number_leaf, first_of_two, domain_of}
 use Rattle.acn_grammar.specs.Tree.{IsTree, holds, near, near_node, near_form, is_slot, presence_fine, own_fine}
-use Rattle.acn_grammar.specs.Walk.{Stand, Role, root_node, a_component, an_inserted, an_alternative, an_element, a_content, nodes, form_nodes, field_nodes, alternative_nodes, nodes_of, slot_here}
+use Rattle.acn_grammar.specs.Walk.{Stand, Role, root_node, component_role, an_inserted, alternative_role, an_element, a_content, nodes, form_nodes, field_nodes, alternative_nodes, nodes_of, slot_here}
+use Rattle.acn_grammar.specs.declared.node.ChoiceRule.{ChoiceRule}
 use Rattle.acn_grammar.specs.declared.node.NumKind.{NumKind}
 use Rattle.acn_grammar.specs.declared.node.NumKind.TheVariants.{Integer, Boolean, Enumerated, Null}
 use Rattle.acn_grammar.specs.declared.node.NumLeaf.{NumLeaf}
@@ -50,12 +51,12 @@ mutual
   fields_has : (fs : Fields) (path around : List ℕ) (k s : ℕ) → fields_opens fs s ≡ true → has_field s (field_nodes path around k fs) ≡ true
   fields_has no_fields path around k s h = cc
   fields_has (component name g presence default own fs) path around k s h =
-      let a = nodes (a_component name presence own) (path ++ k ∷ []) around g in
+      let a = nodes (component_role name presence default own) (path ++ k ∷ []) around g in
       let b = field_nodes path around (suc k) fs in
-      either {F = has_field s (nodes (a_component name presence own) (path ++ k ∷ []) around g ++ field_nodes path around (suc k) fs) ≡ true} (is_own own s) (opens g s || fields_opens fs s) h
-      (λ q. any_left (field_is s) a b (slot_in (a_component name presence own) (path ++ k ∷ []) around g s (own_slot own s q)))
-      (λ q. either {F = has_field s (nodes (a_component name presence own) (path ++ k ∷ []) around g ++ field_nodes path around (suc k) fs) ≡ true} (opens g s) (fields_opens fs s) q
-      (λ r. any_left (field_is s) a b (opens_has g (a_component name presence own) (path ++ k ∷ []) around s r)) (λ r. any_right (field_is s) a b (fields_has fs path around (suc k) s r)))
+      either {F = has_field s (nodes (component_role name presence default own) (path ++ k ∷ []) around g ++ field_nodes path around (suc k) fs) ≡ true} (is_own own s) (opens g s || fields_opens fs s) h
+      (λ q. any_left (field_is s) a b (slot_in (component_role name presence default own) (path ++ k ∷ []) around g s (own_slot own s q)))
+      (λ q. either {F = has_field s (nodes (component_role name presence default own) (path ++ k ∷ []) around g ++ field_nodes path around (suc k) fs) ≡ true} (opens g s) (fields_opens fs s) q
+      (λ r. any_left (field_is s) a b (opens_has g (component_role name presence default own) (path ++ k ∷ []) around s r)) (λ r. any_right (field_is s) a b (fields_has fs path around (suc k) s r)))
   fields_has (inserted name g slot fs) path around k s h =
       let a = nodes (an_inserted name slot) (path ++ k ∷ []) around g in
       let b = field_nodes path around (suc k) fs in
@@ -161,10 +162,10 @@ module _ (root : Grammar) (tree : IsTree root) (sound : (f : CheckFault) → Und
     fields_around (component name g presence default own fs) pre path around k post p s h =
         let first = first_component (nodes_of root) (numbers root tree sound) (rules root tree sound) pre path around k name g presence default own fs post p in
         either {F = holds around s ≡ true} (is_own own s) (opens g s || fields_opens fs s) h
-        (λ q. node_here pre (a_component name presence own) (path ++ k ∷ []) around g (field_nodes path around (suc k) fs ++ post) first s (own_slot own s q))
+        (λ q. node_here pre (component_role name presence default own) (path ++ k ∷ []) around g (field_nodes path around (suc k) fs ++ post) first s (own_slot own s q))
         (λ q. either {F = holds around s ≡ true} (opens g s) (fields_opens fs s) q
-        (λ r. opens_around g pre (a_component name presence own) (path ++ k ∷ []) around (field_nodes path around (suc k) fs ++ post) first s r)
-        (λ r. fields_around fs (pre ++ nodes (a_component name presence own) (path ++ k ∷ []) around g) path around (suc k) post (next_component (nodes_of root) (numbers root tree sound) (rules root tree sound) pre path around k name g presence default own fs post p) s r))
+        (λ r. opens_around g pre (component_role name presence default own) (path ++ k ∷ []) around (field_nodes path around (suc k) fs ++ post) first s r)
+        (λ r. fields_around fs (pre ++ nodes (component_role name presence default own) (path ++ k ∷ []) around g) path around (suc k) post (next_component (nodes_of root) (numbers root tree sound) (rules root tree sound) pre path around k name g presence default own fs post p) s r))
     fields_around (inserted name g slot fs) pre path around k post p s h =
         either {F = holds around s ≡ true} (is_own slot s) (fields_opens fs s) h
         (λ q. node_here pre (an_inserted name slot) (path ++ k ∷ []) around g (field_nodes path around (suc k) fs ++ post) (first_inserted (nodes_of root) (numbers root tree sound) (rules root tree sound) pre path around k name g slot fs post p) s (own_slot slot s q))
@@ -197,7 +198,7 @@ module _ (root : Grammar) (tree : IsTree root) (sound : (f : CheckFault) → Und
       → (keys : Known) → keys t ≡ true → slot_leaf root t ≡ number_leaf g → Laid root keys g × SlotLaid root keys t g
   own_is_number pre path around k name (node align form) presence default t fs post p keys has_key e =
       let place = first_component (nodes_of root) (numbers root tree sound) (rules root tree sound) pre path around k name (node align form) presence default (Some t) fs post p in
-      let fine = place_fine (nodes_of root) (numbers root tree sound) (rules root tree sound) pre (a_component name presence (Some t)) (path ++ k ∷ []) around align form (field_nodes path around (suc k) fs ++ post) place in
+      let fine = place_fine (nodes_of root) (numbers root tree sound) (rules root tree sound) pre (component_role name presence default (Some t)) (path ++ k ∷ []) around align form (field_nodes path around (suc k) fs ++ post) place in
       own_laid keys t align form (own_number (Some t) presence form t (and_parts (presence_fine presence) (own_fine (Some t) presence form) fine.role).1 (same_eq t)).1 has_key e
 
   mutual
@@ -226,35 +227,35 @@ module _ (root : Grammar) (tree : IsTree root) (sound : (f : CheckFault) → Und
           shut_one pre role path around align (contained sizing g) post p refl a_content (path ++ 0 ∷ []) g refl inner,
         )
     laid (node align (choice cases rule)) pre role path around post p f fine keys same =
-        laid_cases cases (pre ++ here_at role path around align (choice cases rule) ∷ []) path around 0 post (to_cases (nodes_of root) (numbers root tree sound) (rules root tree sound) pre role path around align cases rule post p)
-        (λ s h. f s (or_right (is_slot s (slot_here role)) (has_field s (alternative_nodes path around 0 cases)) h)) fine.1 keys same
+        laid_cases cases (pre ++ here_at role path around align (choice cases rule) ∷ []) rule path around 0 post (to_cases (nodes_of root) (numbers root tree sound) (rules root tree sound) pre role path around align cases rule post p)
+        (λ s h. f s (or_right (is_slot s (slot_here role)) (has_field s (alternative_nodes rule path around 0 cases)) h)) fine.1 keys same
 
     laid_fields : (fs : Fields) (pre : List Stand) (path around : List ℕ) (k : ℕ) (post : List Stand) → FieldsAt root tree sound pre path around k fs post → Finds root tree sound (field_nodes path around k fs) (fields_leaf fs) → FieldsFine fs → (keys : Known) → ((s : ℕ) → keys s ≡ holds around s) → FieldsLaid root keys fs
     laid_fields no_fields pre path around k post p f fine keys same = tt
     laid_fields (component name g presence default None fs) pre path around k post p f fine keys same =
-        let a = nodes (a_component name presence None) (path ++ k ∷ []) around g in
+        let a = nodes (component_role name presence default None) (path ++ k ∷ []) around g in
         let b = field_nodes path around (suc k) fs in
         let apart = parts_apart (nodes_of root) (numbers root tree sound) (rules root tree sound) pre a b post p.whole in (
-          laid g pre (a_component name presence None) (path ++ k ∷ []) around (b ++ post) (first_component (nodes_of root) (numbers root tree sound) (rules root tree sound) pre path around k name g presence default None fs post p)
+          laid g pre (component_role name presence default None) (path ++ k ∷ []) around (b ++ post) (first_component (nodes_of root) (numbers root tree sound) (rules root tree sound) pre path around k name g presence default None fs post p)
               (finds_first root tree sound a b (slot_leaf g) (fields_leaf fs) apart (no_fields_leaf fs path around (suc k)) f) fine.0 keys same,
           tt,
           (λ s h. cc),
-          (λ s h. false_from_ne_true (fields_opens fs s) (λ q. apart s (opens_has g (a_component name presence None) (path ++ k ∷ []) around s h) (fields_has fs path around (suc k) s q))),
+          (λ s h. false_from_ne_true (fields_opens fs s) (λ q. apart s (opens_has g (component_role name presence default None) (path ++ k ∷ []) around s h) (fields_has fs path around (suc k) s q))),
           laid_fields fs (pre ++ a) path around (suc k) post (next_component (nodes_of root) (numbers root tree sound) (rules root tree sound) pre path around k name g presence default None fs post p)
-              (finds_rest root tree sound a b (slot_leaf g) (fields_leaf fs) apart (no_leaf g (a_component name presence None) (path ++ k ∷ []) around) f) fine.1 keys same,
+              (finds_rest root tree sound a b (slot_leaf g) (fields_leaf fs) apart (no_leaf g (component_role name presence default None) (path ++ k ∷ []) around) f) fine.1 keys same,
         )
     laid_fields (component name g presence default (Some t) fs) pre path around k post p f fine keys same =
-        let a = nodes (a_component name presence (Some t)) (path ++ k ∷ []) around g in
+        let a = nodes (component_role name presence default (Some t)) (path ++ k ∷ []) around g in
         let b = field_nodes path around (suc k) fs in
         let apart = parts_apart (nodes_of root) (numbers root tree sound) (rules root tree sound) pre a b post p.whole in
         let first = first_component (nodes_of root) (numbers root tree sound) (rules root tree sound) pre path around k name g presence default (Some t) fs post p in
-        let key = same t ∙ node_here pre (a_component name presence (Some t)) (path ++ k ∷ []) around g (b ++ post) first t (same_eq t) in
-        let here = slot_in (a_component name presence (Some t)) (path ++ k ∷ []) around g t (same_eq t) in
+        let key = same t ∙ node_here pre (component_role name presence default (Some t)) (path ++ k ∷ []) around g (b ++ post) first t (same_eq t) in
+        let here = slot_in (component_role name presence default (Some t)) (path ++ k ∷ []) around g t (same_eq t) in
         let n = own_is_number pre path around k name g presence default t fs post p keys key (f t (any_left (field_is t) a b here) ∙ if_same t (number_leaf g) (first_of_two (slot_leaf g t) (fields_leaf fs t))) in (
           n.0,
           n.1,
-          (λ s h. false_from_ne_true (fields_opens fs s) (λ q. apart s (slot_in (a_component name presence (Some t)) (path ++ k ∷ []) around g s h) (fields_has fs path around (suc k) s q))),
-          (λ s h. false_from_ne_true (fields_opens fs s) (λ q. apart s (opens_has g (a_component name presence (Some t)) (path ++ k ∷ []) around s h) (fields_has fs path around (suc k) s q))),
+          (λ s h. false_from_ne_true (fields_opens fs s) (λ q. apart s (slot_in (component_role name presence default (Some t)) (path ++ k ∷ []) around g s h) (fields_has fs path around (suc k) s q))),
+          (λ s h. false_from_ne_true (fields_opens fs s) (λ q. apart s (opens_has g (component_role name presence default (Some t)) (path ++ k ∷ []) around s h) (fields_has fs path around (suc k) s q))),
           laid_fields fs (pre ++ a) path around (suc k) post (next_component (nodes_of root) (numbers root tree sound) (rules root tree sound) pre path around k name g presence default (Some t) fs post p)
               (own_behind root tree sound pre path around k name g presence default t fs post p f) fine.1 keys same,
         )
@@ -284,17 +285,17 @@ module _ (root : Grammar) (tree : IsTree root) (sound : (f : CheckFault) → Und
     laid_fields (inserted name (node align _) (Some t) fs) pre path around k post p f fine keys same = absurd (inserted_is root tree sound pre path around k name (node align _) (Some t) fs post p)
     laid_fields (inserted name (node align _) None fs) pre path around k post p f fine keys same = absurd (inserted_is root tree sound pre path around k name (node align _) None fs post p)
 
-    laid_cases : (cases : Alternatives) (pre : List Stand) (path around : List ℕ) (k : ℕ) (post : List Stand) → CasesAt root tree sound pre path around k cases post → Finds root tree sound (alternative_nodes path around k cases) (alternatives_leaf cases) → AlternativesFine cases → (keys : Known) → ((s : ℕ) → keys s ≡ holds around s) → CasesLaid root keys cases
-    laid_cases no_alternatives pre path around k post p f fine keys same = tt
-    laid_cases (alternative name g tests more) pre path around k post p f fine keys same =
-        let a = nodes (an_alternative name tests) (path ++ k ∷ []) around g in
-        let b = alternative_nodes path around (suc k) more in
+    laid_cases : (cases : Alternatives) (pre : List Stand) (rule : ChoiceRule) (path around : List ℕ) (k : ℕ) (post : List Stand) → CasesAt root tree sound pre rule path around k cases post → Finds root tree sound (alternative_nodes rule path around k cases) (alternatives_leaf cases) → AlternativesFine cases → (keys : Known) → ((s : ℕ) → keys s ≡ holds around s) → CasesLaid root keys cases
+    laid_cases no_alternatives pre rule path around k post p f fine keys same = tt
+    laid_cases (alternative name g tests more) pre rule path around k post p f fine keys same =
+        let a = nodes (alternative_role name tests rule) (path ++ k ∷ []) around g in
+        let b = alternative_nodes rule path around (suc k) more in
         let apart = parts_apart (nodes_of root) (numbers root tree sound) (rules root tree sound) pre a b post p.whole in
-        let first = first_case (nodes_of root) (numbers root tree sound) (rules root tree sound) pre path around k name g tests more post p in (
-          laid g pre (an_alternative name tests) (path ++ k ∷ []) around (b ++ post) first (finds_first root tree sound a b (slot_leaf g) (alternatives_leaf more) apart (no_cases_leaf more path around (suc k)) f) fine.0 keys same,
-          (λ s. false_from_ne_true (opens g s) (λ q. p.none s (opens_around g pre (an_alternative name tests) (path ++ k ∷ []) around (b ++ post) first s q) (any_left (field_is s) a b (opens_has g (an_alternative name tests) (path ++ k ∷ []) around s q)))),
-          laid_cases more (pre ++ a) path around (suc k) post (next_case (nodes_of root) (numbers root tree sound) (rules root tree sound) pre path around k name g tests more post p)
-              (finds_rest root tree sound a b (slot_leaf g) (alternatives_leaf more) apart (no_leaf g (an_alternative name tests) (path ++ k ∷ []) around) f) fine.1 keys same,
+        let first = first_case (nodes_of root) (numbers root tree sound) (rules root tree sound) pre rule path around k name g tests more post p in (
+          laid g pre (alternative_role name tests rule) (path ++ k ∷ []) around (b ++ post) first (finds_first root tree sound a b (slot_leaf g) (alternatives_leaf more) apart (no_cases_leaf more rule path around (suc k)) f) fine.0 keys same,
+          (λ s. false_from_ne_true (opens g s) (λ q. p.none s (opens_around g pre (alternative_role name tests rule) (path ++ k ∷ []) around (b ++ post) first s q) (any_left (field_is s) a b (opens_has g (alternative_role name tests rule) (path ++ k ∷ []) around s q)))),
+          laid_cases more (pre ++ a) rule path around (suc k) post (next_case (nodes_of root) (numbers root tree sound) (rules root tree sound) pre rule path around k name g tests more post p)
+              (finds_rest root tree sound a b (slot_leaf g) (alternatives_leaf more) apart (no_leaf g (alternative_role name tests rule) (path ++ k ∷ []) around) f) fine.1 keys same,
         )
 
   pub root_laid : Laid root (λ s. false) root

@@ -13,7 +13,8 @@ use Rattle.acn_grammar.specs.Leaves.{num_fine, is_range, no_items}
 use Rattle.acn_grammar.specs.Length.{num_length, least}
 use Rattle.acn_grammar.specs.Slots.{slot_leaf, fields_leaf, alternatives_leaf, number_leaf, first_of_two, is_slot as if_slot}
 use Rattle.acn_grammar.specs.Tree.{IsTree, is_slot, kind_inserted, form_fine, own_fine, presence_fine}
-use Rattle.acn_grammar.specs.Walk.{Stand, Role, a_component, an_inserted, an_alternative, an_element, a_content, root_node, nodes, nodes_of, form_nodes, field_nodes, alternative_nodes, slot_here}
+use Rattle.acn_grammar.specs.Walk.{Stand, Role, component_role, an_inserted, alternative_role, an_element, a_content, root_node, nodes, nodes_of, form_nodes, field_nodes, alternative_nodes, slot_here}
+use Rattle.acn_grammar.specs.declared.node.ChoiceRule.{ChoiceRule}
 use Rattle.acn_grammar.specs.declared.node.NumKind.{NumKind}
 use Rattle.acn_grammar.specs.declared.node.NumKind.TheVariants.{Integer, Boolean, Enumerated, Null}
 use Rattle.acn_grammar.specs.declared.node.NumLeaf.{NumLeaf}
@@ -58,7 +59,7 @@ mutual
   no_leaf (node align (seq fields home)) role path around s h = no_fields_leaf fields path (home ++ around) 0 s (or_parts (is_slot s (slot_here role)) (has_field s (field_nodes path (home ++ around) 0 fields)) h).1
   no_leaf (node align (list sizing g)) role path around s h = no_leaf g an_element (path ++ 0 ∷ []) around s (or_parts (is_slot s (slot_here role)) (has_field s (nodes an_element (path ++ 0 ∷ []) around g)) h).1
   no_leaf (node align (contained sizing g)) role path around s h = no_leaf g a_content (path ++ 0 ∷ []) around s (or_parts (is_slot s (slot_here role)) (has_field s (nodes a_content (path ++ 0 ∷ []) around g)) h).1
-  no_leaf (node align (choice cases rule)) role path around s h = no_cases_leaf cases path around 0 s (or_parts (is_slot s (slot_here role)) (has_field s (alternative_nodes path around 0 cases)) h).1
+  no_leaf (node align (choice cases rule)) role path around s h = no_cases_leaf cases rule path around 0 s (or_parts (is_slot s (slot_here role)) (has_field s (alternative_nodes rule path around 0 cases)) h).1
   no_leaf (node align (num leaf)) role path around s h = refl
   no_leaf (node align (octets sizing)) role path around s h = refl
   no_leaf (node align (bits sizing)) role path around s h = refl
@@ -67,10 +68,10 @@ mutual
   pub no_fields_leaf : (fs : Fields) (path around : List ℕ) (k s : ℕ) → has_field s (field_nodes path around k fs) ≡ false → fields_leaf fs s ≡ None
   no_fields_leaf no_fields path around k s h = refl
   no_fields_leaf (component name g presence default own fs) path around k s h =
-      let a = nodes (a_component name presence own) (path ++ k ∷ []) around g in
+      let a = nodes (component_role name presence default own) (path ++ k ∷ []) around g in
       let b = field_nodes path around (suc k) fs in
-      own_other own s (number_leaf g) (first_of_two (slot_leaf g s) (fields_leaf fs s)) (not_here (a_component name presence own) (path ++ k ∷ []) around g s (none_left s a b h))
-      ∙ none_of_two (slot_leaf g s) (fields_leaf fs s) (no_leaf g (a_component name presence own) (path ++ k ∷ []) around s (none_left s a b h)) (no_fields_leaf fs path around (suc k) s (none_right s a b h))
+      own_other own s (number_leaf g) (first_of_two (slot_leaf g s) (fields_leaf fs s)) (not_here (component_role name presence default own) (path ++ k ∷ []) around g s (none_left s a b h))
+      ∙ none_of_two (slot_leaf g s) (fields_leaf fs s) (no_leaf g (component_role name presence default own) (path ++ k ∷ []) around s (none_left s a b h)) (no_fields_leaf fs path around (suc k) s (none_right s a b h))
   no_fields_leaf (inserted name g None fs) path around k s h =
       let a = nodes (an_inserted name None) (path ++ k ∷ []) around g in
       let b = field_nodes path around (suc k) fs in
@@ -82,12 +83,12 @@ mutual
       if_other t s (number_leaf (node align form)) (first_of_two (slot_leaf (node align form) s) (fields_leaf fs s)) f.0
       ∙ none_of_two (slot_leaf (node align form) s) (fields_leaf fs s) (no_leaf (node align form) (an_inserted name (Some t)) (path ++ k ∷ []) around s (none_left s a b h)) (no_fields_leaf fs path around (suc k) s (none_right s a b h))
 
-  pub no_cases_leaf : (cases : Alternatives) (path around : List ℕ) (k s : ℕ) → has_field s (alternative_nodes path around k cases) ≡ false → alternatives_leaf cases s ≡ None
-  no_cases_leaf no_alternatives path around k s h = refl
-  no_cases_leaf (alternative name g tests more) path around k s h =
-      let a = nodes (an_alternative name tests) (path ++ k ∷ []) around g in
-      let b = alternative_nodes path around (suc k) more in
-      none_of_two (slot_leaf g s) (alternatives_leaf more s) (no_leaf g (an_alternative name tests) (path ++ k ∷ []) around s (none_left s a b h)) (no_cases_leaf more path around (suc k) s (none_right s a b h))
+  pub no_cases_leaf : (cases : Alternatives) (rule : ChoiceRule) (path around : List ℕ) (k s : ℕ) → has_field s (alternative_nodes rule path around k cases) ≡ false → alternatives_leaf cases s ≡ None
+  no_cases_leaf no_alternatives rule path around k s h = refl
+  no_cases_leaf (alternative name g tests more) rule path around k s h =
+      let a = nodes (alternative_role name tests rule) (path ++ k ∷ []) around g in
+      let b = alternative_nodes rule path around (suc k) more in
+      none_of_two (slot_leaf g s) (alternatives_leaf more s) (no_leaf g (alternative_role name tests rule) (path ++ k ∷ []) around s (none_left s a b h)) (no_cases_leaf more rule path around (suc k) s (none_right s a b h))
 
 -- Leaves of one width.
 
@@ -181,19 +182,19 @@ module _ (root : Grammar) (tree : IsTree root) (sound : (f : CheckFault) → Und
   own_steady : (pre : List Stand) (path around : List ℕ) (k : ℕ) (name : List ℕ) (g : Grammar) (presence : Presence) (default : Option (List ℕ)) (t : ℕ) (fs : Fields) (post : List Stand) → FieldsAt root tree sound pre path around k (component name g presence default (Some t) fs) post → Steady g
   own_steady pre path around k name (node align form) presence default t fs post p =
       let place = first_component (nodes_of root) (numbers root tree sound) (rules root tree sound) pre path around k name (node align form) presence default (Some t) fs post p in
-      let fine = place_fine (nodes_of root) (numbers root tree sound) (rules root tree sound) pre (a_component name presence (Some t)) (path ++ k ∷ []) around align form (field_nodes path around (suc k) fs ++ post) place in
+      let fine = place_fine (nodes_of root) (numbers root tree sound) (rules root tree sound) pre (component_role name presence default (Some t)) (path ++ k ∷ []) around align form (field_nodes path around (suc k) fs ++ post) place in
       number_steady align form (own_number (Some t) presence form t (and_parts (presence_fine presence) (own_fine (Some t) presence form) fine.role).1 (same_eq t)).1 fine.form
 
   -- behind it
   pub own_behind : (pre : List Stand) (path around : List ℕ) (k : ℕ) (name : List ℕ) (g : Grammar) (presence : Presence) (default : Option (List ℕ)) (t : ℕ) (fs : Fields) (post : List Stand) → FieldsAt root tree sound pre path around k (component name g presence default (Some t) fs) post
       → Finds (field_nodes path around k (component name g presence default (Some t) fs)) (fields_leaf (component name g presence default (Some t) fs)) → Finds (field_nodes path around (suc k) fs) (fields_leaf fs)
   own_behind pre path around k name g presence default t fs post p h s q =
-      let a = nodes (a_component name presence (Some t)) (path ++ k ∷ []) around g in
+      let a = nodes (component_role name presence default (Some t)) (path ++ k ∷ []) around g in
       let b = field_nodes path around (suc k) fs in
       let apart = parts_apart (nodes_of root) (numbers root tree sound) (rules root tree sound) pre a b post p.whole in
       h s (any_right (field_is s) a b q)
-      ∙ (if_other t s (number_leaf g) (first_of_two (slot_leaf g s) (fields_leaf fs s)) (false_from_ne_true (nat_eq t s) (λ e. apart s (slot_in (a_component name presence (Some t)) (path ++ k ∷ []) around g s e) q))
-      ∙ ap (λ o. first_of_two o (fields_leaf fs s)) (no_leaf g (a_component name presence (Some t)) (path ++ k ∷ []) around s (false_from_ne_true (has_field s a) (λ e. apart s e q))))
+      ∙ (if_other t s (number_leaf g) (first_of_two (slot_leaf g s) (fields_leaf fs s)) (false_from_ne_true (nat_eq t s) (λ e. apart s (slot_in (component_role name presence default (Some t)) (path ++ k ∷ []) around g s e) q))
+      ∙ ap (λ o. first_of_two o (fields_leaf fs s)) (no_leaf g (component_role name presence default (Some t)) (path ++ k ∷ []) around s (false_from_ne_true (has_field s a) (λ e. apart s e q))))
 
   mutual
     pub steady : (g : Grammar) (pre : List Stand) (role : Role) (path around : List ℕ) (post : List Stand) → At root tree sound pre role path around g post → Finds (nodes role path around g) (slot_leaf g) → Steady g
@@ -211,13 +212,13 @@ module _ (root : Grammar) (tree : IsTree root) (sound : (f : CheckFault) → Und
         steady g (pre ++ here_at role path around align (contained sizing g) ∷ []) a_content (path ++ 0 ∷ []) around post (to_one (nodes_of root) (numbers root tree sound) (rules root tree sound) pre role path around align (contained sizing g) post a_content (path ++ 0 ∷ []) g refl refl p)
         (λ s h. f s (or_right (is_slot s (slot_here role)) (has_field s (nodes a_content (path ++ 0 ∷ []) around g)) h))
     steady (node align (choice cases rule)) pre role path around post p f =
-        steady_cases cases (pre ++ here_at role path around align (choice cases rule) ∷ []) path around 0 post (to_cases (nodes_of root) (numbers root tree sound) (rules root tree sound) pre role path around align cases rule post p)
-        (λ s h. f s (or_right (is_slot s (slot_here role)) (has_field s (alternative_nodes path around 0 cases)) h))
+        steady_cases cases (pre ++ here_at role path around align (choice cases rule) ∷ []) rule path around 0 post (to_cases (nodes_of root) (numbers root tree sound) (rules root tree sound) pre role path around align cases rule post p)
+        (λ s h. f s (or_right (is_slot s (slot_here role)) (has_field s (alternative_nodes rule path around 0 cases)) h))
 
     steady_fields : (fs : Fields) (pre : List Stand) (path around : List ℕ) (k : ℕ) (post : List Stand) → FieldsAt root tree sound pre path around k fs post → Finds (field_nodes path around k fs) (fields_leaf fs) → SteadyFields fs
     steady_fields no_fields pre path around k post p f = tt
     steady_fields (component name g presence default (Some t) fs) pre path around k post p f =
-        let a = nodes (a_component name presence (Some t)) (path ++ k ∷ []) around g in
+        let a = nodes (component_role name presence default (Some t)) (path ++ k ∷ []) around g in
         let b = field_nodes path around (suc k) fs in
         let apart = parts_apart (nodes_of root) (numbers root tree sound) (rules root tree sound) pre a b post p.whole in (
           own_steady pre path around k name g presence default t fs post p,
@@ -226,13 +227,13 @@ module _ (root : Grammar) (tree : IsTree root) (sound : (f : CheckFault) → Und
         )
     steady_fields (component name g presence default None fs) pre path around k post p f =
         let own : Option ℕ = None in
-        let a = nodes (a_component name presence own) (path ++ k ∷ []) around g in
+        let a = nodes (component_role name presence default own) (path ++ k ∷ []) around g in
         let b = field_nodes path around (suc k) fs in
         let apart = parts_apart (nodes_of root) (numbers root tree sound) (rules root tree sound) pre a b post p.whole in (
-          steady g pre (a_component name presence own) (path ++ k ∷ []) around (b ++ post) (first_component (nodes_of root) (numbers root tree sound) (rules root tree sound) pre path around k name g presence default own fs post p)
+          steady g pre (component_role name presence default own) (path ++ k ∷ []) around (b ++ post) (first_component (nodes_of root) (numbers root tree sound) (rules root tree sound) pre path around k name g presence default own fs post p)
               (finds_first a b (slot_leaf g) (fields_leaf fs) apart (no_fields_leaf fs path around (suc k)) f),
           steady_fields fs (pre ++ a) path around (suc k) post (next_component (nodes_of root) (numbers root tree sound) (rules root tree sound) pre path around k name g presence default own fs post p)
-              (finds_rest a b (slot_leaf g) (fields_leaf fs) apart (no_leaf g (a_component name presence own) (path ++ k ∷ []) around) f),
+              (finds_rest a b (slot_leaf g) (fields_leaf fs) apart (no_leaf g (component_role name presence default own) (path ++ k ∷ []) around) f),
         )
     steady_fields (inserted name g None fs) pre path around k post p f =
         let a = nodes (an_inserted name None) (path ++ k ∷ []) around g in
@@ -252,16 +253,16 @@ module _ (root : Grammar) (tree : IsTree root) (sound : (f : CheckFault) → Und
         )
     steady_fields (inserted name (node align _) (Some t) fs) pre path around k post p f = absurd (inserted_is root tree sound pre path around k name (node align _) (Some t) fs post p)
 
-    steady_cases : (cases : Alternatives) (pre : List Stand) (path around : List ℕ) (k : ℕ) (post : List Stand) → CasesAt root tree sound pre path around k cases post → Finds (alternative_nodes path around k cases) (alternatives_leaf cases) → SteadyAlternatives cases
-    steady_cases no_alternatives pre path around k post p f = tt
-    steady_cases (alternative name g tests more) pre path around k post p f =
-        let a = nodes (an_alternative name tests) (path ++ k ∷ []) around g in
-        let b = alternative_nodes path around (suc k) more in
+    steady_cases : (cases : Alternatives) (pre : List Stand) (rule : ChoiceRule) (path around : List ℕ) (k : ℕ) (post : List Stand) → CasesAt root tree sound pre rule path around k cases post → Finds (alternative_nodes rule path around k cases) (alternatives_leaf cases) → SteadyAlternatives cases
+    steady_cases no_alternatives pre rule path around k post p f = tt
+    steady_cases (alternative name g tests more) pre rule path around k post p f =
+        let a = nodes (alternative_role name tests rule) (path ++ k ∷ []) around g in
+        let b = alternative_nodes rule path around (suc k) more in
         let apart = parts_apart (nodes_of root) (numbers root tree sound) (rules root tree sound) pre a b post p.whole in (
-          steady g pre (an_alternative name tests) (path ++ k ∷ []) around (b ++ post) (first_case (nodes_of root) (numbers root tree sound) (rules root tree sound) pre path around k name g tests more post p)
-              (finds_first a b (slot_leaf g) (alternatives_leaf more) apart (no_cases_leaf more path around (suc k)) f),
-          steady_cases more (pre ++ a) path around (suc k) post (next_case (nodes_of root) (numbers root tree sound) (rules root tree sound) pre path around k name g tests more post p)
-              (finds_rest a b (slot_leaf g) (alternatives_leaf more) apart (no_leaf g (an_alternative name tests) (path ++ k ∷ []) around) f),
+          steady g pre (alternative_role name tests rule) (path ++ k ∷ []) around (b ++ post) (first_case (nodes_of root) (numbers root tree sound) (rules root tree sound) pre rule path around k name g tests more post p)
+              (finds_first a b (slot_leaf g) (alternatives_leaf more) apart (no_cases_leaf more rule path around (suc k)) f),
+          steady_cases more (pre ++ a) rule path around (suc k) post (next_case (nodes_of root) (numbers root tree sound) (rules root tree sound) pre rule path around k name g tests more post p)
+              (finds_rest a b (slot_leaf g) (alternatives_leaf more) apart (no_leaf g (alternative_role name tests rule) (path ++ k ∷ []) around) f),
         )
 
   pub root_steady : Steady root
@@ -278,7 +279,7 @@ mutual
   steady_at (node align (seq fields home)) role path around w (suc n) at e = steady_fields_at fields path (home ++ around) 0 w n at e
   steady_at (node align (list sizing g)) role path around w (suc n) at e = steady_at g an_element (path ++ 0 ∷ []) around w n at e
   steady_at (node align (contained sizing g)) role path around w (suc n) at e = steady_at g a_content (path ++ 0 ∷ []) around w n at e
-  steady_at (node align (choice cases rule)) role path around w (suc n) at e = steady_cases_at cases path around 0 w n at e
+  steady_at (node align (choice cases rule)) role path around w (suc n) at e = steady_cases_at cases rule path around 0 w n at e
   steady_at (node align (num leaf)) role path around w (suc n) at e = cc
   steady_at (node align (octets sizing)) role path around w (suc n) at e = cc
   steady_at (node align (bits sizing)) role path around w (suc n) at e = cc
@@ -287,8 +288,8 @@ mutual
   steady_fields_at : (fs : Fields) (path around : List ℕ) (k : ℕ) → SteadyFields fs → (n : ℕ) (at : Stand) → slice_get (field_nodes path around k fs) n ≡ Some at → Steady (node at.align at.form)
   steady_fields_at no_fields path around k w n at e = cc
   steady_fields_at (component name g presence default own fs) path around k w n at e =
-      in_either {F = Steady (node at.align at.form)} (nodes (a_component name presence own) (path ++ k ∷ []) around g) (field_nodes path around (suc k) fs) n at e
-      (λ h. steady_at g (a_component name presence own) (path ++ k ∷ []) around w.0 n at h) (λ m q h. steady_fields_at fs path around (suc k) w.1 m at h)
+      in_either {F = Steady (node at.align at.form)} (nodes (component_role name presence default own) (path ++ k ∷ []) around g) (field_nodes path around (suc k) fs) n at e
+      (λ h. steady_at g (component_role name presence default own) (path ++ k ∷ []) around w.0 n at h) (λ m q h. steady_fields_at fs path around (suc k) w.1 m at h)
   steady_fields_at (inserted name g (Some s) fs) path around k w n at e =
       in_either {F = Steady (node at.align at.form)} (nodes (an_inserted name (Some s)) (path ++ k ∷ []) around g) (field_nodes path around (suc k) fs) n at e
       (λ h. steady_at g (an_inserted name (Some s)) (path ++ k ∷ []) around (steady_leaf g w.0) n at h) (λ m q h. steady_fields_at fs path around (suc k) w.1 m at h)
@@ -296,11 +297,11 @@ mutual
       in_either {F = Steady (node at.align at.form)} (nodes (an_inserted name None) (path ++ k ∷ []) around g) (field_nodes path around (suc k) fs) n at e
       (λ h. steady_at g (an_inserted name None) (path ++ k ∷ []) around (steady_leaf g w.0) n at h) (λ m q h. steady_fields_at fs path around (suc k) w.1 m at h)
 
-  steady_cases_at : (cases : Alternatives) (path around : List ℕ) (k : ℕ) → SteadyAlternatives cases → (n : ℕ) (at : Stand) → slice_get (alternative_nodes path around k cases) n ≡ Some at → Steady (node at.align at.form)
-  steady_cases_at no_alternatives path around k w n at e = cc
-  steady_cases_at (alternative name g tests more) path around k w n at e =
-      in_either {F = Steady (node at.align at.form)} (nodes (an_alternative name tests) (path ++ k ∷ []) around g) (alternative_nodes path around (suc k) more) n at e
-      (λ h. steady_at g (an_alternative name tests) (path ++ k ∷ []) around w.0 n at h) (λ m q h. steady_cases_at more path around (suc k) w.1 m at h)
+  steady_cases_at : (cases : Alternatives) (rule : ChoiceRule) (path around : List ℕ) (k : ℕ) → SteadyAlternatives cases → (n : ℕ) (at : Stand) → slice_get (alternative_nodes rule path around k cases) n ≡ Some at → Steady (node at.align at.form)
+  steady_cases_at no_alternatives rule path around k w n at e = cc
+  steady_cases_at (alternative name g tests more) rule path around k w n at e =
+      in_either {F = Steady (node at.align at.form)} (nodes (alternative_role name tests rule) (path ++ k ∷ []) around g) (alternative_nodes rule path around (suc k) more) n at e
+      (λ h. steady_at g (alternative_role name tests rule) (path ++ k ∷ []) around w.0 n at h) (λ m q h. steady_cases_at more rule path around (suc k) w.1 m at h)
 
 pub lengths_told : LengthsAreTold
 lengths_told root mode d bs accepted t = length_law root mode root (root_steady root accepted.formed (accepted_sound root accepted)) [] d 0 bs t

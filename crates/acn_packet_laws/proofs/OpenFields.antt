@@ -5,7 +5,8 @@ use Rattle.std.specs.List.{list_any, list_all, flat_map}
 use Rattle.acn_grammar.specs.Check.{CheckFault, Undecodable, unused}
 use Rattle.acn_grammar.specs.Grammar.{Grammar, Form, Fields, Alternatives, node, num, octets, bits, text, seq, list, choice, contained, no_fields, component, inserted, no_alternatives, alternative}
 use Rattle.acn_grammar.specs.Tree.{IsTree, holds, home_fine, stand_rules, all_true}
-use Rattle.acn_grammar.specs.Walk.{Stand, Role, root_node, a_component, an_inserted, an_alternative, an_element, a_content, nodes, form_nodes, field_nodes, alternative_nodes, nodes_of, slot_of, uses, Use}
+use Rattle.acn_grammar.specs.Walk.{Stand, Role, root_node, component_role, an_inserted, alternative_role, an_element, a_content, nodes, form_nodes, field_nodes, alternative_nodes, nodes_of, slot_of, uses, Use}
+use Rattle.acn_grammar.specs.declared.node.ChoiceRule.{ChoiceRule}
 use Rattle.acn_grammar.proofs.TreeRules.{StandFine, stand_fine}
 use Rattle.acn_packet_laws.proofs.Placed.{any_left, any_right, holds_left, holds_right, holds_either, has_field, field_is, near_has, home_near, tree_numbered, tree_rules, here_at, list_all-holds}
 use Rattle.acn_packet_laws.proofs.Scoping.{find_field, same_eq}
@@ -47,20 +48,20 @@ mutual
   form_grows (text leaf) path around = tt
   form_grows (seq fields home) path around = each_map (Inside (home ++ around)) (Inside around) (λ at f s h. f s (holds_right home around s h)) (field_nodes path (home ++ around) 0 fields) (fields_grow fields path (home ++ around) 0)
   form_grows (list sizing g) path around = grows g an_element (path ++ 0 ∷ []) around
-  form_grows (choice cases rule) path around = cases_grow cases path around 0
+  form_grows (choice cases rule) path around = cases_grow cases rule path around 0
   form_grows (contained sizing g) path around = grows g a_content (path ++ 0 ∷ []) around
 
   fields_grow : (fs : Fields) (path around : List ℕ) (k : ℕ) → Each (Inside around) (field_nodes path around k fs)
   fields_grow no_fields path around k = tt
   fields_grow (component name g presence default own fs) path around k =
-      each_both (Inside around) (nodes (a_component name presence own) (path ++ k ∷ []) around g) (field_nodes path around (suc k) fs) (grows g (a_component name presence own) (path ++ k ∷ []) around) (fields_grow fs path around (suc k))
+      each_both (Inside around) (nodes (component_role name presence default own) (path ++ k ∷ []) around g) (field_nodes path around (suc k) fs) (grows g (component_role name presence default own) (path ++ k ∷ []) around) (fields_grow fs path around (suc k))
   fields_grow (inserted name g slot fs) path around k =
       each_both (Inside around) (nodes (an_inserted name slot) (path ++ k ∷ []) around g) (field_nodes path around (suc k) fs) (grows g (an_inserted name slot) (path ++ k ∷ []) around) (fields_grow fs path around (suc k))
 
-  cases_grow : (cases : Alternatives) (path around : List ℕ) (k : ℕ) → Each (Inside around) (alternative_nodes path around k cases)
-  cases_grow no_alternatives path around k = tt
-  cases_grow (alternative name g tests more) path around k =
-      each_both (Inside around) (nodes (an_alternative name tests) (path ++ k ∷ []) around g) (alternative_nodes path around (suc k) more) (grows g (an_alternative name tests) (path ++ k ∷ []) around) (cases_grow more path around (suc k))
+  cases_grow : (cases : Alternatives) (rule : ChoiceRule) (path around : List ℕ) (k : ℕ) → Each (Inside around) (alternative_nodes rule path around k cases)
+  cases_grow no_alternatives rule path around k = tt
+  cases_grow (alternative name g tests more) rule path around k =
+      each_both (Inside around) (nodes (alternative_role name tests rule) (path ++ k ∷ []) around g) (alternative_nodes rule path around (suc k) more) (grows g (alternative_role name tests rule) (path ++ k ∷ []) around) (cases_grow more rule path around (suc k))
 
 -- a field of the slot stands where the slot is open
 abbrev pub open_field : ℕ → List Stand → Bool
@@ -118,7 +119,7 @@ module _ (root : Grammar) (tree : IsTree root) where
     form_come (bits sizing) role path around align f h = tt
     form_come (text leaf) role path around align f h = tt
     form_come (list sizing g) role path around align f h = come g an_element (path ++ 0 ∷ []) around h
-    form_come (choice cases rule) role path around align f h = cases_come cases path around 0 h
+    form_come (choice cases rule) role path around align f h = cases_come cases rule path around 0 h
     form_come (contained sizing g) role path around align f h = come g a_content (path ++ 0 ∷ []) around h
     form_come (seq fields home) role path around align f h =
         each_map (Comes (home ++ around) (field_nodes path (home ++ around) 0 fields)) (Comes around (field_nodes path (home ++ around) 0 fields)) (λ at c s o. by s (c s o)) (field_nodes path (home ++ around) 0 fields) (fields_come fields path (home ++ around) 0 h)
@@ -135,20 +136,20 @@ module _ (root : Grammar) (tree : IsTree root) where
     fields_come : (fs : Fields) (path around : List ℕ) (k : ℕ) → Each Homes (field_nodes path around k fs) → Each (Comes around (field_nodes path around k fs)) (field_nodes path around k fs)
     fields_come no_fields path around k h = tt
     fields_come (component name g presence default own fs) path around k h =
-        let a = nodes (a_component name presence own) (path ++ k ∷ []) around g in
+        let a = nodes (component_role name presence default own) (path ++ k ∷ []) around g in
         let b = field_nodes path around (suc k) fs in
-        both_come around (nodes (a_component name presence own) (path ++ k ∷ []) around g) (field_nodes path around (suc k) fs) (come g (a_component name presence own) (path ++ k ∷ []) around (each_left Homes a b h)) (fields_come fs path around (suc k) (each_right Homes a b h))
+        both_come around (nodes (component_role name presence default own) (path ++ k ∷ []) around g) (field_nodes path around (suc k) fs) (come g (component_role name presence default own) (path ++ k ∷ []) around (each_left Homes a b h)) (fields_come fs path around (suc k) (each_right Homes a b h))
     fields_come (inserted name g slot fs) path around k h =
         let a = nodes (an_inserted name slot) (path ++ k ∷ []) around g in
         let b = field_nodes path around (suc k) fs in
         both_come around (nodes (an_inserted name slot) (path ++ k ∷ []) around g) (field_nodes path around (suc k) fs) (come g (an_inserted name slot) (path ++ k ∷ []) around (each_left Homes a b h)) (fields_come fs path around (suc k) (each_right Homes a b h))
 
-    cases_come : (cases : Alternatives) (path around : List ℕ) (k : ℕ) → Each Homes (alternative_nodes path around k cases) → Each (Comes around (alternative_nodes path around k cases)) (alternative_nodes path around k cases)
-    cases_come no_alternatives path around k h = tt
-    cases_come (alternative name g tests more) path around k h =
-        let a = nodes (an_alternative name tests) (path ++ k ∷ []) around g in
-        let b = alternative_nodes path around (suc k) more in
-        both_come around (nodes (an_alternative name tests) (path ++ k ∷ []) around g) (alternative_nodes path around (suc k) more) (come g (an_alternative name tests) (path ++ k ∷ []) around (each_left Homes a b h)) (cases_come more path around (suc k) (each_right Homes a b h))
+    cases_come : (cases : Alternatives) (rule : ChoiceRule) (path around : List ℕ) (k : ℕ) → Each Homes (alternative_nodes rule path around k cases) → Each (Comes around (alternative_nodes rule path around k cases)) (alternative_nodes rule path around k cases)
+    cases_come no_alternatives rule path around k h = tt
+    cases_come (alternative name g tests more) rule path around k h =
+        let a = nodes (alternative_role name tests rule) (path ++ k ∷ []) around g in
+        let b = alternative_nodes rule path around (suc k) more in
+        both_come around (nodes (alternative_role name tests rule) (path ++ k ∷ []) around g) (alternative_nodes rule path around (suc k) more) (come g (alternative_role name tests rule) (path ++ k ∷ []) around (each_left Homes a b h)) (cases_come more rule path around (suc k) (each_right Homes a b h))
 
   -- The rules of all nodes.
 
