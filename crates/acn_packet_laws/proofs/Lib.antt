@@ -21,6 +21,7 @@ mod EndedTotal
 mod Envs
 mod Exclusion
 mod ExclusionLaws
+mod FailurePaths
 mod FineNodes
 mod FirstFaults
 mod FirstUnmets
@@ -53,6 +54,7 @@ mod NodeTotal
 mod NumberRows
 mod NumberTotal
 mod Occurrences
+mod OnPaths
 mod OneFault
 mod OneRefusals
 mod OneWriting
@@ -64,6 +66,7 @@ mod PlaceRows
 pub mod Placed
 mod PrefixNodes
 mod Reaches
+mod RefusalPaths
 mod RefusedUnspelled
 mod RequestRows
 mod Rows

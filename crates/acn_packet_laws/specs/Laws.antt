@@ -1,6 +1,6 @@
 -- Laws of the definitions, as contracts name them.
-use Rattle.std.specs.Prelude.{◌*◌, ◌≡◌, ◌≢◌, ℕ, ◌+◌, ◌≤◌, ◌<◌, ℤ, Bool, true, false, List, [], ◌∷◌, ◌++◌, length, map, take, slice_get, Some, IsTrue, ◌⊎◌}
-use Rattle.std.specs.List.{flat_map}
+use Rattle.std.specs.Prelude.{◌*◌, ◌≡◌, ◌≢◌, ℕ, ◌+◌, ◌≤◌, ◌<◌, ℤ, Bool, true, false, List, [], ◌∷◌, ◌++◌, length, map, take, slice_get, Some, IsSome, IsTrue, ◌⊎◌}
+use Rattle.std.specs.List.{AllByRecursion, flat_map}
 use Rattle.acn_grammar.specs.Grammar.{Grammar, Fields, Data, node, seq}
 use Rattle.acn_grammar.specs.Asks.{moments, field_path}
 use Rattle.acn_grammar.specs.AsksOn.{form_asks_on}
@@ -14,9 +14,10 @@ use Rattle.acn_grammar.specs.Interval.{span, width_of}
 use Rattle.acn_grammar.specs.LeafFails.{Reason, LeafFails, short}
 use Rattle.acn_grammar.specs.Length.{bit_length}
 use Rattle.acn_grammar.specs.Leaves.{num_fine}
-use Rattle.acn_grammar.specs.Meets.{Meets, Unfit, breaches}
+use Rattle.acn_grammar.specs.Meets.{Meets, Why, Unfit, conflict, breaches}
 use Rattle.acn_grammar.specs.Refused.{Refused, asks_of}
 use Rattle.acn_grammar.specs.PartAt.{part_at, occurrence}
+use Rattle.acn_grammar.specs.Paths.{node_on}
 use Rattle.acn_grammar.specs.Scoped.{Known, Agree, after, FineField, Permitted, Scoped}
 use Rattle.acn_grammar.specs.Shaped.{Shaped}
 use Rattle.acn_grammar.specs.Sound.{Sound}
@@ -234,3 +235,26 @@ RefusedIsNotSpelled = (root : Grammar) (mode : Mode) (d : Data) (u : Unfit) (bs 
 -- a value is refused for one reason, at one place
 abbrev pub OneRefusal : Type 0
 OneRefusal = (root : Grammar) (d : Data) (u w : Unfit) → Refused root d u → Refused root d w → u ≡ w
+
+-- Paths.
+
+-- the path, one of a value, leads to a node
+abbrev pub LeadsToANode : Grammar → (path : List ℕ) → Type 0
+LeadsToANode root path = IsSome (node_on root path)
+
+-- a failure is named for a node
+abbrev pub FailuresAreAtNodes : Type 0
+FailuresAreAtNodes = (root : Grammar) (input : List Bool) (fault : Fault) (reach : ℕ) → Refusal root input fault reach → LeadsToANode root fault.path
+
+-- so is each breach of a value
+abbrev pub BreachesAreAtNodes : Type 0
+BreachesAreAtNodes = (root : Grammar) (d : Data) → AllByRecursion (λ u. LeadsToANode root u.path) (breaches [] root d)
+
+-- the field that a conflict names is a node too
+abbrev pub ReasonLeads : Grammar → Why → Type 0
+ReasonLeads root (conflict field earlier wanted) = LeadsToANode root field
+ReasonLeads root _ = Unit {0}
+
+-- and so is what a value is refused for
+abbrev pub RefusalsAreAtNodes : Type 0
+RefusalsAreAtNodes = (root : Grammar) (d : Data) (u : Unfit) → Refused root d u → LeadsToANode root u.path × ReasonLeads root u.why

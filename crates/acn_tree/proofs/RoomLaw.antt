@@ -8,7 +8,7 @@ use Rattle.acn_num.specs.Ranges.{has, are_ranges, all_within}
 use Rattle.acn_grammar.specs.Grammar.{Grammar, Form, Fields, Alternatives, node, num, octets, bits, text, seq, list, choice, contained, no_fields, component, inserted, no_alternatives, alternative}
 use Rattle.acn_grammar.specs.Leaves.{list_fine, list_rule_fine, sizes_fine}
 use Rattle.acn_grammar.specs.Length.{ending}
-use Rattle.acn_tree.specs.NodeAt.{node_at, child, field_at, alternative_at, only, if_some}
+use Rattle.acn_grammar.specs.Paths.{node_at, child, field_at, alternative_at, only, if_some}
 use Rattle.acn_tree.specs.Room.{InTree, HasRoom, FormHasRoom, FieldsHaveRoom, AlternativesHaveRoom, SizesAreSmall, field_count}
 use Rattle.acn_grammar.specs.Tree.{IsTree, form_fine, stand_rules, all_true, same_numbers, slots_of}
 use Rattle.acn_grammar.specs.Walk.{Stand, Role, component_role, an_inserted, alternative_role, an_element, a_content, root_node, nodes, form_nodes, field_nodes, alternative_nodes, nodes_of}
@@ -132,7 +132,7 @@ mutual
   fewer_alternatives no_alternatives j k l h = tt
   fewer_alternatives (alternative name g tests more) j k l h = (fewer g j k l h.0, fewer_alternatives more j k l h.1)
 
-some_is : (a b : Grammar) → Some a ≡ Some b → a ≡ b
+pub some_is : (a b : Grammar) → Some a ≡ Some b → a ≡ b
 some_is a b e = cc
 
 room_field : (fs : Fields) (i k : ℕ) (h : Grammar) → FieldsHaveRoom k fs → field_at fs i ≡ Some h → HasRoom k h
@@ -161,13 +161,13 @@ room_child (node align (list sizing g)) i k h r e = room_only g i (suc k) h r.1.
 room_child (node align (choice cases rule)) i k h r e = room_alternative cases i (suc k) h r.1 e
 room_child (node align (contained sizing g)) i k h r e = room_only g i (suc k) h r.1 e
 
-room_after : (o : Option Grammar) (step : Grammar → Option Grammar) (h : Grammar) (F : Type 0) → if_some o step ≡ Some h → ((inside : Grammar) → o ≡ Some inside → step inside ≡ Some h → F) → F
-room_after None step h F e f = cc
-room_after (Some inside) step h F e f = f inside refl e
+pub after_step : (o : Option Grammar) (step : Grammar → Option Grammar) (h : Grammar) (F : Type 0) → if_some o step ≡ Some h → ((inside : Grammar) → o ≡ Some inside → step inside ≡ Some h → F) → F
+after_step None step h F e f = cc
+after_step (Some inside) step h F e f = f inside refl e
 
 room_path : (path : List ℕ) (g h : Grammar) → HasRoom 0 g → node_at g path ≡ Some h → HasRoom 0 h
 room_path [] g h r e = subst (HasRoom 0) (some_is g h e) r
-room_path (i ∷ path) g h r e = room_after (child g i) (λ inside. node_at inside path) h (HasRoom 0 h) e (λ inside c k. room_path path inside h (fewer inside 0 1 (omega arith) (room_child g i 0 inside r c)) k)
+room_path (i ∷ path) g h r e = after_step (child g i) (λ inside. node_at inside path) h (HasRoom 0 h) e (λ inside c k. room_path path inside h (fewer inside 0 1 (omega arith) (room_child g i 0 inside r c)) k)
 
 -- the node is one of a well-formed tree, so each path below it can be written down
 pub room-in-tree : (g : Grammar) → InTree g → HasRoom 0 g
