@@ -42,10 +42,14 @@ abbrev pub if_some : Option Grammar → (Grammar → Option Grammar) → Option 
 if_some None step = None
 if_some (Some g) step = step g
 
+-- the node that a path leads to, by what one step leads to
+abbrev pub node_along : (step : Grammar → ℕ → Option Grammar) → Grammar → List ℕ → Option Grammar
+node_along step g [] = Some g
+node_along step g (k ∷ path) = if_some (step g k) (λ inside. node_along step inside path)
+
 -- the node of a path
 abbrev pub node_at : Grammar → List ℕ → Option Grammar
-node_at g [] = Some g
-node_at g (k ∷ path) = if_some (child g k) (λ inside. node_at inside path)
+node_at root path = node_along child root path
 
 -- The same along a path of a value.
 
@@ -62,5 +66,4 @@ part_node (node align form) k = form_part_node form k
 
 -- the node that the part of a value at this path is of
 abbrev pub node_on : Grammar → List ℕ → Option Grammar
-node_on g [] = Some g
-node_on g (k ∷ path) = if_some (part_node g k) (λ inside. node_on inside path)
+node_on root path = node_along part_node root path

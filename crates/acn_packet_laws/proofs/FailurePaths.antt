@@ -8,6 +8,7 @@ use Rattle.acn_grammar.specs.Grammar.{Grammar, Form, Fields, Alternatives, Data,
 use Rattle.acn_grammar.specs.Interval.{size_of}
 use Rattle.acn_grammar.specs.LeafFails.{Reason, short, octet_values}
 use Rattle.acn_grammar.specs.Length.{index_width, ending}
+use Rattle.acn_grammar.specs.Paths.{part_node}
 use Rattle.acn_grammar.specs.Spell.{Part, Where, Padding, SizePart, Carries, Spell, SlotField, octet_numbers, with_home}
 use Rattle.acn_grammar.specs.declared.node.ChoiceRule.{ChoiceRule}
 use Rattle.acn_grammar.specs.declared.node.ChoiceRule.TheVariants.{Index, Tests, Item}
@@ -131,56 +132,56 @@ module _ (root : Grammar) where
   some_named F h at rest fault reach t = h t.0 at rest fault reach t.1
 
   mutual
-    node_named : (g : Grammar) (env : Env) (inside : Bool) (origin : ℕ) (path : List ℕ) → On root path g → Named (Fails root g env inside origin path)
+    node_named : (g : Grammar) (env : Env) (inside : Bool) (origin : ℕ) (path : List ℕ) → On part_node root path g → Named (Fails root g env inside origin path)
     node_named (node align form) env inside origin path on at rest fault reach (inl t) =
-        says_named (record { path = path; place = origin + at; inside = inside }) short fault (is_some root path (node align form) on) t.1
+        says_named (record { path = path; place = origin + at; inside = inside }) short fault (is_some part_node root path (node align form) on) t.1
     node_named (node align form) env inside origin path on at rest fault reach (inr t) =
         let here : Here = record { path = path; place = origin + at; inside = inside } in
         behind_named (Padding Any align) (FormFails root form env here origin) (form_named form align env here origin on) at rest fault reach t
 
-    form_named : (form : Form) (align : ℕ) (env : Env) (here : Here) (origin : ℕ) → On root here.path (node align form) → Named (FormFails root form env here origin)
-    form_named (num leaf) align env here origin on at rest fault reach t = says_named here t.0 fault (is_some root here.path (node align (num leaf)) on) t.2
-    form_named (octets sizing) align env here origin on at rest fault reach t = parts_named here 8 sizing env (is_some root here.path (node align (octets sizing)) on) at rest fault reach t
-    form_named (bits sizing) align env here origin on at rest fault reach t = parts_named here 1 sizing env (is_some root here.path (node align (bits sizing)) on) at rest fault reach t
-    form_named (text leaf) align env here origin on at rest fault reach t = text_named leaf.ended here leaf env (is_some root here.path (node align (text leaf)) on) at rest fault reach t
-    form_named (seq _ home) align env here origin on at rest fault reach (inl t) = says_named here short fault (is_some root here.path (node align (seq _ home)) on) t.1
+    form_named : (form : Form) (align : ℕ) (env : Env) (here : Here) (origin : ℕ) → On part_node root here.path (node align form) → Named (FormFails root form env here origin)
+    form_named (num leaf) align env here origin on at rest fault reach t = says_named here t.0 fault (is_some part_node root here.path (node align (num leaf)) on) t.2
+    form_named (octets sizing) align env here origin on at rest fault reach t = parts_named here 8 sizing env (is_some part_node root here.path (node align (octets sizing)) on) at rest fault reach t
+    form_named (bits sizing) align env here origin on at rest fault reach t = parts_named here 1 sizing env (is_some part_node root here.path (node align (bits sizing)) on) at rest fault reach t
+    form_named (text leaf) align env here origin on at rest fault reach t = text_named leaf.ended here leaf env (is_some part_node root here.path (node align (text leaf)) on) at rest fault reach t
+    form_named (seq _ home) align env here origin on at rest fault reach (inl t) = says_named here short fault (is_some part_node root here.path (node align (seq _ home)) on) t.1
     form_named (seq fields home) align env here origin on at rest fault reach (inr t) =
         after_named (presence_count fields) (λ flags. FieldsFail root fields (with_home home t.0 env) flags here origin 0)
-        (λ flags. fields_named fields (with_home home t.0 env) flags here origin 0 (is_some root here.path (node align (seq fields home)) on) (all_fields root here.path align fields home on)) at rest fault reach t.3
+        (λ flags. fields_named fields (with_home home t.0 env) flags here origin 0 (is_some part_node root here.path (node align (seq fields home)) on) (all_fields part_node root here.path align fields home (λ m. refl) on)) at rest fault reach t.3
     form_named (list sizing g) align env here origin on at rest fault reach t =
-        list_named (ending sizing.rule) here sizing env (Spell root Any g env) (λ k. Fails root g env here.inside origin (here.path ++ k ∷ [])) (is_some root here.path (node align (list sizing g)) on)
-        (λ k. node_named g env here.inside origin (here.path ++ k ∷ []) (one_further here.path k root (node align (list sizing g)) g on refl)) at rest fault reach t
-    form_named (choice cases rule) align env here origin on at rest fault reach (inl t) = index_named here rule cases env (is_some root here.path (node align (choice cases rule)) on) at rest fault reach t
+        list_named (ending sizing.rule) here sizing env (Spell root Any g env) (λ k. Fails root g env here.inside origin (here.path ++ k ∷ [])) (is_some part_node root here.path (node align (list sizing g)) on)
+        (λ k. node_named g env here.inside origin (here.path ++ k ∷ []) (one_further part_node here.path k root (node align (list sizing g)) g on refl)) at rest fault reach t
+    form_named (choice cases rule) align env here origin on at rest fault reach (inl t) = index_named here rule cases env (is_some part_node root here.path (node align (choice cases rule)) on) at rest fault reach t
     form_named (choice cases rule) align env here origin on at rest fault reach (inr t) =
         after_named (index_width rule) (λ _. AlternativeFails root cases rule env here origin t.0 t.0)
-        (λ _. case_named cases rule env here origin t.0 t.0 (λ h is. one_further here.path t.0 root (node align (choice cases rule)) h on is)) at rest fault reach t.2
-    form_named (contained sizing g) align env here origin on at rest fault reach (inl t) = rule_named here sizing sizing.rule env (is_some root here.path (node align (contained sizing g)) on) at rest fault reach t
+        (λ _. case_named cases rule env here origin t.0 t.0 (λ h is. one_further part_node here.path t.0 root (node align (choice cases rule)) h on is)) at rest fault reach t.2
+    form_named (contained sizing g) align env here origin on at rest fault reach (inl t) = rule_named here sizing sizing.rule env (is_some part_node root here.path (node align (contained sizing g)) on) at rest fault reach t
     form_named (contained sizing g) align env here origin on at rest fault reach (inr t) =
         sized_named sizing env (λ n. WindowFails here n (ContentFails g env here origin n))
-        (λ n. window_named here n (ContentFails g env here origin n) (is_some root here.path (node align (contained sizing g)) on)
-        (λ window at' fault' u. content_named g env here origin n (is_some root here.path (node align (contained sizing g)) on) window at' fault' (λ inner s. node_named g env true (origin + at') (here.path ++ 0 ∷ []) (one_further here.path 0 root (node align (contained sizing g)) g on refl) 0 window fault' inner s) u))
+        (λ n. window_named here n (ContentFails g env here origin n) (is_some part_node root here.path (node align (contained sizing g)) on)
+        (λ window at' fault' u. content_named g env here origin n (is_some part_node root here.path (node align (contained sizing g)) on) window at' fault' (λ inner s. node_named g env true (origin + at') (here.path ++ 0 ∷ []) (one_further part_node here.path 0 root (node align (contained sizing g)) g on refl) 0 window fault' inner s) u))
         at rest fault reach t
 
-    fields_named : (fs : Fields) (env : Env) (flags : List Bool) (here : Here) (origin k : ℕ) → Leads here.path → FieldsOn root here.path fs k → Named (FieldsFail root fs env flags here origin k)
+    fields_named : (fs : Fields) (env : Env) (flags : List Bool) (here : Here) (origin k : ℕ) → Leads here.path → FieldsOn part_node root here.path fs k → Named (FieldsFail root fs env flags here origin k)
     fields_named no_fields env flags here origin k l on at rest fault reach t = absurd t
     fields_named (component name g presence default own fs) env flags here origin k l on at rest fault reach (inl t) =
         let behind = λ (d : Data). Behind (Where (Carries env own d) (Spell root Any g env d)) (FieldsFail root fs env (flags_behind presence flags) here origin (suc k)) in
         either_named (Fails root g env here.inside origin (here.path ++ k ∷ [])) (λ at' rest' fault' reach'. (d : Data) × behind d at' rest' fault' reach')
-        (node_named g env here.inside origin (here.path ++ k ∷ []) (first_component root here.path name g presence default own fs k on))
+        (node_named g env here.inside origin (here.path ++ k ∷ []) (first_component part_node root here.path name g presence default own fs k on))
         (some_named behind (λ d. behind_named (Where (Carries env own d) (Spell root Any g env d)) (FieldsFail root fs env (flags_behind presence flags) here origin (suc k))
-        (fields_named fs env (flags_behind presence flags) here origin (suc k) l (behind_component root here.path name g presence default own fs k on)))) at rest fault reach t.1
+        (fields_named fs env (flags_behind presence flags) here origin (suc k) l (behind_component part_node root here.path name g presence default own fs k on)))) at rest fault reach t.1
     fields_named (component name g presence default own fs) env flags here origin k l on at rest fault reach (inr t) =
-        fields_named fs env (flags_behind presence flags) here origin (suc k) l (behind_component root here.path name g presence default own fs k on) at rest fault reach t.1
+        fields_named fs env (flags_behind presence flags) here origin (suc k) l (behind_component part_node root here.path name g presence default own fs k on) at rest fault reach t.1
     fields_named (inserted name g (Some s) fs) env flags here origin k l on at rest fault reach t =
         either_named (Fails root g env here.inside origin (here.path ++ k ∷ [])) (Behind (SlotField root Any g env s) (FieldsFail root fs env flags here origin (suc k)))
-        (node_named g env here.inside origin (here.path ++ k ∷ []) (first_inserted root here.path name g (Some s) fs k on))
-        (behind_named (SlotField root Any g env s) (FieldsFail root fs env flags here origin (suc k)) (fields_named fs env flags here origin (suc k) l (behind_inserted root here.path name g (Some s) fs k on))) at rest fault reach t
+        (node_named g env here.inside origin (here.path ++ k ∷ []) (first_inserted part_node root here.path name g (Some s) fs k on))
+        (behind_named (SlotField root Any g env s) (FieldsFail root fs env flags here origin (suc k)) (fields_named fs env flags here origin (suc k) l (behind_inserted part_node root here.path name g (Some s) fs k on))) at rest fault reach t
     fields_named (inserted name g None fs) env flags here origin k l on at rest fault reach t =
         either_named (Fails root g env here.inside origin (here.path ++ k ∷ [])) (Behind (Spell root Any g env null) (FieldsFail root fs env flags here origin (suc k)))
-        (node_named g env here.inside origin (here.path ++ k ∷ []) (first_inserted root here.path name g None fs k on))
-        (behind_named (Spell root Any g env null) (FieldsFail root fs env flags here origin (suc k)) (fields_named fs env flags here origin (suc k) l (behind_inserted root here.path name g None fs k on))) at rest fault reach t
+        (node_named g env here.inside origin (here.path ++ k ∷ []) (first_inserted part_node root here.path name g None fs k on))
+        (behind_named (Spell root Any g env null) (FieldsFail root fs env flags here origin (suc k)) (fields_named fs env flags here origin (suc k) l (behind_inserted part_node root here.path name g None fs k on))) at rest fault reach t
 
-    case_named : (cases : Alternatives) (rule : ChoiceRule) (env : Env) (here : Here) (origin i j : ℕ) → CaseOn root here.path cases i j → Named (AlternativeFails root cases rule env here origin i j)
+    case_named : (cases : Alternatives) (rule : ChoiceRule) (env : Env) (here : Here) (origin i j : ℕ) → CaseOn part_node root here.path cases i j → Named (AlternativeFails root cases rule env here origin i j)
     case_named no_alternatives rule env here origin i j on at rest fault reach t = absurd t
     case_named (alternative name g tests more) rule env here origin i zero on at rest fault reach t = node_named g env here.inside origin (here.path ++ i ∷ []) (on g refl) at rest fault reach t.1
     case_named (alternative name g tests more) rule env here origin i (suc j) on at rest fault reach t = case_named more rule env here origin i j on at rest fault reach t

@@ -50,6 +50,7 @@ mod Moves
 mod NodeExclusion
 mod NodeLaws
 mod NodeParts
+mod NodePaths
 mod NodeTotal
 mod NumberRows
 mod NumberTotal

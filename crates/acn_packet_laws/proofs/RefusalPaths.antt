@@ -8,7 +8,7 @@ use Rattle.acn_grammar.specs.Asks.{Moment, asks, counts, FieldPaths, field_of, a
 use Rattle.acn_grammar.specs.Grammar.{Grammar, Form, Fields, Alternatives, Data, Places, Elements, node, num, octets, bits, text, seq, list, choice, contained, no_fields, component, inserted, no_alternatives, alternative, octet_string, bit_string, characters, record_of, list_of, alt, empty, filled, no_places, no_elements, element, element_count}
 use Rattle.acn_grammar.specs.Length.{bit_length}
 use Rattle.acn_grammar.specs.Meets.{Why, Unfit, size_out_of_range, bad_character, terminator_inside, unless, where_found, size_breach, end_breach, text_breach, at_path, run_breaches, breaches, form_breaches, field_breaches, alternative_breaches, first_of}
-use Rattle.acn_grammar.specs.Paths.{node_on, field_at, if_some}
+use Rattle.acn_grammar.specs.Paths.{node_on, part_node, field_at, if_some}
 use Rattle.acn_grammar.specs.Refused.{Says, RefusedAfter}
 use Rattle.acn_grammar.specs.declared.node.ChoiceRule.{ChoiceRule}
 use Rattle.acn_grammar.specs.declared.node.ChoiceRule.TheVariants.{Index, Tests, Item}
@@ -131,34 +131,34 @@ module _ (root : Grammar) where
   run_lead each h k (element d es) = each_both UnfitLeads (each k d) (run_breaches each (suc k) es) (h k d) (run_lead each h (suc k) es)
 
   mutual
-    breaches_lead : (g : Grammar) (path : List ℕ) → On root path g → (d : Data) → AllLead (breaches path g d)
+    breaches_lead : (g : Grammar) (path : List ℕ) → On part_node root path g → (d : Data) → AllLead (breaches path g d)
     breaches_lead (node align form) path on d = form_lead form align path on d
 
-    form_lead : (form : Form) (align : ℕ) (path : List ℕ) → On root path (node align form) → (d : Data) → AllLead (form_breaches path form d)
-    form_lead (num leaf) align path on d = all_lead path (is_some root path (node align (num leaf)) on) _ (unless_plain _ _ tt)
-    form_lead (octets sizing) align path on (octet_string bs) = all_lead path (is_some root path (node align (octets sizing)) on) (size_breach sizing (length bs)) (unless_plain _ _ tt)
-    form_lead (bits sizing) align path on (bit_string bs) = all_lead path (is_some root path (node align (bits sizing)) on) (size_breach sizing (length bs)) (unless_plain _ _ tt)
-    form_lead (text leaf) align path on (characters cs) = all_lead path (is_some root path (node align (text leaf)) on) (text_breach leaf cs) (text_plain leaf cs)
-    form_lead (seq fields home) align path on (record_of ps) = fields_all_lead fields path 0 (all_fields root path align fields home on) ps
+    form_lead : (form : Form) (align : ℕ) (path : List ℕ) → On part_node root path (node align form) → (d : Data) → AllLead (form_breaches path form d)
+    form_lead (num leaf) align path on d = all_lead path (is_some part_node root path (node align (num leaf)) on) _ (unless_plain _ _ tt)
+    form_lead (octets sizing) align path on (octet_string bs) = all_lead path (is_some part_node root path (node align (octets sizing)) on) (size_breach sizing (length bs)) (unless_plain _ _ tt)
+    form_lead (bits sizing) align path on (bit_string bs) = all_lead path (is_some part_node root path (node align (bits sizing)) on) (size_breach sizing (length bs)) (unless_plain _ _ tt)
+    form_lead (text leaf) align path on (characters cs) = all_lead path (is_some part_node root path (node align (text leaf)) on) (text_breach leaf cs) (text_plain leaf cs)
+    form_lead (seq fields home) align path on (record_of ps) = fields_all_lead fields path 0 (all_fields part_node root path align fields home (λ m. refl) on) ps
     form_lead (list sizing g) align path on (list_of es) =
         each_both UnfitLeads (at_path path (size_breach sizing (element_count es))) (run_breaches (λ k d. breaches (path ++ k ∷ []) g d) 0 es)
-        (all_lead path (is_some root path (node align (list sizing g)) on) (size_breach sizing (element_count es)) (unless_plain _ _ tt))
-        (run_lead (λ k d. breaches (path ++ k ∷ []) g d) (λ k d. breaches_lead g (path ++ k ∷ []) (one_further path k root (node align (list sizing g)) g on refl) d) 0 es)
-    form_lead (choice cases rule) align path on (alt i d) = case_lead cases path i i (λ h is. one_further path i root (node align (choice cases rule)) h on is) d
-    form_lead (contained sizing g) align path on d = breaches_lead g (path ++ 0 ∷ []) (one_further path 0 root (node align (contained sizing g)) g on refl) d
+        (all_lead path (is_some part_node root path (node align (list sizing g)) on) (size_breach sizing (element_count es)) (unless_plain _ _ tt))
+        (run_lead (λ k d. breaches (path ++ k ∷ []) g d) (λ k d. breaches_lead g (path ++ k ∷ []) (one_further part_node path k root (node align (list sizing g)) g on refl) d) 0 es)
+    form_lead (choice cases rule) align path on (alt i d) = case_lead cases path i i (λ h is. one_further part_node path i root (node align (choice cases rule)) h on is) d
+    form_lead (contained sizing g) align path on d = breaches_lead g (path ++ 0 ∷ []) (one_further part_node path 0 root (node align (contained sizing g)) g on refl) d
     form_lead _ align path on d = tt
 
-    fields_all_lead : (fs : Fields) (path : List ℕ) (k : ℕ) → FieldsOn root path fs k → (ps : Places) → AllLead (field_breaches path k fs ps)
+    fields_all_lead : (fs : Fields) (path : List ℕ) (k : ℕ) → FieldsOn part_node root path fs k → (ps : Places) → AllLead (field_breaches path k fs ps)
     fields_all_lead no_fields path k on ps = tt
     fields_all_lead (component name g presence default own fs) path k on (filled d ps) =
         each_both UnfitLeads (breaches (path ++ k ∷ []) g d) (field_breaches path (suc k) fs ps)
-        (breaches_lead g (path ++ k ∷ []) (first_component root path name g presence default own fs k on) d)
-        (fields_all_lead fs path (suc k) (behind_component root path name g presence default own fs k on) ps)
-    fields_all_lead (component name g presence default own fs) path k on (empty ps) = fields_all_lead fs path (suc k) (behind_component root path name g presence default own fs k on) ps
+        (breaches_lead g (path ++ k ∷ []) (first_component part_node root path name g presence default own fs k on) d)
+        (fields_all_lead fs path (suc k) (behind_component part_node root path name g presence default own fs k on) ps)
+    fields_all_lead (component name g presence default own fs) path k on (empty ps) = fields_all_lead fs path (suc k) (behind_component part_node root path name g presence default own fs k on) ps
     fields_all_lead (component name g presence default own fs) path k on no_places = tt
-    fields_all_lead (inserted name g slot fs) path k on ps = fields_all_lead fs path (suc k) (behind_inserted root path name g slot fs k on) ps
+    fields_all_lead (inserted name g slot fs) path k on ps = fields_all_lead fs path (suc k) (behind_inserted part_node root path name g slot fs k on) ps
 
-    case_lead : (cases : Alternatives) (path : List ℕ) (i j : ℕ) → CaseOn root path cases i j → (d : Data) → AllLead (alternative_breaches path i cases j d)
+    case_lead : (cases : Alternatives) (path : List ℕ) (i j : ℕ) → CaseOn part_node root path cases i j → (d : Data) → AllLead (alternative_breaches path i cases j d)
     case_lead no_alternatives path i j on d = tt
     case_lead (alternative name g tests more) path i zero on d = breaches_lead g (path ++ i ∷ []) (on g refl) d
     case_lead (alternative name g tests more) path i (suc j) on d = case_lead more path i j on d
@@ -176,9 +176,9 @@ module _ (root : Grammar) where
   abbrev AreFields : FieldPaths → Type 0
   AreFields paths = (s : ℕ) → Leads (field_of paths s)
 
-  home_field : (path : List ℕ) (align : ℕ) (fields : Fields) (home : List ℕ) → On root path (node align (seq fields home)) → (s : ℕ) → Leads (field_path path fields s)
+  home_field : (path : List ℕ) (align : ℕ) (fields : Fields) (home : List ℕ) → On part_node root path (node align (seq fields home)) → (s : ℕ) → Leads (field_path path fields s)
   home_field path align fields home on s =
-      subst (λ (o : Option Grammar). IsSome o) (sym (further path (unwrap_or (field_steps fields 0 s) []) root (node align (seq fields home)) on)) (by (field_steps fields 0 s) refl)
+      subst (λ (o : Option Grammar). IsSome o) (sym (further part_node path (unwrap_or (field_steps fields 0 s) []) root (node align (seq fields home)) on)) (by (field_steps fields 0 s) refl)
     where
       by : (o : Option (List ℕ)) → field_steps fields 0 s ≡ o → IsSome (node_on (node align (seq fields home)) (unwrap_or o []))
       by None e = refl
@@ -226,50 +226,50 @@ module _ (root : Grammar) where
   run_moments_lead each h k (element d es) = each_both MomentLeads (each k d) (run_moments each (suc k) es) (h k d) (run_moments_lead each h (suc k) es)
 
   mutual
-    moments_lead : (g : Grammar) (paths : FieldPaths) → AreFields paths → (path : List ℕ) → On root path g → (d : Data) → AllMoments (moments root g paths path d)
+    moments_lead : (g : Grammar) (paths : FieldPaths) → AreFields paths → (path : List ℕ) → On part_node root path g → (d : Data) → AllMoments (moments root g paths path d)
     moments_lead (node align form) paths are path on d = form_moments_lead form align paths are path on d
 
-    form_moments_lead : (form : Form) (align : ℕ) (paths : FieldPaths) → AreFields paths → (path : List ℕ) → On root path (node align form) → (d : Data) → AllMoments (form_moments root form paths path d)
-    form_moments_lead (octets sizing) align paths are path on (octet_string bs) = size_leads paths are path (is_some root path (node align (octets sizing)) on) (length bs) sizing.rule
-    form_moments_lead (bits sizing) align paths are path on (bit_string bs) = size_leads paths are path (is_some root path (node align (bits sizing)) on) (length bs) sizing.rule
-    form_moments_lead (text leaf) align paths are path on (characters cs) = size_leads paths are path (is_some root path (node align (text leaf)) on) (length cs) leaf.sized.rule
+    form_moments_lead : (form : Form) (align : ℕ) (paths : FieldPaths) → AreFields paths → (path : List ℕ) → On part_node root path (node align form) → (d : Data) → AllMoments (form_moments root form paths path d)
+    form_moments_lead (octets sizing) align paths are path on (octet_string bs) = size_leads paths are path (is_some part_node root path (node align (octets sizing)) on) (length bs) sizing.rule
+    form_moments_lead (bits sizing) align paths are path on (bit_string bs) = size_leads paths are path (is_some part_node root path (node align (bits sizing)) on) (length bs) sizing.rule
+    form_moments_lead (text leaf) align paths are path on (characters cs) = size_leads paths are path (is_some part_node root path (node align (text leaf)) on) (length cs) leaf.sized.rule
     form_moments_lead (seq fields home) align paths are path on (record_of ps) =
-        fields_moments_lead fields (with_fields path fields home paths) (with_home_fields path fields home paths (home_field path align fields home on) are) path 0 (all_fields root path align fields home on) ps
+        fields_moments_lead fields (with_fields path fields home paths) (with_home_fields path fields home paths (home_field path align fields home on) are) path 0 (all_fields part_node root path align fields home (λ m. refl) on) ps
     form_moments_lead (list sizing g) align paths are path on (list_of es) =
         each_both MomentLeads (size_asks paths path (element_count es) sizing.rule) (run_moments (λ k d. moments root g paths (path ++ k ∷ []) d) 0 es)
-        (size_leads paths are path (is_some root path (node align (list sizing g)) on) (element_count es) sizing.rule)
-        (run_moments_lead (λ k d. moments root g paths (path ++ k ∷ []) d) (λ k d. moments_lead g paths are (path ++ k ∷ []) (one_further path k root (node align (list sizing g)) g on refl) d) 0 es)
+        (size_leads paths are path (is_some part_node root path (node align (list sizing g)) on) (element_count es) sizing.rule)
+        (run_moments_lead (λ k d. moments root g paths (path ++ k ∷ []) d) (λ k d. moments_lead g paths are (path ++ k ∷ []) (one_further part_node path k root (node align (list sizing g)) g on refl) d) 0 es)
     form_moments_lead (choice cases rule) align paths are path on (alt i d) =
-        case_moments_lead cases rule paths are path (is_some root path (node align (choice cases rule)) on) i i (λ h is. one_further path i root (node align (choice cases rule)) h on is) d
+        case_moments_lead cases rule paths are path (is_some part_node root path (node align (choice cases rule)) on) i i (λ h is. one_further part_node path i root (node align (choice cases rule)) h on is) d
     form_moments_lead (contained sizing g) align paths are path on d =
-        let here = is_some root path (node align (contained sizing g)) on in
+        let here = is_some part_node root path (node align (contained sizing g)) on in
         each_both MomentLeads (moments root g paths (path ++ 0 ∷ []) d) (counts path (octets_for (bit_length g 0 d)) sizing ∷ size_asks paths path (octets_for (bit_length g 0 d)) sizing.rule)
-        (moments_lead g paths are (path ++ 0 ∷ []) (one_further path 0 root (node align (contained sizing g)) g on refl) d)
+        (moments_lead g paths are (path ++ 0 ∷ []) (one_further part_node path 0 root (node align (contained sizing g)) g on refl) d)
         (here, size_leads paths are path here (octets_for (bit_length g 0 d)) sizing.rule)
     form_moments_lead _ align paths are path on d = tt
 
-    fields_moments_lead : (fs : Fields) (paths : FieldPaths) → AreFields paths → (path : List ℕ) (k : ℕ) → FieldsOn root path fs k → (ps : Places) → AllMoments (fields_moments root fs paths path k ps)
+    fields_moments_lead : (fs : Fields) (paths : FieldPaths) → AreFields paths → (path : List ℕ) (k : ℕ) → FieldsOn part_node root path fs k → (ps : Places) → AllMoments (fields_moments root fs paths path k ps)
     fields_moments_lead no_fields paths are path k on ps = tt
     fields_moments_lead (component name g presence default own fs) paths are path k on (filled d ps) =
         let here = path ++ k ∷ [] in
-        let one = first_component root path name g presence default own fs k on in
-        let l = is_some root (path ++ k ∷ []) g one in
+        let one = first_component part_node root path name g presence default own fs k on in
+        let l = is_some part_node root (path ++ k ∷ []) g one in
         each_both MomentLeads (own_asks paths here own d ++ presence_asks paths here true presence ++ moments root g paths here d) (fields_moments root fs paths path (suc k) ps)
         (each_both MomentLeads (own_asks paths here own d ++ presence_asks paths here true presence) (moments root g paths here d)
         (each_both MomentLeads (own_asks paths here own d) (presence_asks paths here true presence) (own_leads paths are (path ++ k ∷ []) l own d) (presence_leads paths are (path ++ k ∷ []) l true presence))
         (moments_lead g paths are (path ++ k ∷ []) one d))
-        (fields_moments_lead fs paths are path (suc k) (behind_component root path name g presence default own fs k on) ps)
+        (fields_moments_lead fs paths are path (suc k) (behind_component part_node root path name g presence default own fs k on) ps)
     fields_moments_lead (component name g presence default own fs) paths are path k on (empty ps) =
         each_both MomentLeads (presence_asks paths (path ++ k ∷ []) false presence) (fields_moments root fs paths path (suc k) ps)
-        (presence_leads paths are (path ++ k ∷ []) (is_some root (path ++ k ∷ []) g (first_component root path name g presence default own fs k on)) false presence)
-        (fields_moments_lead fs paths are path (suc k) (behind_component root path name g presence default own fs k on) ps)
+        (presence_leads paths are (path ++ k ∷ []) (is_some part_node root (path ++ k ∷ []) g (first_component part_node root path name g presence default own fs k on)) false presence)
+        (fields_moments_lead fs paths are path (suc k) (behind_component part_node root path name g presence default own fs k on) ps)
     fields_moments_lead (component name g presence default own fs) paths are path k on no_places = tt
-    fields_moments_lead (inserted name g slot fs) paths are path k on ps = fields_moments_lead fs paths are path (suc k) (behind_inserted root path name g slot fs k on) ps
+    fields_moments_lead (inserted name g slot fs) paths are path k on ps = fields_moments_lead fs paths are path (suc k) (behind_inserted part_node root path name g slot fs k on) ps
 
-    case_moments_lead : (cases : Alternatives) (rule : ChoiceRule) (paths : FieldPaths) → AreFields paths → (path : List ℕ) → Leads path → (i j : ℕ) → CaseOn root path cases i j → (d : Data) → AllMoments (alternative_moments root cases rule paths path i j d)
+    case_moments_lead : (cases : Alternatives) (rule : ChoiceRule) (paths : FieldPaths) → AreFields paths → (path : List ℕ) → Leads path → (i j : ℕ) → CaseOn part_node root path cases i j → (d : Data) → AllMoments (alternative_moments root cases rule paths path i j d)
     case_moments_lead (alternative name g tests more) rule paths are path l i zero on d =
         each_both MomentLeads (rule_asks root paths path i rule name tests) (moments root g paths (path ++ i ∷ []) d)
-        (rule_leads paths are path l i (is_some root (path ++ i ∷ []) g (on g refl)) rule name tests) (moments_lead g paths are (path ++ i ∷ []) (on g refl) d)
+        (rule_leads paths are path l i (is_some part_node root (path ++ i ∷ []) g (on g refl)) rule name tests) (moments_lead g paths are (path ++ i ∷ []) (on g refl) d)
     case_moments_lead (alternative name g tests more) rule paths are path l i (suc j) on d = case_moments_lead more rule paths are path l i j on d
     case_moments_lead no_alternatives rule paths are path l i j on d = tt
 

@@ -17,7 +17,7 @@ use Rattle.acn_grammar.specs.Leaves.{num_fine}
 use Rattle.acn_grammar.specs.Meets.{Meets, Why, Unfit, conflict, breaches}
 use Rattle.acn_grammar.specs.Refused.{Refused, asks_of}
 use Rattle.acn_grammar.specs.PartAt.{part_at, occurrence}
-use Rattle.acn_grammar.specs.Paths.{node_on}
+use Rattle.acn_grammar.specs.Paths.{node_at, node_on}
 use Rattle.acn_grammar.specs.Scoped.{Known, Agree, after, FineField, Permitted, Scoped}
 use Rattle.acn_grammar.specs.Shaped.{Shaped}
 use Rattle.acn_grammar.specs.Sound.{Sound}
@@ -237,6 +237,18 @@ abbrev pub OneRefusal : Type 0
 OneRefusal = (root : Grammar) (d : Data) (u w : Unfit) → Refused root d u → Refused root d w → u ≡ w
 
 -- Paths.
+
+-- the node of a number in preorder is the node of its path
+abbrev pub EachNodeHasItsPath : Type 0
+EachNodeHasItsPath = (root : Grammar) (k : ℕ) (here : Stand) → NodeAt root k here → node_at root here.path ≡ Some (node here.align here.form)
+
+-- the node of a path is the node of a number
+abbrev pub EachPathHasItsNumber : Type 0
+EachPathHasItsNumber = (root : Grammar) (path : List ℕ) (g : Grammar) → node_at root path ≡ Some g → (k : ℕ) × (here : Stand) × NodeAt root k here × (here.path ≡ path) × (node here.align here.form ≡ g)
+
+-- a part of a value is of a node of the grammar
+abbrev pub ValuesAreOfNodes : Type 0
+ValuesAreOfNodes = (root : Grammar) (path : List ℕ) (g : Grammar) → node_on root path ≡ Some g → (at : List ℕ) × (node_at root at ≡ Some g)
 
 -- the path, one of a value, leads to a node
 abbrev pub LeadsToANode : Grammar → (path : List ℕ) → Type 0
