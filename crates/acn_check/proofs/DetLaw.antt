@@ -8,7 +8,8 @@ use Rattle.acn_grammar.specs.Check.{NodeAt}
 use Rattle.acn_grammar.specs.Grammar.{Grammar, Form, Fields, Alternatives, node, num, octets, bits, text, seq, list, choice, contained, no_fields, component, inserted, no_alternatives, alternative}
 use Rattle.acn_grammar.specs.Slots.{slot_leaf, form_leaf, fields_leaf, alternatives_leaf, number_leaf, first_of_two, is_slot as if_slot}
 use Rattle.acn_grammar.specs.Tree.{IsTree, is_slot, role_fine, slots_of, stand_rules, all_true}
-use Rattle.acn_grammar.specs.Walk.{Stand, Role, a_component, an_inserted, an_alternative, an_element, a_content, root_node, nodes, form_nodes, field_nodes, alternative_nodes, nodes_of, slot_here}
+use Rattle.acn_grammar.specs.Walk.{Stand, Role, component_role, an_inserted, alternative_role, an_element, a_content, root_node, nodes, form_nodes, field_nodes, alternative_nodes, nodes_of, slot_here}
+use Rattle.acn_grammar.specs.declared.node.ChoiceRule.{ChoiceRule}
 use Rattle.acn_grammar.specs.declared.node.NumLeaf.{NumLeaf}
 use Rattle.acn_grammar.specs.declared.node.Presence.{Presence}
 use Rattle.acn_packet_laws.proofs.Placed.{field_number, is_number, tree_numbered, tree_rules}
@@ -193,10 +194,10 @@ inserted_leaf name path around align form (Some t) s l inner rest fine e f = by 
     by false form n e' = joined s (form_nodes path around form) l inner rest e' f
     by true form n e' = (let m = n refl in rw (m.1) refl)
 
-component_leaf : (name path around : List ℕ) (presence : Presence) (align : ℕ) (form : Form) (slot : Option ℕ) (s : ℕ) (l : List Stand) (inner rest : Option NumLeaf) → Fine (record { path = path; around = around; role = a_component name presence slot; align = align; form = form }) → inner ≡ found s (form_nodes path around form) → rest ≡ found s l
-    → if_slot slot s (number_leaf (node align form)) (first_of_two inner rest) ≡ found s (nodes (a_component name presence slot) path around (node align form) ++ l)
-component_leaf name path around presence align form None s l inner rest fine e f = joined s (form_nodes path around form) l inner rest e f
-component_leaf name path around presence align form (Some t) s l inner rest fine e f = by (nat_eq t s) form (λ h. number_form form (field_number (a_component name presence (Some t)) form s fine h)) e
+component_leaf : (name path around : List ℕ) (presence : Presence) (default : Option (List ℕ)) (align : ℕ) (form : Form) (slot : Option ℕ) (s : ℕ) (l : List Stand) (inner rest : Option NumLeaf) → Fine (record { path = path; around = around; role = component_role name presence default slot; align = align; form = form }) → inner ≡ found s (form_nodes path around form) → rest ≡ found s l
+    → if_slot slot s (number_leaf (node align form)) (first_of_two inner rest) ≡ found s (nodes (component_role name presence default slot) path around (node align form) ++ l)
+component_leaf name path around presence default align form None s l inner rest fine e f = joined s (form_nodes path around form) l inner rest e f
+component_leaf name path around presence default align form (Some t) s l inner rest fine e f = by (nat_eq t s) form (λ h. number_form form (field_number (component_role name presence default (Some t)) form s fine h)) e
   where
     by : (b : Bool) (form : Form) → (b ≡ true → (leaf : NumLeaf) × (form ≡ num leaf)) → inner ≡ found s (form_nodes path around form) → (if b then number_leaf (node align form) else first_of_two inner rest) ≡ first_of_two (if b then leaf_in form else None) (found s (form_nodes path around form ++ l))
     by false form n e' = joined s (form_nodes path around form) l inner rest e' f
@@ -211,7 +212,7 @@ module _ (s : ℕ) where
     form_found (text leaf) path around fine = refl
     form_found (seq fields home) path around fine = fields_found fields path (home ++ around) 0 fine
     form_found (list sizing g) path around fine = node_found g an_element (path ++ 0 ∷ []) around refl fine
-    form_found (choice cases rule) path around fine = cases_found cases path around 0 fine
+    form_found (choice cases rule) path around fine = cases_found cases rule path around 0 fine
     form_found (contained sizing g) path around fine = node_found g a_content (path ++ 0 ∷ []) around refl fine
 
     node_found : (g : Grammar) (role : Role) (path around : List ℕ) → slot_here role ≡ None → Each Fine (nodes role path around g) → slot_leaf g s ≡ found s (nodes role path around g)
@@ -220,20 +221,20 @@ module _ (s : ℕ) where
     fields_found : (fs : Fields) (path around : List ℕ) (k : ℕ) → Each Fine (field_nodes path around k fs) → fields_leaf fs s ≡ found s (field_nodes path around k fs)
     fields_found no_fields path around k fine = refl
     fields_found (component name (node align form) presence default slot fs) path around k fine =
-        let a = nodes (a_component name presence slot) (path ++ k ∷ []) around (node align form) in
+        let a = nodes (component_role name presence default slot) (path ++ k ∷ []) around (node align form) in
         let b = field_nodes path around (suc k) fs in
-        component_leaf name (path ++ k ∷ []) around presence align form slot s b (form_leaf form s) (fields_leaf fs s) fine.0 (form_found form (path ++ k ∷ []) around (each_left Fine (form_nodes (path ++ k ∷ []) around form) b fine.1)) (fields_found fs path around (suc k) (each_right Fine a b fine))
+        component_leaf name (path ++ k ∷ []) around presence default align form slot s b (form_leaf form s) (fields_leaf fs s) fine.0 (form_found form (path ++ k ∷ []) around (each_left Fine (form_nodes (path ++ k ∷ []) around form) b fine.1)) (fields_found fs path around (suc k) (each_right Fine a b fine))
     fields_found (inserted name (node align form) slot fs) path around k fine =
         let a = nodes (an_inserted name slot) (path ++ k ∷ []) around (node align form) in
         let b = field_nodes path around (suc k) fs in
         inserted_leaf name (path ++ k ∷ []) around align form slot s b (form_leaf form s) (fields_leaf fs s) fine.0 (form_found form (path ++ k ∷ []) around (each_left Fine (form_nodes (path ++ k ∷ []) around form) b fine.1)) (fields_found fs path around (suc k) (each_right Fine a b fine))
 
-    cases_found : (cases : Alternatives) (path around : List ℕ) (k : ℕ) → Each Fine (alternative_nodes path around k cases) → alternatives_leaf cases s ≡ found s (alternative_nodes path around k cases)
-    cases_found no_alternatives path around k fine = refl
-    cases_found (alternative name g tests more) path around k fine =
-        let a = nodes (an_alternative name tests) (path ++ k ∷ []) around g in
-        let b = alternative_nodes path around (suc k) more in
-        joined s a b (slot_leaf g s) (alternatives_leaf more s) (node_found g (an_alternative name tests) (path ++ k ∷ []) around refl (each_left Fine a b fine)) (cases_found more path around (suc k) (each_right Fine a b fine))
+    cases_found : (cases : Alternatives) (rule : ChoiceRule) (path around : List ℕ) (k : ℕ) → Each Fine (alternative_nodes rule path around k cases) → alternatives_leaf cases s ≡ found s (alternative_nodes rule path around k cases)
+    cases_found no_alternatives rule path around k fine = refl
+    cases_found (alternative name g tests more) rule path around k fine =
+        let a = nodes (alternative_role name tests rule) (path ++ k ∷ []) around g in
+        let b = alternative_nodes rule path around (suc k) more in
+        joined s a b (slot_leaf g s) (alternatives_leaf more s) (node_found g (alternative_role name tests rule) (path ++ k ∷ []) around refl (each_left Fine a b fine)) (cases_found more rule path around (suc k) (each_right Fine a b fine))
 
 found_by : (l : List Stand) (at : Stand) (k a : ℕ) → From a (at ∷ l) → ((a' i : ℕ) → From a' l → found (a' + i) l ≡ option_map (λ d. d.leaf) (slice_get (dets (suc k) (map seen l)) i))
     → (slot_here at.role ≡ None) ⊎ Numbered at → (i : ℕ) → found (a + i) (at ∷ l) ≡ option_map (λ d. d.leaf) (slice_get (dets k (map seen (at ∷ l))) i)

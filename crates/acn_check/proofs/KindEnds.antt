@@ -10,7 +10,8 @@ use Rattle.acn_grammar.specs.Grammar.{Grammar, Form, Fields, Alternatives, node,
 use Rattle.acn_grammar.specs.Leaves.{num_fine, sizes_fine, list_rule_fine, is_pattern, from_to}
 use Rattle.acn_grammar.specs.Length.{ending}
 use Rattle.acn_grammar.specs.Tree.{IsTree}
-use Rattle.acn_grammar.specs.Walk.{Stand, Role, root_node, a_component, an_inserted, an_alternative, an_element, a_content, nodes, form_nodes, field_nodes, alternative_nodes, nodes_of}
+use Rattle.acn_grammar.specs.Walk.{Stand, Role, root_node, component_role, an_inserted, alternative_role, an_element, a_content, nodes, form_nodes, field_nodes, alternative_nodes, nodes_of}
+use Rattle.acn_grammar.specs.declared.node.ChoiceRule.{ChoiceRule}
 use Rattle.acn_grammar.specs.declared.node.NumLeaf.{NumLeaf}
 use Rattle.acn_grammar.specs.declared.node.Presence.TheVariants.{Always, Bit, When}
 use Rattle.acn_grammar.specs.declared.node.Sizing.{Sizing}
@@ -44,20 +45,20 @@ mutual
   form_formed (text leaf) path around f = tt
   form_formed (seq fields home) path around f = fields_formed fields path (home ++ around) 0 f
   form_formed (list sizing g) path around f = node_formed g an_element (path ++ 0 ∷ []) around f.1
-  form_formed (choice cases rule) path around f = cases_formed cases path around 0 f
+  form_formed (choice cases rule) path around f = cases_formed cases rule path around 0 f
   form_formed (contained sizing g) path around f = node_formed g a_content (path ++ 0 ∷ []) around f.1
 
   fields_formed : (fs : Fields) (path around : List ℕ) (k : ℕ) → FieldsFine fs → Each Formed (field_nodes path around k fs)
   fields_formed no_fields path around k f = tt
   fields_formed (component name g presence default own fs) path around k f =
-      each_both Formed (nodes (a_component name presence own) (path ++ k ∷ []) around g) (field_nodes path around (suc k) fs) (node_formed g (a_component name presence own) (path ++ k ∷ []) around f.0) (fields_formed fs path around (suc k) f.1)
+      each_both Formed (nodes (component_role name presence default own) (path ++ k ∷ []) around g) (field_nodes path around (suc k) fs) (node_formed g (component_role name presence default own) (path ++ k ∷ []) around f.0) (fields_formed fs path around (suc k) f.1)
   fields_formed (inserted name g slot fs) path around k f =
       each_both Formed (nodes (an_inserted name slot) (path ++ k ∷ []) around g) (field_nodes path around (suc k) fs) (node_formed g (an_inserted name slot) (path ++ k ∷ []) around f.0) (fields_formed fs path around (suc k) f.1)
 
-  cases_formed : (cases : Alternatives) (path around : List ℕ) (k : ℕ) → AlternativesFine cases → Each Formed (alternative_nodes path around k cases)
-  cases_formed no_alternatives path around k f = tt
-  cases_formed (alternative name g tests more) path around k f =
-      each_both Formed (nodes (an_alternative name tests) (path ++ k ∷ []) around g) (alternative_nodes path around (suc k) more) (node_formed g (an_alternative name tests) (path ++ k ∷ []) around f.0) (cases_formed more path around (suc k) f.1)
+  cases_formed : (cases : Alternatives) (rule : ChoiceRule) (path around : List ℕ) (k : ℕ) → AlternativesFine cases → Each Formed (alternative_nodes rule path around k cases)
+  cases_formed no_alternatives rule path around k f = tt
+  cases_formed (alternative name g tests more) rule path around k f =
+      each_both Formed (nodes (alternative_role name tests rule) (path ++ k ∷ []) around g) (alternative_nodes rule path around (suc k) more) (node_formed g (alternative_role name tests rule) (path ++ k ∷ []) around f.0) (cases_formed more rule path around (suc k) f.1)
 
 each_at : {A : Type 0} (P : A → Type 0) (l : List A) (k : ℕ) (x : A) → Each P l → slice_get l k ≡ Some x → P x
 each_at P [] k x e h = cc

@@ -91,22 +91,22 @@ mixed_choice_of path (contained sizing g) f e = cc
 
 -- a component with more than one condition
 abbrev More : Role → Type 0
-More (a_component name presence own) = 1 < length (presence_tests presence)
+More (a_component one) = 1 < length (presence_tests one.presence)
 More _ = ⊥
 
 true_more : (role : Role) → (is_component role && nat_lt 1 (length (tag_of role).tests)) ≡ true → More role
-true_more (a_component n p own) h = ltb-true 1 (length (presence_tests p)) h
+true_more (a_component one) h = ltb-true 1 (length (presence_tests one.presence)) h
 true_more root_node h = cc
 true_more (an_inserted name slot) h = cc
-true_more (an_alternative name ts) h = cc
+true_more (an_alternative one) h = cc
 true_more an_element h = cc
 true_more a_content h = cc
 
 more_true : (role : Role) → More role → (is_component role && nat_lt 1 (length (tag_of role).tests)) ≡ true
-more_true (a_component n p own) h = lt-ltb 1 (length (presence_tests p)) h
+more_true (a_component one) h = lt-ltb 1 (length (presence_tests one.presence)) h
 more_true root_node h = absurd h
 more_true (an_inserted name slot) h = absurd h
-more_true (an_alternative name ts) h = absurd h
+more_true (an_alternative one) h = absurd h
 more_true an_element h = absurd h
 more_true a_content h = absurd h
 

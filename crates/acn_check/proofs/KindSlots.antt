@@ -36,17 +36,17 @@ is_not false h = refl
 -- the slot of an inserted field
 inserted_is : (role : Role) → slot_inserted (is_component role) (slot_here role) ≡ inserted_slot role
 inserted_is root_node = refl
-inserted_is (a_component name presence own) = refl
+inserted_is (a_component one) = refl
 inserted_is (an_inserted name slot) = refl
-inserted_is (an_alternative name tests) = refl
+inserted_is (an_alternative one) = refl
 inserted_is an_element = refl
 inserted_is a_content = refl
 
 pub inserted_here : (role : Role) (s : ℕ) → inserted_slot role ≡ Some s → slot_here role ≡ Some s
 inserted_here (an_inserted name slot) s e = e
 inserted_here root_node s e = cc
-inserted_here (a_component name presence own) s e = cc
-inserted_here (an_alternative name tests) s e = cc
+inserted_here (a_component one) s e = cc
+inserted_here (an_alternative one) s e = cc
 inserted_here an_element s e = cc
 inserted_here a_content s e = cc
 

@@ -26,7 +26,7 @@ pub record Facts : Type 0 where
   pub at_home : ℕ
 
 abbrev pub is_component : Role → Bool
-is_component (a_component name presence own) = true
+is_component (a_component one) = true
 is_component _ = false
 
 abbrev pub tag_of : Role → Tag

@@ -3,7 +3,8 @@ use Rattle.std.proofs.Common.{◌≡◌, ℕ, zero, suc, ◌<◌, Bool, true, Li
 use Rattle.std.specs.List.{list_all, range_with_len}
 use Rattle.acn_grammar.specs.Grammar.{Grammar, Form, Fields, Alternatives, node, num, octets, bits, text, seq, list, choice, contained, no_fields, component, inserted, no_alternatives, alternative}
 use Rattle.acn_grammar.specs.Tree.{IsTree, is_align, form_fine, role_fine, own_used, names_open, home_fine, stand_rules, all_true, same_numbers, slots_of}
-use Rattle.acn_grammar.specs.Walk.{Stand, Role, a_component, an_inserted, an_alternative, an_element, a_content, root_node, nodes, form_nodes, field_nodes, alternative_nodes, nodes_of}
+use Rattle.acn_grammar.specs.Walk.{Stand, Role, component_role, an_inserted, alternative_role, an_element, a_content, root_node, nodes, form_nodes, field_nodes, alternative_nodes, nodes_of}
+use Rattle.acn_grammar.specs.declared.node.ChoiceRule.{ChoiceRule}
 use Rattle.acn_grammar.proofs.SpanLaw.{Fine, FormFine, FieldsFine, AlternativesFine}
 use Rattle.std.proofs.lemmas.Bool.{and_parts}
 
@@ -63,23 +64,23 @@ module _ (all : List Stand) where
     fine_form (text leaf) path around f h = f
     fine_form (seq fields home) path around f h = fine_fields fields path (home ++ around) 0 h
     fine_form (list sizing g) path around f h = (f, fine_node g an_element (path ++ 0 ∷ []) around h)
-    fine_form (choice cases rule) path around f h = fine_alternatives cases path around 0 h
+    fine_form (choice cases rule) path around f h = fine_alternatives cases rule path around 0 h
     fine_form (contained sizing g) path around f h = (f, fine_node g a_content (path ++ 0 ∷ []) around h)
 
     fine_fields : (fs : Fields) (path around : List ℕ) (k : ℕ) → list_all passes (field_nodes path around k fs) ≡ true → FieldsFine fs
     fine_fields no_fields path around k h = tt
     fine_fields (component name g presence default own fs) path around k h =
-        let p = list_all-append passes (nodes (a_component name presence own) (path ++ k ∷ []) around g) (field_nodes path around (suc k) fs) h in
-        (fine_node g (a_component name presence own) (path ++ k ∷ []) around p.0, fine_fields fs path around (suc k) p.1)
+        let p = list_all-append passes (nodes (component_role name presence default own) (path ++ k ∷ []) around g) (field_nodes path around (suc k) fs) h in
+        (fine_node g (component_role name presence default own) (path ++ k ∷ []) around p.0, fine_fields fs path around (suc k) p.1)
     fine_fields (inserted name g slot fs) path around k h =
         let p = list_all-append passes (nodes (an_inserted name slot) (path ++ k ∷ []) around g) (field_nodes path around (suc k) fs) h in
         (fine_node g (an_inserted name slot) (path ++ k ∷ []) around p.0, fine_fields fs path around (suc k) p.1)
 
-    fine_alternatives : (as' : Alternatives) (path around : List ℕ) (k : ℕ) → list_all passes (alternative_nodes path around k as') ≡ true → AlternativesFine as'
-    fine_alternatives no_alternatives path around k h = tt
-    fine_alternatives (alternative name g tests more) path around k h =
-        let p = list_all-append passes (nodes (an_alternative name tests) (path ++ k ∷ []) around g) (alternative_nodes path around (suc k) more) h in
-        (fine_node g (an_alternative name tests) (path ++ k ∷ []) around p.0, fine_alternatives more path around (suc k) p.1)
+    fine_alternatives : (as' : Alternatives) (rule : ChoiceRule) (path around : List ℕ) (k : ℕ) → list_all passes (alternative_nodes rule path around k as') ≡ true → AlternativesFine as'
+    fine_alternatives no_alternatives rule path around k h = tt
+    fine_alternatives (alternative name g tests more) rule path around k h =
+        let p = list_all-append passes (nodes (alternative_role name tests rule) (path ++ k ∷ []) around g) (alternative_nodes rule path around (suc k) more) h in
+        (fine_node g (alternative_role name tests rule) (path ++ k ∷ []) around p.0, fine_alternatives more rule path around (suc k) p.1)
 
 -- the test of a tree gives the rules of each node
 pub tree_fine : (root : Grammar) → IsTree root → Fine root

@@ -187,7 +187,7 @@ module _ (root : Grammar) where
   Evidence (absent_unclear path) k u = (at : Stand) × NodeAt k at × (at.path ≡ path) × MoreThanOne at.role
     where
       MoreThanOne : Role → Type 0
-      MoreThanOne (a_component n presence own) = 1 < length (presence_tests presence)
+      MoreThanOne (a_component one) = 1 < length (presence_tests one.presence)
       MoreThanOne _ = ⊥
   Evidence (unused det) k u = (at : Stand) × (s : ℕ) × NodeAt k at × (at.path ≡ det) × (slot_here at.role ≡ Some s) × (Contains (map slot_of (flat_map uses (nodes_of root))) s → ⊥)
   Evidence (no_item path i) k u = (cases : Alternatives) × (s : ℕ) × (name : List ℕ) × (ts : List Test) × ChoiceAt k path cases (Item s) × (slice_get (conditions_of cases) i ≡ Some (name, ts)) × (Contains (map (λ e. e.0) (items_of root s)) name → ⊥)

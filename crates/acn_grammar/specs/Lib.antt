@@ -15,6 +15,7 @@ pub mod Leaves
 pub mod Length
 pub mod Meets
 pub mod PartAt
+pub mod Paths
 pub mod Pattern
 pub mod ReadFaults
 pub mod Refused

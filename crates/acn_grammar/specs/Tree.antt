@@ -72,7 +72,7 @@ own_fine (Some s) Bit form = false
 own_fine (Some s) (When ts) form = false
 
 abbrev pub role_fine : Role → Form → Bool
-role_fine (a_component name presence own) form = presence_fine presence && own_fine own presence form
+role_fine (a_component one) form = presence_fine one.presence && own_fine one.slot one.presence form
 role_fine (an_inserted name slot) form = inserted_fine slot form
 role_fine _ form = true
 
@@ -102,8 +102,12 @@ abbrev pub is_about : ℕ → Stand → Bool
 is_about s at = is_slot s (slot_here at.role) || list_any (nat_eq s) (map slot_of (uses at))
 
 -- the slot of a component has a use: another node is about it
+abbrev pub slot_used : List Stand → Option ℕ → Bool
+slot_used all None = true
+slot_used all (Some s) = nat_lt 1 (count_by (is_about s) all)
+
 abbrev pub own_used : List Stand → Role → Bool
-own_used all (a_component name presence (Some s)) = nat_lt 1 (count_by (is_about s) all)
+own_used all (a_component one) = slot_used all one.slot
 own_used all _ = true
 
 abbrev pub is_seq : Form → Bool

@@ -10,14 +10,33 @@ use Rattle.acn_grammar.specs.declared.node.SizeRule.TheVariants.{Prefix, Slot, E
 use Rattle.acn_grammar.specs.declared.node.ChoiceRule.{ChoiceRule}
 use Rattle.acn_grammar.specs.declared.node.ChoiceRule.TheVariants.{Item}
 
+-- what a SEQUENCE says of one of its components, beside its node
+pub record ComponentRole : Type 0 where
+  pub name : List ℕ
+  pub presence : Presence
+  pub default : Option (List ℕ)
+  pub slot : Option ℕ
+
+-- what a CHOICE says of one of its alternatives, beside its node: its own conditions, and the rule by which one is chosen
+pub record AlternativeRole : Type 0 where
+  pub name : List ℕ
+  pub tests : List Test
+  pub rule : ChoiceRule
+
 -- where a node stands in the one above it
 pub data Role : Type 0 where
   root_node : Role
-  a_component : (name : List ℕ) → Presence → (slot : Option ℕ) → Role
+  a_component : ComponentRole → Role
   an_inserted : (name : List ℕ) → (slot : Option ℕ) → Role
-  an_alternative : (name : List ℕ) → List Test → Role
+  an_alternative : AlternativeRole → Role
   an_element : Role
   a_content : Role
+
+abbrev pub component_role : (name : List ℕ) → Presence → (default : Option (List ℕ)) → (slot : Option ℕ) → Role
+component_role name presence default slot = a_component (record { name = name; presence = presence; default = default; slot = slot })
+
+abbrev pub alternative_role : (name : List ℕ) → List Test → ChoiceRule → Role
+alternative_role name tests rule = an_alternative (record { name = name; tests = tests; rule = rule })
 
 pub record Stand : Type 0 where
   pub path : List ℕ
@@ -34,18 +53,18 @@ abbrev mutual
   pub form_nodes : List ℕ → List ℕ → Form → List Stand
   form_nodes path around (seq fields home) = field_nodes path (home ++ around) 0 fields
   form_nodes path around (list sizing g) = nodes an_element (path ++ 0 ∷ []) around g
-  form_nodes path around (choice alternatives rule) = alternative_nodes path around 0 alternatives
+  form_nodes path around (choice alternatives rule) = alternative_nodes rule path around 0 alternatives
   form_nodes path around (contained sizing g) = nodes a_content (path ++ 0 ∷ []) around g
   form_nodes path around _ = []
 
   pub field_nodes : List ℕ → List ℕ → ℕ → Fields → List Stand
   field_nodes path around k no_fields = []
-  field_nodes path around k (component name g presence default own fs) = nodes (a_component name presence own) (path ++ k ∷ []) around g ++ field_nodes path around (suc k) fs
+  field_nodes path around k (component name g presence default own fs) = nodes (component_role name presence default own) (path ++ k ∷ []) around g ++ field_nodes path around (suc k) fs
   field_nodes path around k (inserted name g slot fs) = nodes (an_inserted name slot) (path ++ k ∷ []) around g ++ field_nodes path around (suc k) fs
 
-  pub alternative_nodes : List ℕ → List ℕ → ℕ → Alternatives → List Stand
-  alternative_nodes path around k no_alternatives = []
-  alternative_nodes path around k (alternative name g tests more) = nodes (an_alternative name tests) (path ++ k ∷ []) around g ++ alternative_nodes path around (suc k) more
+  pub alternative_nodes : ChoiceRule → List ℕ → List ℕ → ℕ → Alternatives → List Stand
+  alternative_nodes rule path around k no_alternatives = []
+  alternative_nodes rule path around k (alternative name g tests more) = nodes (alternative_role name tests rule) (path ++ k ∷ []) around g ++ alternative_nodes rule path around (suc k) more
 
 abbrev pub nodes_of : Grammar → List Stand
 nodes_of root = nodes root_node [] [] root
@@ -72,8 +91,8 @@ presence_tests (When ts) = ts
 presence_tests _ = []
 
 abbrev pub own_tests : Role → List Test
-own_tests (a_component name presence own) = presence_tests presence
-own_tests (an_alternative name ts) = ts
+own_tests (a_component one) = presence_tests one.presence
+own_tests (an_alternative one) = one.tests
 own_tests _ = []
 
 abbrev pub rule_uses : SizeRule → List Use
@@ -105,7 +124,7 @@ uses at = map condition (own_tests at.role) ++ form_uses at.form
 -- the slot whose number this field says
 abbrev pub slot_here : Role → Option ℕ
 slot_here (an_inserted name slot) = slot
-slot_here (a_component name presence own) = own
+slot_here (a_component one) = one.slot
 slot_here _ = None
 
 abbrev pub inserted_slot : Role → Option ℕ

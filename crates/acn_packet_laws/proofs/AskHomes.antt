@@ -7,7 +7,8 @@ use Rattle.std.specs.Prelude.{option_map, if◌then◌else◌}
 use Rattle.acn_grammar.specs.Asks.{steps_to, form_steps, field_steps, at_slot, or_else}
 use Rattle.acn_grammar.specs.Grammar.{Grammar, Form, Fields, Alternatives, node, num, octets, bits, text, seq, list, choice, contained, no_fields, component, inserted, no_alternatives, alternative}
 use Rattle.acn_grammar.specs.Tree.{IsTree, holds, same_numbers, slots_of, is_slot, encloses, near, near_node, all_true, stand_rules}
-use Rattle.acn_grammar.specs.Walk.{Stand, Role, a_component, an_inserted, an_alternative, an_element, a_content, root_node, nodes, nodes_of, form_nodes, field_nodes, alternative_nodes}
+use Rattle.acn_grammar.specs.Walk.{Stand, Role, component_role, an_inserted, alternative_role, an_element, a_content, root_node, nodes, nodes_of, form_nodes, field_nodes, alternative_nodes}
+use Rattle.acn_grammar.specs.declared.node.ChoiceRule.{ChoiceRule}
 use Rattle.acn_grammar.specs.declared.node.Presence.{Presence}
 use Rattle.acn_grammar.proofs.Texts.{either}
 use Rattle.acn_grammar.proofs.TreeRules.{stand_fine, list_all-append}
@@ -215,7 +216,7 @@ module _ (all : List Stand) (numbered : same_numbers (slots_of all) (range_with_
           not_fields t fields path (home ++ around) 0 i m,
         )
     not_form t (list sizing g) role path around align h i n m = not_node t g an_element (path ++ 0 ∷ []) around i m
-    not_form t (choice cases rule) role path around align h i n m = not_cases t cases path around 0 i m
+    not_form t (choice cases rule) role path around align h i n m = not_cases t cases rule path around 0 i m
     not_form t (contained sizing g) role path around align h i n m = not_node t g a_content (path ++ 0 ∷ []) around i m
     not_form t (num leaf) role path around align h i n m = tt
     not_form t (octets sizing) role path around align h i n m = tt
@@ -232,11 +233,11 @@ module _ (all : List Stand) (numbered : same_numbers (slots_of all) (range_with_
     not_fields : (t : ℕ) (fs : Fields) (path around : List ℕ) (k : ℕ) → list_all passes (field_nodes path around k fs) ≡ true → list_any (encloses all t) (field_nodes path around k fs) ≡ false → FieldsNot t fs
     not_fields t no_fields path around k h n = tt
     not_fields t (component name g presence default own fs) path around k h n =
-        let one = nodes (a_component name presence own) (path ++ k ∷ []) around g in
+        let one = nodes (component_role name presence default own) (path ++ k ∷ []) around g in
         let two = field_nodes path around (suc k) fs in
         let a = list_all-append passes one two h in
         let b = none_apart (encloses all t) one two n in
-        (not_node t g (a_component name presence own) (path ++ k ∷ []) around a.0 b.0, not_fields t fs path around (suc k) a.1 b.1)
+        (not_node t g (component_role name presence default own) (path ++ k ∷ []) around a.0 b.0, not_fields t fs path around (suc k) a.1 b.1)
     not_fields t (inserted name g slot fs) path around k h n =
         let one = nodes (an_inserted name slot) (path ++ k ∷ []) around g in
         let two = field_nodes path around (suc k) fs in
@@ -244,14 +245,14 @@ module _ (all : List Stand) (numbered : same_numbers (slots_of all) (range_with_
         let b = none_apart (encloses all t) one two n in
         not_fields t fs path around (suc k) a.1 b.1
 
-    not_cases : (t : ℕ) (cases : Alternatives) (path around : List ℕ) (k : ℕ) → list_all passes (alternative_nodes path around k cases) ≡ true → list_any (encloses all t) (alternative_nodes path around k cases) ≡ false → CasesNot t cases
-    not_cases t no_alternatives path around k h n = tt
-    not_cases t (alternative name g tests more) path around k h n =
-        let one = nodes (an_alternative name tests) (path ++ k ∷ []) around g in
-        let two = alternative_nodes path around (suc k) more in
+    not_cases : (t : ℕ) (cases : Alternatives) (rule : ChoiceRule) (path around : List ℕ) (k : ℕ) → list_all passes (alternative_nodes rule path around k cases) ≡ true → list_any (encloses all t) (alternative_nodes rule path around k cases) ≡ false → CasesNot t cases
+    not_cases t no_alternatives rule path around k h n = tt
+    not_cases t (alternative name g tests more) rule path around k h n =
+        let one = nodes (alternative_role name tests rule) (path ++ k ∷ []) around g in
+        let two = alternative_nodes rule path around (suc k) more in
         let a = list_all-append passes one two h in
         let b = none_apart (encloses all t) one two n in
-        (not_node t g (an_alternative name tests) (path ++ k ∷ []) around a.0 b.0, not_cases t more path around (suc k) a.1 b.1)
+        (not_node t g (alternative_role name tests rule) (path ++ k ∷ []) around a.0 b.0, not_cases t more rule path around (suc k) a.1 b.1)
 
   mutual
     pub node_homes : (g : Grammar) (role : Role) (path around : List ℕ) → list_all passes (nodes role path around g) ≡ true → NodeHomes g
@@ -268,7 +269,7 @@ module _ (all : List Stand) (numbered : same_numbers (slots_of all) (range_with_
           fields_homes fields path (home ++ around) 0 i,
         )
     form_homes (list sizing g) role path around align h i = node_homes g an_element (path ++ 0 ∷ []) around i
-    form_homes (choice cases rule) role path around align h i = cases_homes cases path around 0 i
+    form_homes (choice cases rule) role path around align h i = cases_homes cases rule path around 0 i
     form_homes (contained sizing g) role path around align h i = node_homes g a_content (path ++ 0 ∷ []) around i
     form_homes (num leaf) role path around align h i = tt
     form_homes (octets sizing) role path around align h i = tt
@@ -278,17 +279,17 @@ module _ (all : List Stand) (numbered : same_numbers (slots_of all) (range_with_
     fields_homes : (fs : Fields) (path around : List ℕ) (k : ℕ) → list_all passes (field_nodes path around k fs) ≡ true → FieldsHomes fs
     fields_homes no_fields path around k h = tt
     fields_homes (component name g presence default own fs) path around k h =
-        let a = list_all-append passes (nodes (a_component name presence own) (path ++ k ∷ []) around g) (field_nodes path around (suc k) fs) h in
-        (node_homes g (a_component name presence own) (path ++ k ∷ []) around a.0, fields_homes fs path around (suc k) a.1)
+        let a = list_all-append passes (nodes (component_role name presence default own) (path ++ k ∷ []) around g) (field_nodes path around (suc k) fs) h in
+        (node_homes g (component_role name presence default own) (path ++ k ∷ []) around a.0, fields_homes fs path around (suc k) a.1)
     fields_homes (inserted name g slot fs) path around k h =
         let a = list_all-append passes (nodes (an_inserted name slot) (path ++ k ∷ []) around g) (field_nodes path around (suc k) fs) h in
         fields_homes fs path around (suc k) a.1
 
-    cases_homes : (cases : Alternatives) (path around : List ℕ) (k : ℕ) → list_all passes (alternative_nodes path around k cases) ≡ true → CasesHomes cases
-    cases_homes no_alternatives path around k h = tt
-    cases_homes (alternative name g tests more) path around k h =
-        let a = list_all-append passes (nodes (an_alternative name tests) (path ++ k ∷ []) around g) (alternative_nodes path around (suc k) more) h in
-        (node_homes g (an_alternative name tests) (path ++ k ∷ []) around a.0, cases_homes more path around (suc k) a.1)
+    cases_homes : (cases : Alternatives) (rule : ChoiceRule) (path around : List ℕ) (k : ℕ) → list_all passes (alternative_nodes rule path around k cases) ≡ true → CasesHomes cases
+    cases_homes no_alternatives rule path around k h = tt
+    cases_homes (alternative name g tests more) rule path around k h =
+        let a = list_all-append passes (nodes (alternative_role name tests rule) (path ++ k ∷ []) around g) (alternative_nodes rule path around (suc k) more) h in
+        (node_homes g (alternative_role name tests rule) (path ++ k ∷ []) around a.0, cases_homes more rule path around (suc k) a.1)
 
 pub tree_homes : (root : Grammar) → IsTree root → NodeHomes root
 tree_homes root tree = node_homes (nodes_of root) (tree_numbered root tree) (tree_rules root tree) root root_node [] [] (tree_rules root tree)

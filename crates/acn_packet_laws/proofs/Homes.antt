@@ -7,7 +7,8 @@ use Rattle.std.proofs.lemmas.List.Sums.{sum_by-append, sum_by-cons}
 use Rattle.acn_grammar.specs.Check.{CheckFault, unused, Undecodable}
 use Rattle.acn_grammar.specs.Grammar.{Grammar, Form, Fields, Alternatives, node, num, octets, bits, text, seq, list, choice, contained, no_fields, component, inserted, no_alternatives, alternative}
 use Rattle.acn_grammar.specs.Tree.{IsTree, holds, same_numbers, slots_of, is_slot, is_about, is_seq, encloses, is_home, near}
-use Rattle.acn_grammar.specs.Walk.{Stand, Role, a_component, an_inserted, an_alternative, an_element, a_content, root_node, nodes, nodes_of, form_nodes, field_nodes, alternative_nodes, slot_here, Use, slot_of, uses, inside}
+use Rattle.acn_grammar.specs.Walk.{Stand, Role, component_role, an_inserted, alternative_role, an_element, a_content, root_node, nodes, nodes_of, form_nodes, field_nodes, alternative_nodes, slot_here, Use, slot_of, uses, inside}
+use Rattle.acn_grammar.specs.declared.node.ChoiceRule.{ChoiceRule}
 use Rattle.acn_grammar.proofs.Texts.{either}
 use Rattle.acn_packet_laws.proofs.Overlaps.{contains_holds}
 use Rattle.acn_packet_laws.proofs.Placed.{any_left, any_right, any_either, holds_left, holds_right, holds_either, slots-field, list_all-holds, field_is, has_field, here_at, home_is, place_fine, to_fields, to_one, to_cases, first_component, next_component, first_inserted, next_inserted, first_case, next_case, root_place, is_number}
@@ -94,17 +95,17 @@ module _ (all : List Stand) (s : ℕ) where
     whole_form (text leaf) path around h = cc
     whole_form (seq fields home) path around h = whole_fields fields path (home ++ around) 0 h
     whole_form (list sizing g) path around h = whole_node g an_element (path ++ 0 ∷ []) around h
-    whole_form (choice cases rule) path around h = whole_cases cases path around 0 h
+    whole_form (choice cases rule) path around h = whole_cases cases rule path around 0 h
     whole_form (contained sizing g) path around h = whole_node g a_content (path ++ 0 ∷ []) around h
 
     pub whole_fields : (fs : Fields) (path around : List ℕ) (k : ℕ) → list_any (encloses all s) (field_nodes path around k fs) ≡ true → count_by (is_about s) all ≤ count_by (is_about s) (field_nodes path around k fs)
     whole_fields no_fields path around k h = cc
-    whole_fields (component name g presence default own fs) path around k h = whole_parts (nodes (a_component name presence own) (path ++ k ∷ []) around g) (field_nodes path around (suc k) fs) (whole_node g (a_component name presence own) (path ++ k ∷ []) around) (whole_fields fs path around (suc k)) h
+    whole_fields (component name g presence default own fs) path around k h = whole_parts (nodes (component_role name presence default own) (path ++ k ∷ []) around g) (field_nodes path around (suc k) fs) (whole_node g (component_role name presence default own) (path ++ k ∷ []) around) (whole_fields fs path around (suc k)) h
     whole_fields (inserted name g slot fs) path around k h = whole_parts (nodes (an_inserted name slot) (path ++ k ∷ []) around g) (field_nodes path around (suc k) fs) (whole_node g (an_inserted name slot) (path ++ k ∷ []) around) (whole_fields fs path around (suc k)) h
 
-    pub whole_cases : (cases : Alternatives) (path around : List ℕ) (k : ℕ) → list_any (encloses all s) (alternative_nodes path around k cases) ≡ true → count_by (is_about s) all ≤ count_by (is_about s) (alternative_nodes path around k cases)
-    whole_cases no_alternatives path around k h = cc
-    whole_cases (alternative name g tests more) path around k h = whole_parts (nodes (an_alternative name tests) (path ++ k ∷ []) around g) (alternative_nodes path around (suc k) more) (whole_node g (an_alternative name tests) (path ++ k ∷ []) around) (whole_cases more path around (suc k)) h
+    pub whole_cases : (cases : Alternatives) (rule : ChoiceRule) (path around : List ℕ) (k : ℕ) → list_any (encloses all s) (alternative_nodes rule path around k cases) ≡ true → count_by (is_about s) all ≤ count_by (is_about s) (alternative_nodes rule path around k cases)
+    whole_cases no_alternatives rule path around k h = cc
+    whole_cases (alternative name g tests more) rule path around k h = whole_parts (nodes (alternative_role name tests rule) (path ++ k ∷ []) around g) (alternative_nodes rule path around (suc k) more) (whole_node g (alternative_role name tests rule) (path ++ k ∷ []) around) (whole_cases more rule path around (suc k)) h
 
 module _ (root : Grammar) (tree : IsTree root) (sound : (f : CheckFault) → Undecodable root f → ⊥) where
   abbrev all : List Stand
@@ -160,15 +161,15 @@ module _ (root : Grammar) (tree : IsTree root) (sound : (f : CheckFault) → Und
     home_in (contained sizing g) pre role path around align post p s h =
         deeper role path around align (contained sizing g) s (home_of g (pre ++ here_at role path around align (contained sizing g) ∷ []) a_content (path ++ 0 ∷ []) around post (to_one (nodes_of root) (numbers root tree sound) (rules root tree sound) pre role path around align (contained sizing g) post a_content (path ++ 0 ∷ []) g refl refl p) s h)
     home_in (choice cases rule) pre role path around align post p s h =
-        deeper role path around align (choice cases rule) s (home_cases cases (pre ++ here_at role path around align (choice cases rule) ∷ []) path around 0 post (to_cases (nodes_of root) (numbers root tree sound) (rules root tree sound) pre role path around align cases rule post p) s h)
+        deeper role path around align (choice cases rule) s (home_cases cases (pre ++ here_at role path around align (choice cases rule) ∷ []) rule path around 0 post (to_cases (nodes_of root) (numbers root tree sound) (rules root tree sound) pre role path around align cases rule post p) s h)
 
     home_fields : (fs : Fields) (pre : List Stand) (path around : List ℕ) (k : ℕ) (post : List Stand) → FieldsAt root tree sound pre path around k fs post → (s : ℕ) → named s (field_nodes path around k fs) ≡ true → IsHomed around (field_nodes path around k fs) s
     home_fields no_fields pre path around k post p s h = cc
     home_fields (component name g presence default own fs) pre path around k post p s h =
-        let a = nodes (a_component name presence own) (path ++ k ∷ []) around g in
+        let a = nodes (component_role name presence default own) (path ++ k ∷ []) around g in
         let b = field_nodes path around (suc k) fs in
-        any_either {F = IsHomed around (field_nodes path around k (component name g presence default own fs)) s} (used s) (nodes (a_component name presence own) (path ++ k ∷ []) around g) (field_nodes path around (suc k) fs) h
-        (λ q. left_home around a b s (home_of g pre (a_component name presence own) (path ++ k ∷ []) around (b ++ post) (first_component (nodes_of root) (numbers root tree sound) (rules root tree sound) pre path around k name g presence default own fs post p) s q))
+        any_either {F = IsHomed around (field_nodes path around k (component name g presence default own fs)) s} (used s) (nodes (component_role name presence default own) (path ++ k ∷ []) around g) (field_nodes path around (suc k) fs) h
+        (λ q. left_home around a b s (home_of g pre (component_role name presence default own) (path ++ k ∷ []) around (b ++ post) (first_component (nodes_of root) (numbers root tree sound) (rules root tree sound) pre path around k name g presence default own fs post p) s q))
         (λ q. right_home around a b s (home_fields fs (pre ++ a) path around (suc k) post (next_component (nodes_of root) (numbers root tree sound) (rules root tree sound) pre path around k name g presence default own fs post p) s q))
     home_fields (inserted name g slot fs) pre path around k post p s h =
         let a = nodes (an_inserted name slot) (path ++ k ∷ []) around g in
@@ -177,14 +178,14 @@ module _ (root : Grammar) (tree : IsTree root) (sound : (f : CheckFault) → Und
         (λ q. left_home around a b s (home_of g pre (an_inserted name slot) (path ++ k ∷ []) around (b ++ post) (first_inserted (nodes_of root) (numbers root tree sound) (rules root tree sound) pre path around k name g slot fs post p) s q))
         (λ q. right_home around a b s (home_fields fs (pre ++ a) path around (suc k) post (next_inserted (nodes_of root) (numbers root tree sound) (rules root tree sound) pre path around k name g slot fs post p) s q))
 
-    home_cases : (cases : Alternatives) (pre : List Stand) (path around : List ℕ) (k : ℕ) (post : List Stand) → CasesAt root tree sound pre path around k cases post → (s : ℕ) → named s (alternative_nodes path around k cases) ≡ true → IsHomed around (alternative_nodes path around k cases) s
-    home_cases no_alternatives pre path around k post p s h = cc
-    home_cases (alternative name g tests more) pre path around k post p s h =
-        let a = nodes (an_alternative name tests) (path ++ k ∷ []) around g in
-        let b = alternative_nodes path around (suc k) more in
-        any_either {F = IsHomed around (alternative_nodes path around k (alternative name g tests more)) s} (used s) (nodes (an_alternative name tests) (path ++ k ∷ []) around g) (alternative_nodes path around (suc k) more) h
-        (λ q. left_home around a b s (home_of g pre (an_alternative name tests) (path ++ k ∷ []) around (b ++ post) (first_case (nodes_of root) (numbers root tree sound) (rules root tree sound) pre path around k name g tests more post p) s q))
-        (λ q. right_home around a b s (home_cases more (pre ++ a) path around (suc k) post (next_case (nodes_of root) (numbers root tree sound) (rules root tree sound) pre path around k name g tests more post p) s q))
+    home_cases : (cases : Alternatives) (pre : List Stand) (rule : ChoiceRule) (path around : List ℕ) (k : ℕ) (post : List Stand) → CasesAt root tree sound pre rule path around k cases post → (s : ℕ) → named s (alternative_nodes rule path around k cases) ≡ true → IsHomed around (alternative_nodes rule path around k cases) s
+    home_cases no_alternatives pre rule path around k post p s h = cc
+    home_cases (alternative name g tests more) pre rule path around k post p s h =
+        let a = nodes (alternative_role name tests rule) (path ++ k ∷ []) around g in
+        let b = alternative_nodes rule path around (suc k) more in
+        any_either {F = IsHomed around (alternative_nodes rule path around k (alternative name g tests more)) s} (used s) (nodes (alternative_role name tests rule) (path ++ k ∷ []) around g) (alternative_nodes rule path around (suc k) more) h
+        (λ q. left_home around a b s (home_of g pre (alternative_role name tests rule) (path ++ k ∷ []) around (b ++ post) (first_case (nodes_of root) (numbers root tree sound) (rules root tree sound) pre rule path around k name g tests more post p) s q))
+        (λ q. right_home around a b s (home_cases more (pre ++ a) rule path around (suc k) post (next_case (nodes_of root) (numbers root tree sound) (rules root tree sound) pre rule path around k name g tests more post p) s q))
 
   -- at the root: a slot without a use would be a fault
   pub root_homed : Homed [] (nodes_of root)

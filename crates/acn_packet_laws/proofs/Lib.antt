@@ -21,6 +21,7 @@ mod EndedTotal
 mod Envs
 mod Exclusion
 mod ExclusionLaws
+mod FailurePaths
 mod FineNodes
 mod FirstFaults
 mod FirstUnmets
@@ -48,10 +49,12 @@ mod Moves
 mod NodeExclusion
 mod NodeLaws
 mod NodeParts
+mod NodePaths
 mod NodeTotal
 mod NumberRows
 mod NumberTotal
 mod Occurrences
+mod OnPaths
 mod OneFault
 mod OneRefusals
 mod OneWriting
@@ -64,6 +67,7 @@ mod PrefixNodes
 mod Reaches
 -- for acn_plain
 pub mod ReadParts
+mod RefusalPaths
 mod RefusedUnspelled
 mod RequestRows
 mod Rows

@@ -8,7 +8,8 @@ use Rattle.acn_grammar.specs.Grammar.{Grammar, Form, Fields, Alternatives, node,
 use Rattle.acn_packet_laws.specs.Laws.{IsAccepted, AcceptedIsScoped, NodesArePrefixFree, SlotFieldsArePrefixFree, EachNodeIsPrefixFree, PacketsArePrefixFree, FieldBefore}
 use Rattle.acn_grammar.specs.Scoped.{Known}
 use Rattle.acn_grammar.specs.Tree.{IsTree, holds}
-use Rattle.acn_grammar.specs.Walk.{Stand, Role, a_component, an_inserted, an_alternative, an_element, a_content, root_node, nodes, nodes_of, field_nodes, alternative_nodes, inside, slot_of, uses}
+use Rattle.acn_grammar.specs.Walk.{Stand, Role, component_role, an_inserted, alternative_role, an_element, a_content, root_node, nodes, nodes_of, field_nodes, alternative_nodes, inside, slot_of, uses}
+use Rattle.acn_grammar.specs.declared.node.ChoiceRule.{ChoiceRule}
 use Rattle.acn_packet_laws.proofs.Accepted.{scoped, root_scoped}
 use Rattle.acn_packet_laws.proofs.FirstFaults.{none_without_first}
 use Rattle.acn_packet_laws.proofs.Placed.{here_at, to_fields, to_one, to_cases, first_component, next_component, first_inserted, next_inserted, first_case, next_case, has_field, root_place, inside_near, slots-field}
@@ -69,7 +70,7 @@ module _ (root : Grammar) (tree : IsTree root) (sound : (f : CheckFault) → Und
     located (node align (contained sizing g)) pre role path around post p (suc n) at e =
         one_further at (here_at role path around align (contained sizing g)) pre n (located g (pre ++ here_at role path around align (contained sizing g) ∷ []) a_content (path ++ 0 ∷ []) around post (to_one (nodes_of root) (numbers root tree sound) (rules root tree sound) pre role path around align (contained sizing g) post a_content (path ++ 0 ∷ []) g refl refl p) n at e)
     located (node align (choice cases rule)) pre role path around post p (suc n) at e =
-        one_further at (here_at role path around align (choice cases rule)) pre n (located_cases cases (pre ++ here_at role path around align (choice cases rule) ∷ []) path around 0 post (to_cases (nodes_of root) (numbers root tree sound) (rules root tree sound) pre role path around align cases rule post p) n at e)
+        one_further at (here_at role path around align (choice cases rule)) pre n (located_cases cases (pre ++ here_at role path around align (choice cases rule) ∷ []) rule path around 0 post (to_cases (nodes_of root) (numbers root tree sound) (rules root tree sound) pre role path around align cases rule post p) n at e)
     located (node align (num leaf)) pre role path around post p (suc n) at e = cc
     located (node align (octets sizing)) pre role path around post p (suc n) at e = cc
     located (node align (bits sizing)) pre role path around post p (suc n) at e = cc
@@ -78,10 +79,10 @@ module _ (root : Grammar) (tree : IsTree root) (sound : (f : CheckFault) → Und
     located_fields : (fs : Fields) (pre : List Stand) (path around : List ℕ) (k : ℕ) (post : List Stand) → FieldsAt root tree sound pre path around k fs post → (n : ℕ) (at : Stand) → slice_get (field_nodes path around k fs) n ≡ Some at → Located at (length pre + n)
     located_fields no_fields pre path around k post p n at e = cc
     located_fields (component name g presence default own fs) pre path around k post p n at e =
-        let a = nodes (a_component name presence own) (path ++ k ∷ []) around g in
+        let a = nodes (component_role name presence default own) (path ++ k ∷ []) around g in
         let b = field_nodes path around (suc k) fs in
         in_either {F = Located at (length pre + n)} a b n at e
-        (λ h. located g pre (a_component name presence own) (path ++ k ∷ []) around (b ++ post) (first_component (nodes_of root) (numbers root tree sound) (rules root tree sound) pre path around k name g presence default own fs post p) n at h)
+        (λ h. located g pre (component_role name presence default own) (path ++ k ∷ []) around (b ++ post) (first_component (nodes_of root) (numbers root tree sound) (rules root tree sound) pre path around k name g presence default own fs post p) n at h)
         (λ m same h. further at pre a n m same (located_fields fs (pre ++ a) path around (suc k) post (next_component (nodes_of root) (numbers root tree sound) (rules root tree sound) pre path around k name g presence default own fs post p) m at h))
     located_fields (inserted name g slot fs) pre path around k post p n at e =
         let a = nodes (an_inserted name slot) (path ++ k ∷ []) around g in
@@ -90,14 +91,14 @@ module _ (root : Grammar) (tree : IsTree root) (sound : (f : CheckFault) → Und
         (λ h. located g pre (an_inserted name slot) (path ++ k ∷ []) around (b ++ post) (first_inserted (nodes_of root) (numbers root tree sound) (rules root tree sound) pre path around k name g slot fs post p) n at h)
         (λ m same h. further at pre a n m same (located_fields fs (pre ++ a) path around (suc k) post (next_inserted (nodes_of root) (numbers root tree sound) (rules root tree sound) pre path around k name g slot fs post p) m at h))
 
-    located_cases : (cases : Alternatives) (pre : List Stand) (path around : List ℕ) (k : ℕ) (post : List Stand) → CasesAt root tree sound pre path around k cases post → (n : ℕ) (at : Stand) → slice_get (alternative_nodes path around k cases) n ≡ Some at → Located at (length pre + n)
-    located_cases no_alternatives pre path around k post p n at e = cc
-    located_cases (alternative name g tests more) pre path around k post p n at e =
-        let a = nodes (an_alternative name tests) (path ++ k ∷ []) around g in
-        let b = alternative_nodes path around (suc k) more in
+    located_cases : (cases : Alternatives) (pre : List Stand) (rule : ChoiceRule) (path around : List ℕ) (k : ℕ) (post : List Stand) → CasesAt root tree sound pre rule path around k cases post → (n : ℕ) (at : Stand) → slice_get (alternative_nodes rule path around k cases) n ≡ Some at → Located at (length pre + n)
+    located_cases no_alternatives pre rule path around k post p n at e = cc
+    located_cases (alternative name g tests more) pre rule path around k post p n at e =
+        let a = nodes (alternative_role name tests rule) (path ++ k ∷ []) around g in
+        let b = alternative_nodes rule path around (suc k) more in
         in_either {F = Located at (length pre + n)} a b n at e
-        (λ h. located g pre (an_alternative name tests) (path ++ k ∷ []) around (b ++ post) (first_case (nodes_of root) (numbers root tree sound) (rules root tree sound) pre path around k name g tests more post p) n at h)
-        (λ m same h. further at pre a n m same (located_cases more (pre ++ a) path around (suc k) post (next_case (nodes_of root) (numbers root tree sound) (rules root tree sound) pre path around k name g tests more post p) m at h))
+        (λ h. located g pre (alternative_role name tests rule) (path ++ k ∷ []) around (b ++ post) (first_case (nodes_of root) (numbers root tree sound) (rules root tree sound) pre rule path around k name g tests more post p) n at h)
+        (λ m same h. further at pre a n m same (located_cases more (pre ++ a) rule path around (suc k) post (next_case (nodes_of root) (numbers root tree sound) (rules root tree sound) pre rule path around k name g tests more post p) m at h))
 
   -- what is known before a node: the open slots that it or a node inside it uses and whose fields stand before
   abbrev known_before : (pre : List Stand) (here : Stand) → Known

@@ -6,7 +6,7 @@ use Rattle.std.specs.List.{list_any, list_all, range_with_len, cons_option}
 use Rattle.acn_grammar.specs.Asks.{same_name}
 use Rattle.acn_grammar.specs.Grammar.{Grammar, Form, Fields, Alternatives, node, num, octets, bits, text, seq, list, choice, contained, no_fields, component, inserted, alternative}
 use Rattle.acn_grammar.specs.Tree.{IsTree, holds, same_numbers, slots_of, is_slot, is_home, encloses, near, near_node, near_form, near_if, slot_list, home_fine, role_fine, inserted_fine, own_fine, presence_fine, all_true, stand_rules}
-use Rattle.acn_grammar.specs.Walk.{Stand, Role, a_component, an_inserted, an_alternative, an_element, a_content, root_node, nodes, nodes_of, form_nodes, field_nodes, alternative_nodes, slot_here}
+use Rattle.acn_grammar.specs.Walk.{Stand, Role, component_role, a_component, an_inserted, alternative_role, an_alternative, an_element, a_content, root_node, nodes, nodes_of, form_nodes, field_nodes, alternative_nodes, slot_here}
 use Rattle.acn_grammar.specs.declared.node.Presence.{Presence}
 use Rattle.acn_grammar.specs.declared.node.Presence.TheVariants.{Always, Bit, When}
 use Rattle.acn_grammar.specs.declared.node.ChoiceRule.{ChoiceRule}
@@ -130,9 +130,9 @@ mutual
   near_has no_fields path around k s h = cc
   near_has (component name g presence default own fs) path around k s h =
       near_parts {F = has_field s (field_nodes path around k (component name g presence default own fs)) ≡ true} own presence (near_node g) (near fs) s h
-      (λ q. any_left (field_is s) (nodes (a_component name presence own) (path ++ k ∷ []) around g) (field_nodes path around (suc k) fs) (slot_in (a_component name presence own) (path ++ k ∷ []) around g s q))
-      (λ q. any_left (field_is s) (nodes (a_component name presence own) (path ++ k ∷ []) around g) (field_nodes path around (suc k) fs) (near_node_has g (a_component name presence own) (path ++ k ∷ []) around s (near_if_when presence (near_node g) s q).1))
-      (λ q. any_right (field_is s) (nodes (a_component name presence own) (path ++ k ∷ []) around g) (field_nodes path around (suc k) fs) (near_has fs path around (suc k) s q))
+      (λ q. any_left (field_is s) (nodes (component_role name presence default own) (path ++ k ∷ []) around g) (field_nodes path around (suc k) fs) (slot_in (component_role name presence default own) (path ++ k ∷ []) around g s q))
+      (λ q. any_left (field_is s) (nodes (component_role name presence default own) (path ++ k ∷ []) around g) (field_nodes path around (suc k) fs) (near_node_has g (component_role name presence default own) (path ++ k ∷ []) around s (near_if_when presence (near_node g) s q).1))
+      (λ q. any_right (field_is s) (nodes (component_role name presence default own) (path ++ k ∷ []) around g) (field_nodes path around (suc k) fs) (near_has fs path around (suc k) s q))
   near_has (inserted name g None fs) path around k s h =
       any_right (field_is s) (nodes (an_inserted name None) (path ++ k ∷ []) around g) (field_nodes path around (suc k) fs) (near_has fs path around (suc k) s h)
   near_has (inserted name (node align form) (Some t) fs) path around k s h =
@@ -175,9 +175,9 @@ own_number (Some t) (When ts) form s h e = cc
 
 pub field_number : (role : Role) (form : Form) (s : ℕ) → role_fine role form ≡ true → is_slot s (slot_here role) ≡ true → is_number form ≡ true
 field_number root_node form s h e = cc
-field_number (a_component name presence own) form s h e = (own_number own presence form s (and_parts (presence_fine presence) (own_fine own presence form) h).1 e).1
+field_number (a_component one) form s h e = (own_number one.slot one.presence form s (and_parts (presence_fine one.presence) (own_fine one.slot one.presence form) h).1 e).1
 field_number (an_inserted name slot) form s h e = inserted_number slot form h
-field_number (an_alternative name tests) form s h e = cc
+field_number (an_alternative one) form s h e = cc
 field_number an_element form s h e = cc
 field_number a_content form s h e = cc
 
@@ -231,11 +231,11 @@ module _ (all : List Stand) (numbered : same_numbers (slots_of all) (range_with_
     pub alone : (s : ℕ) → holds around s ≡ true → list_any (encloses all s) (field_nodes path around k fs) ≡ false
     pub close : (s : ℕ) → holds around s ≡ true → has_field s (field_nodes path around k fs) ≡ true → holds (near fs) s ≡ true
 
-  pub record CasesPlace (pre : List Stand) (path around : List ℕ) (k : ℕ) (cases : Alternatives) (post : List Stand) : Type 0 where
-    pub whole : all ≡ pre ++ (alternative_nodes path around k cases ++ post)
+  pub record CasesPlace (pre : List Stand) (rule : ChoiceRule) (path around : List ℕ) (k : ℕ) (cases : Alternatives) (post : List Stand) : Type 0 where
+    pub whole : all ≡ pre ++ (alternative_nodes rule path around k cases ++ post)
     pub open_slots : (s : ℕ) → holds around s ≡ true → has_field s all ≡ true
-    pub alone : (s : ℕ) → holds around s ≡ true → list_any (encloses all s) (alternative_nodes path around k cases) ≡ false
-    pub none : (s : ℕ) → holds around s ≡ true → has_field s (alternative_nodes path around k cases) ≡ true → ⊥
+    pub alone : (s : ℕ) → holds around s ≡ true → list_any (encloses all s) (alternative_nodes rule path around k cases) ≡ false
+    pub none : (s : ℕ) → holds around s ≡ true → has_field s (alternative_nodes rule path around k cases) ≡ true → ⊥
 
   neither : (a b : Bool) → (a || b) ≡ false → (a ≡ false) × (b ≡ false)
   neither true b h = cc
@@ -296,12 +296,12 @@ module _ (all : List Stand) (numbered : same_numbers (slots_of all) (range_with_
 
   -- into a CHOICE
   pub to_cases : (pre : List Stand) (role : Role) (path around : List ℕ) (align : ℕ) (cases : Alternatives) (rule : ChoiceRule) (post : List Stand) → Place pre role path around (node align (choice cases rule)) post
-      → CasesPlace (pre ++ here_at role path around align (choice cases rule) ∷ []) path around 0 cases post
+      → CasesPlace (pre ++ here_at role path around align (choice cases rule) ∷ []) rule path around 0 cases post
   to_cases pre role path around align cases rule post p =
       record {
-        whole = p.whole ∙ split_here pre (here_at role path around align (choice cases rule)) (alternative_nodes path around 0 cases) post;
+        whole = p.whole ∙ split_here pre (here_at role path around align (choice cases rule)) (alternative_nodes rule path around 0 cases) post;
         open_slots = p.open_slots;
-        alone = λ s o. (neither (encloses all s (here_at role path around align (choice cases rule))) (list_any (encloses all s) (alternative_nodes path around 0 cases)) (p.alone s o)).1;
+        alone = λ s o. (neither (encloses all s (here_at role path around align (choice cases rule))) (list_any (encloses all s) (alternative_nodes rule path around 0 cases)) (p.alone s o)).1;
         none = λ s o h. let n = inside_near pre role path around align (choice cases rule) post p s o h in cc;
       }
 
@@ -317,19 +317,19 @@ module _ (all : List Stand) (numbered : same_numbers (slots_of all) (range_with_
 
   -- Along the fields.
 
-  abbrev component_nodes : (path around : List ℕ) (k : ℕ) (name : List ℕ) (g : Grammar) (presence : Presence) (own : Option ℕ) → List Stand
-  component_nodes path around k name g presence own = nodes (a_component name presence own) (path ++ k ∷ []) around g
+  abbrev component_nodes : (path around : List ℕ) (k : ℕ) (name : List ℕ) (g : Grammar) (presence : Presence) (default : Option (List ℕ)) (own : Option ℕ) → List Stand
+  component_nodes path around k name g presence default own = nodes (component_role name presence default own) (path ++ k ∷ []) around g
 
   abbrev inserted_nodes : (path around : List ℕ) (k : ℕ) (name : List ℕ) (g : Grammar) (slot : Option ℕ) → List Stand
   inserted_nodes path around k name g slot = nodes (an_inserted name slot) (path ++ k ∷ []) around g
 
   pub first_component : (pre : List Stand) (path around : List ℕ) (k : ℕ) (name : List ℕ) (g : Grammar) (presence : Presence) (default : Option (List ℕ)) (own : Option ℕ) (fs : Fields) (post : List Stand) → FieldsPlace pre path around k (component name g presence default own fs) post
-      → Place pre (a_component name presence own) (path ++ k ∷ []) around g (field_nodes path around (suc k) fs ++ post)
+      → Place pre (component_role name presence default own) (path ++ k ∷ []) around g (field_nodes path around (suc k) fs ++ post)
   first_component pre path around k name g presence default own fs post p =
-      let a = component_nodes path around k name g presence own in
+      let a = component_nodes path around k name g presence default own in
       let b = field_nodes path around (suc k) fs in
       record {
-        whole = p.whole ∙ split_more pre (component_nodes path around k name g presence own) (field_nodes path around (suc k) fs) post;
+        whole = p.whole ∙ split_more pre (component_nodes path around k name g presence default own) (field_nodes path around (suc k) fs) post;
         open_slots = p.open_slots;
         alone = λ s o. none_left (encloses all s) a b (p.alone s o);
         close = λ s o h n. near_parts {F = holds (near_node g) s ≡ true} own presence (near_node g) (near fs) s (p.close s o (any_left (field_is s) a b h))
@@ -339,17 +339,17 @@ module _ (all : List Stand) (numbered : same_numbers (slots_of all) (range_with_
       }
 
   pub next_component : (pre : List Stand) (path around : List ℕ) (k : ℕ) (name : List ℕ) (g : Grammar) (presence : Presence) (default : Option (List ℕ)) (own : Option ℕ) (fs : Fields) (post : List Stand) → FieldsPlace pre path around k (component name g presence default own fs) post
-      → FieldsPlace (pre ++ nodes (a_component name presence own) (path ++ k ∷ []) around g) path around (suc k) fs post
+      → FieldsPlace (pre ++ nodes (component_role name presence default own) (path ++ k ∷ []) around g) path around (suc k) fs post
   next_component pre path around k name g presence default own fs post p =
-      let a = component_nodes path around k name g presence own in
+      let a = component_nodes path around k name g presence default own in
       let b = field_nodes path around (suc k) fs in
       record {
-        whole = p.whole ∙ moved pre (component_nodes path around k name g presence own) (field_nodes path around (suc k) fs) post;
+        whole = p.whole ∙ moved pre (component_nodes path around k name g presence default own) (field_nodes path around (suc k) fs) post;
         open_slots = p.open_slots;
         alone = λ s o. none_right (encloses all s) a b (p.alone s o);
         close = λ s o h. near_parts {F = holds (near fs) s ≡ true} own presence (near_node g) (near fs) s (p.close s o (any_right (field_is s) a b h))
-            (λ q. absurd (parts_apart pre a b post p.whole s (slot_in (a_component name presence own) (path ++ k ∷ []) around g s q) h))
-            (λ q. absurd (parts_apart pre a b post p.whole s (near_node_has g (a_component name presence own) (path ++ k ∷ []) around s (near_if_when presence (near_node g) s q).1) h))
+            (λ q. absurd (parts_apart pre a b post p.whole s (slot_in (component_role name presence default own) (path ++ k ∷ []) around g s q) h))
+            (λ q. absurd (parts_apart pre a b post p.whole s (near_node_has g (component_role name presence default own) (path ++ k ∷ []) around s (near_if_when presence (near_node g) s q).1) h))
             (λ q. q);
       }
 
@@ -392,28 +392,28 @@ module _ (all : List Stand) (numbered : same_numbers (slots_of all) (range_with_
 
   -- Along the alternatives.
 
-  abbrev case_nodes : (path around : List ℕ) (k : ℕ) (name : List ℕ) (g : Grammar) (tests : List Test) → List Stand
-  case_nodes path around k name g tests = nodes (an_alternative name tests) (path ++ k ∷ []) around g
+  abbrev case_nodes : (rule : ChoiceRule) (path around : List ℕ) (k : ℕ) (name : List ℕ) (g : Grammar) (tests : List Test) → List Stand
+  case_nodes rule path around k name g tests = nodes (alternative_role name tests rule) (path ++ k ∷ []) around g
 
-  pub first_case : (pre : List Stand) (path around : List ℕ) (k : ℕ) (name : List ℕ) (g : Grammar) (tests : List Test) (more : Alternatives) (post : List Stand) → CasesPlace pre path around k (alternative name g tests more) post
-      → Place pre (an_alternative name tests) (path ++ k ∷ []) around g (alternative_nodes path around (suc k) more ++ post)
-  first_case pre path around k name g tests more post p =
-      let a = case_nodes path around k name g tests in
-      let b = alternative_nodes path around (suc k) more in
+  pub first_case : (pre : List Stand) (rule : ChoiceRule) (path around : List ℕ) (k : ℕ) (name : List ℕ) (g : Grammar) (tests : List Test) (more : Alternatives) (post : List Stand) → CasesPlace pre rule path around k (alternative name g tests more) post
+      → Place pre (alternative_role name tests rule) (path ++ k ∷ []) around g (alternative_nodes rule path around (suc k) more ++ post)
+  first_case pre rule path around k name g tests more post p =
+      let a = case_nodes rule path around k name g tests in
+      let b = alternative_nodes rule path around (suc k) more in
       record {
-        whole = p.whole ∙ split_more pre (case_nodes path around k name g tests) (alternative_nodes path around (suc k) more) post;
+        whole = p.whole ∙ split_more pre (case_nodes rule path around k name g tests) (alternative_nodes rule path around (suc k) more) post;
         open_slots = p.open_slots;
         alone = λ s o. none_left (encloses all s) a b (p.alone s o);
         close = λ s o h _. absurd (p.none s o (any_left (field_is s) a b h));
       }
 
-  pub next_case : (pre : List Stand) (path around : List ℕ) (k : ℕ) (name : List ℕ) (g : Grammar) (tests : List Test) (more : Alternatives) (post : List Stand) → CasesPlace pre path around k (alternative name g tests more) post
-      → CasesPlace (pre ++ nodes (an_alternative name tests) (path ++ k ∷ []) around g) path around (suc k) more post
-  next_case pre path around k name g tests more post p =
-      let a = case_nodes path around k name g tests in
-      let b = alternative_nodes path around (suc k) more in
+  pub next_case : (pre : List Stand) (rule : ChoiceRule) (path around : List ℕ) (k : ℕ) (name : List ℕ) (g : Grammar) (tests : List Test) (more : Alternatives) (post : List Stand) → CasesPlace pre rule path around k (alternative name g tests more) post
+      → CasesPlace (pre ++ nodes (alternative_role name tests rule) (path ++ k ∷ []) around g) rule path around (suc k) more post
+  next_case pre rule path around k name g tests more post p =
+      let a = case_nodes rule path around k name g tests in
+      let b = alternative_nodes rule path around (suc k) more in
       record {
-        whole = p.whole ∙ moved pre (case_nodes path around k name g tests) (alternative_nodes path around (suc k) more) post;
+        whole = p.whole ∙ moved pre (case_nodes rule path around k name g tests) (alternative_nodes rule path around (suc k) more) post;
         open_slots = p.open_slots;
         alone = λ s o. none_right (encloses all s) a b (p.alone s o);
         none = λ s o h. p.none s o (any_right (field_is s) a b h);

@@ -1,6 +1,6 @@
 -- In a tree without a fault each use names a slot whose number is known where it stands.
 use Rattle.std.proofs.lemmas.Bool.{and_from, false_from_ne_true, or_left, or_parts, or_right, and_parts, eqb-true}
-use Rattle.std.proofs.Common.{◌≡◌, ℕ, zero, suc, ◌<◌, Bool, true, false, not, List, [], ◌∷◌, ◌++◌, length, map, Option, Some, None, refl, sym, ap, ◌∙◌, arith, nat_eq, ◌||◌}
+use Rattle.std.proofs.Common.{◌≡◌, ℕ, zero, suc, ◌<◌, Bool, true, false, not, List, [], ◌∷◌, ◌++◌, length, map, Option, Some, None, refl, sym, ap, ◌∙◌, arith, nat_eq, ◌&&◌, ◌||◌}
 use Rattle.std.specs.Prelude.{slice_get}
 use Rattle.std.specs.List.{list_any, list_all, range_with_len}
 use Rattle.std.proofs.lemmas.Bool.Decides.{nat_tests}
@@ -8,7 +8,8 @@ use Rattle.acn_grammar.specs.Check.{CheckFault, forward, Undecodable}
 use Rattle.acn_grammar.specs.Grammar.{Grammar, Form, Fields, Alternatives, node, num, octets, bits, text, seq, list, choice, contained, no_fields, component, inserted, no_alternatives, alternative}
 use Rattle.acn_grammar.specs.Scoped.{Known, with_slot, TestsIn, PresenceIn, RuleIn, FineField, choose_known, with_own, after, fields_after, names_of}
 use Rattle.acn_grammar.specs.Tree.{IsTree, holds, is_slot, near, near_node, role_fine, own_fine, presence_fine, encloses, form_fine, same_numbers, slots_of, all_true, stand_rules}
-use Rattle.acn_grammar.specs.Walk.{Stand, Role, a_component, an_inserted, an_alternative, an_element, a_content, root_node, nodes, nodes_of, form_nodes, field_nodes, slot_here, Use, condition, slot_of, uses, own_tests, presence_tests, form_uses, rule_uses, conditions_of}
+use Rattle.acn_grammar.specs.Walk.{Stand, Role, component_role, a_component, an_inserted, an_alternative, an_element, a_content, root_node, nodes, nodes_of, form_nodes, field_nodes, slot_here, Use, condition, slot_of, uses, own_tests, presence_tests, form_uses, rule_uses, conditions_of}
+use Rattle.acn_grammar.specs.declared.node.ChoiceRule.{ChoiceRule}
 use Rattle.acn_grammar.specs.declared.node.Presence.{Presence}
 use Rattle.acn_grammar.specs.declared.node.Presence.TheVariants.{Always, Bit, When}
 use Rattle.acn_grammar.specs.declared.node.SizeRule.{SizeRule}
@@ -64,20 +65,23 @@ get_later : {A : Type 0} (a : List A) (x y : A) (c : List A) (j : ℕ) → slice
 get_later [] x y c j e = (suc j, omega arith, e)
 get_later (z ∷ a) x y c j e = let r = get_later a x y c j e in (suc r.0, omega (arith, r.1), r.2)
 
+no_uses_own : (presence : Presence) (own : Option ℕ) (form : Form) (s t : ℕ) → (presence_fine presence && own_fine own presence form) ≡ true → is_slot s own ≡ true → holds (map slot_of (map condition (presence_tests presence) ++ form_uses form)) t ≡ true → ⊥
+no_uses_own presence None form s t f h u = cc
+no_uses_own (When ts) (Some o) form s t f h u = let g = (and_parts (presence_fine (When ts)) false f).1 in cc
+no_uses_own Bit (Some o) form s t f h u = cc
+no_uses_own Always (Some o) (num leaf) s t f h u = cc
+no_uses_own Always (Some o) (octets sizing) s t f h u = cc
+no_uses_own Always (Some o) (bits sizing) s t f h u = cc
+no_uses_own Always (Some o) (text leaf) s t f h u = cc
+no_uses_own Always (Some o) (seq _ home) s t f h u = cc
+no_uses_own Always (Some o) (list sizing g) s t f h u = cc
+no_uses_own Always (Some o) (choice cases rule) s t f h u = cc
+no_uses_own Always (Some o) (contained sizing g) s t f h u = cc
+
 no_uses : (role : Role) (path around : List ℕ) (align : ℕ) (form : Form) (s t : ℕ) → role_fine role form ≡ true → is_slot s (slot_here role) ≡ true → used t (record { path = path; around = around; role = role; align = align; form = form }) ≡ true → ⊥
 no_uses root_node path around align form s t f h u = cc
-no_uses (a_component name presence None) path around align form s t f h u = cc
-no_uses (a_component name (When ts) (Some o)) path around align form s t f h u = let g = (and_parts (presence_fine (When ts)) false f).1 in cc
-no_uses (a_component name Bit (Some o)) path around align form s t f h u = cc
-no_uses (a_component name Always (Some o)) path around align (num leaf) s t f h u = cc
-no_uses (a_component name Always (Some o)) path around align (octets sizing) s t f h u = cc
-no_uses (a_component name Always (Some o)) path around align (bits sizing) s t f h u = cc
-no_uses (a_component name Always (Some o)) path around align (text leaf) s t f h u = cc
-no_uses (a_component name Always (Some o)) path around align (seq _ home) s t f h u = cc
-no_uses (a_component name Always (Some o)) path around align (list sizing g) s t f h u = cc
-no_uses (a_component name Always (Some o)) path around align (choice cases rule) s t f h u = cc
-no_uses (a_component name Always (Some o)) path around align (contained sizing g) s t f h u = cc
-no_uses (an_alternative name tests) path around align form s t f h u = cc
+no_uses (a_component one) path around align form s t f h u = no_uses_own one.presence one.slot form s t f h u
+no_uses (an_alternative one) path around align form s t f h u = cc
 no_uses an_element path around align form s t f h u = cc
 no_uses a_content path around align form s t f h u = cc
 no_uses (an_inserted name slot) path around align (num leaf) s t f h u = cc
@@ -147,18 +151,18 @@ mutual
   fields_after_from : (fs : Fields) (path around : List ℕ) (k : ℕ) (ks : Known) (s : ℕ) → fields_after ks fs s ≡ true → (ks s || has_field s (field_nodes path around k fs)) ≡ true
   fields_after_from no_fields path around k ks s h = or_left (ks s) false h
   fields_after_from (component name g Always default own fs) path around k ks s h =
-      let a = nodes (a_component name Always own) (path ++ k ∷ []) around g in
+      let a = nodes (component_role name Always default own) (path ++ k ∷ []) around g in
       let b = field_nodes path around (suc k) fs in
-      either {F = (ks s || has_field s (nodes (a_component name Always own) (path ++ k ∷ []) around g ++ field_nodes path around (suc k) fs)) ≡ true} (with_own own (after ks g) s) (has_field s b) (fields_after_from fs path around (suc k) (with_own own (after ks g)) s h)
-      (λ q. own_either {F = (ks s || has_field s (nodes (a_component name Always own) (path ++ k ∷ []) around g ++ field_nodes path around (suc k) fs)) ≡ true} own (after ks g) s q
-      (λ r. or_right (ks s) (has_field s (a ++ b)) (any_left (field_is s) a b (slot_in (a_component name Always own) (path ++ k ∷ []) around g s r)))
-      (λ t. either {F = (ks s || has_field s (nodes (a_component name Always own) (path ++ k ∷ []) around g ++ field_nodes path around (suc k) fs)) ≡ true} (ks s) (has_field s a) (after_from g (a_component name Always own) (path ++ k ∷ []) around ks s t)
+      either {F = (ks s || has_field s (nodes (component_role name Always default own) (path ++ k ∷ []) around g ++ field_nodes path around (suc k) fs)) ≡ true} (with_own own (after ks g) s) (has_field s b) (fields_after_from fs path around (suc k) (with_own own (after ks g)) s h)
+      (λ q. own_either {F = (ks s || has_field s (nodes (component_role name Always default own) (path ++ k ∷ []) around g ++ field_nodes path around (suc k) fs)) ≡ true} own (after ks g) s q
+      (λ r. or_right (ks s) (has_field s (a ++ b)) (any_left (field_is s) a b (slot_in (component_role name Always default own) (path ++ k ∷ []) around g s r)))
+      (λ t. either {F = (ks s || has_field s (nodes (component_role name Always default own) (path ++ k ∷ []) around g ++ field_nodes path around (suc k) fs)) ≡ true} (ks s) (has_field s a) (after_from g (component_role name Always default own) (path ++ k ∷ []) around ks s t)
       (λ r. or_left (ks s) (has_field s (a ++ b)) r) (λ r. or_right (ks s) (has_field s (a ++ b)) (any_left (field_is s) a b r))))
       (λ q. or_right (ks s) (has_field s (a ++ b)) (any_right (field_is s) a b q))
   fields_after_from (component name g Bit default own fs) path around k ks s h =
-      behind_all (nodes (a_component name Bit own) (path ++ k ∷ []) around g) (field_nodes path around (suc k) fs) ks s (fields_after_from fs path around (suc k) ks s h)
+      behind_all (nodes (component_role name Bit default own) (path ++ k ∷ []) around g) (field_nodes path around (suc k) fs) ks s (fields_after_from fs path around (suc k) ks s h)
   fields_after_from (component name g (When ts) default own fs) path around k ks s h =
-      behind_all (nodes (a_component name (When ts) own) (path ++ k ∷ []) around g) (field_nodes path around (suc k) fs) ks s (fields_after_from fs path around (suc k) ks s h)
+      behind_all (nodes (component_role name (When ts) default own) (path ++ k ∷ []) around g) (field_nodes path around (suc k) fs) ks s (fields_after_from fs path around (suc k) ks s h)
   fields_after_from (inserted name (node align form) (Some t) fs) path around k ks s h =
       let a = nodes (an_inserted name (Some t)) (path ++ k ∷ []) around (node align form) in
       let b = field_nodes path around (suc k) fs in
@@ -184,10 +188,10 @@ fresh_after : (g : Grammar) (role : Role) (path around : List ℕ) (ks : Known) 
 fresh_after g role path around ks pre f s h = either {F = has_field s (pre ++ nodes role path around g) ≡ true} (ks s) (has_field s (nodes role path around g)) (after_from g role path around ks s h)
     (λ q. any_left (field_is s) pre (nodes role path around g) (f s q)) (λ q. any_right (field_is s) pre (nodes role path around g) q)
 
-fresh_own : (name : List ℕ) (g : Grammar) (path around : List ℕ) (k : ℕ) (own : Option ℕ) (ks : Known) (pre : List Stand) → Fresh ks pre → Fresh (with_own own (after ks g)) (pre ++ nodes (a_component name Always own) (path ++ k ∷ []) around g)
-fresh_own name g path around k own ks pre f s h = own_either {F = has_field s (pre ++ nodes (a_component name Always own) (path ++ k ∷ []) around g) ≡ true} own (after ks g) s h
-    (λ q. any_right (field_is s) pre (nodes (a_component name Always own) (path ++ k ∷ []) around g) (slot_in (a_component name Always own) (path ++ k ∷ []) around g s q))
-    (λ q. fresh_after g (a_component name Always own) (path ++ k ∷ []) around ks pre f s q)
+fresh_own : (name : List ℕ) (g : Grammar) (path around : List ℕ) (k : ℕ) (default : Option (List ℕ)) (own : Option ℕ) (ks : Known) (pre : List Stand) → Fresh ks pre → Fresh (with_own own (after ks g)) (pre ++ nodes (component_role name Always default own) (path ++ k ∷ []) around g)
+fresh_own name g path around k default own ks pre f s h = own_either {F = has_field s (pre ++ nodes (component_role name Always default own) (path ++ k ∷ []) around g) ≡ true} own (after ks g) s h
+    (λ q. any_right (field_is s) pre (nodes (component_role name Always default own) (path ++ k ∷ []) around g) (slot_in (component_role name Always default own) (path ++ k ∷ []) around g s q))
+    (λ q. fresh_after g (component_role name Always default own) (path ++ k ∷ []) around ks pre f s q)
 
 fresh_slot : (name : List ℕ) (g : Grammar) (path around : List ℕ) (k t : ℕ) (ks : Known) (pre : List Stand) → Fresh ks pre → Fresh (with_slot t ks) (pre ++ nodes (an_inserted name (Some t)) (path ++ k ∷ []) around g)
 fresh_slot name g path around k t ks pre f s h = either {F = has_field s (pre ++ nodes (an_inserted name (Some t)) (path ++ k ∷ []) around g) ≡ true} (nat_eq t s) (ks s) h
@@ -222,7 +226,7 @@ module _ (root : Grammar) (tree : IsTree root) (sound : (f : CheckFault) → Und
   abbrev pub FieldsAt : List Stand → List ℕ → List ℕ → ℕ → Fields → List Stand → Type 0
   FieldsAt = FieldsPlace (nodes_of root) numbers rules
 
-  abbrev pub CasesAt : List Stand → List ℕ → List ℕ → ℕ → Alternatives → List Stand → Type 0
+  abbrev pub CasesAt : List Stand → ChoiceRule → List ℕ → List ℕ → ℕ → Alternatives → List Stand → Type 0
   CasesAt = CasesPlace (nodes_of root) numbers rules
 
   -- what is at home inside is new, and isn't at home outside
@@ -260,15 +264,15 @@ module _ (root : Grammar) (tree : IsTree root) (sound : (f : CheckFault) → Und
     fields_keeps : (fs : Fields) (pre : List Stand) (path around : List ℕ) (k : ℕ) (post : List Stand) → FieldsAt pre path around k fs post → (ks : Known) → Fresh ks pre → (s : ℕ) → ks s ≡ true → fields_after ks fs s ≡ true
     fields_keeps no_fields pre path around k post p ks fresh s h = h
     fields_keeps (component name g Always default own fs) pre path around k post p ks fresh s h =
-        fields_keeps fs (pre ++ nodes (a_component name Always own) (path ++ k ∷ []) around g) path around (suc k) post (next_component (nodes_of root) numbers rules pre path around k name g Always default own fs post p)
-        (with_own own (after ks g)) (fresh_own name g path around k own ks pre fresh) s
-        (own_second own (after ks g) s (keeps g pre (a_component name Always own) (path ++ k ∷ []) around (field_nodes path around (suc k) fs ++ post) (first_component (nodes_of root) numbers rules pre path around k name g Always default own fs post p) ks fresh s h))
+        fields_keeps fs (pre ++ nodes (component_role name Always default own) (path ++ k ∷ []) around g) path around (suc k) post (next_component (nodes_of root) numbers rules pre path around k name g Always default own fs post p)
+        (with_own own (after ks g)) (fresh_own name g path around k default own ks pre fresh) s
+        (own_second own (after ks g) s (keeps g pre (component_role name Always default own) (path ++ k ∷ []) around (field_nodes path around (suc k) fs ++ post) (first_component (nodes_of root) numbers rules pre path around k name g Always default own fs post p) ks fresh s h))
     fields_keeps (component name g Bit default own fs) pre path around k post p ks fresh s h =
-        fields_keeps fs (pre ++ nodes (a_component name Bit own) (path ++ k ∷ []) around g) path around (suc k) post (next_component (nodes_of root) numbers rules pre path around k name g Bit default own fs post p)
-        ks (fresh_more ks pre (nodes (a_component name Bit own) (path ++ k ∷ []) around g) fresh) s h
+        fields_keeps fs (pre ++ nodes (component_role name Bit default own) (path ++ k ∷ []) around g) path around (suc k) post (next_component (nodes_of root) numbers rules pre path around k name g Bit default own fs post p)
+        ks (fresh_more ks pre (nodes (component_role name Bit default own) (path ++ k ∷ []) around g) fresh) s h
     fields_keeps (component name g (When ts) default own fs) pre path around k post p ks fresh s h =
-        fields_keeps fs (pre ++ nodes (a_component name (When ts) own) (path ++ k ∷ []) around g) path around (suc k) post (next_component (nodes_of root) numbers rules pre path around k name g (When ts) default own fs post p)
-        ks (fresh_more ks pre (nodes (a_component name (When ts) own) (path ++ k ∷ []) around g) fresh) s h
+        fields_keeps fs (pre ++ nodes (component_role name (When ts) default own) (path ++ k ∷ []) around g) path around (suc k) post (next_component (nodes_of root) numbers rules pre path around k name g (When ts) default own fs post p)
+        ks (fresh_more ks pre (nodes (component_role name (When ts) default own) (path ++ k ∷ []) around g) fresh) s h
     fields_keeps (inserted name g (Some t) fs) pre path around k post p ks fresh s h =
         fields_keeps fs (pre ++ nodes (an_inserted name (Some t)) (path ++ k ∷ []) around g) path around (suc k) post (next_inserted (nodes_of root) numbers rules pre path around k name g (Some t) fs post p)
         (with_slot t ks) (fresh_slot name g path around k t ks pre fresh) s (or_right (nat_eq t s) (ks s) h)
@@ -280,7 +284,7 @@ module _ (root : Grammar) (tree : IsTree root) (sound : (f : CheckFault) → Und
   pub own_always : (pre : List Stand) (path around : List ℕ) (k : ℕ) (name : List ℕ) (g : Grammar) (presence : Presence) (default : Option (List ℕ)) (own : Option ℕ) (fs : Fields) (post : List Stand) → FieldsAt pre path around k (component name g presence default own fs) post
       → (s : ℕ) → is_slot s own ≡ true → presence ≡ Always
   own_always pre path around k name (node align form) presence default own fs post p s q =
-      let fine = place_fine (nodes_of root) numbers rules pre (a_component name presence own) (path ++ k ∷ []) around align form (field_nodes path around (suc k) fs ++ post) (first_component (nodes_of root) numbers rules pre path around k name (node align form) presence default own fs post p) in
+      let fine = place_fine (nodes_of root) numbers rules pre (component_role name presence default own) (path ++ k ∷ []) around align form (field_nodes path around (suc k) fs ++ post) (first_component (nodes_of root) numbers rules pre path around k name (node align form) presence default own fs post p) in
       (own_number own presence form s (and_parts (presence_fine presence) (own_fine own presence form) fine.role).1 q).0
 
   -- an open slot whose field stands near in a node is known behind it
@@ -303,25 +307,25 @@ module _ (root : Grammar) (tree : IsTree root) (sound : (f : CheckFault) → Und
     fields_near_after no_fields pre path around k post p ks fresh s o h = cc
     fields_near_after (component name g Always default own fs) pre path around k post p ks fresh s o h =
         let next = next_component (nodes_of root) numbers rules pre path around k name g Always default own fs post p in
-        let more = fresh_own name g path around k own ks pre fresh in
+        let more = fresh_own name g path around k default own ks pre fresh in
         let behind = with_own own (after ks g) in
         near_parts {F = fields_after behind fs s ≡ true} own Always (near_node g) (near fs) s h
-        (λ q. fields_keeps fs (pre ++ nodes (a_component name Always own) (path ++ k ∷ []) around g) path around (suc k) post next behind more s (own_first own (after ks g) s q))
-        (λ q. fields_keeps fs (pre ++ nodes (a_component name Always own) (path ++ k ∷ []) around g) path around (suc k) post next behind more s
-        (own_second own (after ks g) s (near_after g pre (a_component name Always own) (path ++ k ∷ []) around (field_nodes path around (suc k) fs ++ post) (first_component (nodes_of root) numbers rules pre path around k name g Always default own fs post p) ks fresh s o q)))
-        (λ q. fields_near_after fs (pre ++ nodes (a_component name Always own) (path ++ k ∷ []) around g) path around (suc k) post next behind more s o q)
+        (λ q. fields_keeps fs (pre ++ nodes (component_role name Always default own) (path ++ k ∷ []) around g) path around (suc k) post next behind more s (own_first own (after ks g) s q))
+        (λ q. fields_keeps fs (pre ++ nodes (component_role name Always default own) (path ++ k ∷ []) around g) path around (suc k) post next behind more s
+        (own_second own (after ks g) s (near_after g pre (component_role name Always default own) (path ++ k ∷ []) around (field_nodes path around (suc k) fs ++ post) (first_component (nodes_of root) numbers rules pre path around k name g Always default own fs post p) ks fresh s o q)))
+        (λ q. fields_near_after fs (pre ++ nodes (component_role name Always default own) (path ++ k ∷ []) around g) path around (suc k) post next behind more s o q)
     fields_near_after (component name g Bit default own fs) pre path around k post p ks fresh s o h =
         near_parts {F = fields_after ks fs s ≡ true} own Bit (near_node g) (near fs) s h
         (λ q. (let never = own_always pre path around k name g Bit default own fs post p s q in cc))
         (λ q. cc)
-        (λ q. fields_near_after fs (pre ++ nodes (a_component name Bit own) (path ++ k ∷ []) around g) path around (suc k) post (next_component (nodes_of root) numbers rules pre path around k name g Bit default own fs post p)
-        ks (fresh_more ks pre (nodes (a_component name Bit own) (path ++ k ∷ []) around g) fresh) s o q)
+        (λ q. fields_near_after fs (pre ++ nodes (component_role name Bit default own) (path ++ k ∷ []) around g) path around (suc k) post (next_component (nodes_of root) numbers rules pre path around k name g Bit default own fs post p)
+        ks (fresh_more ks pre (nodes (component_role name Bit default own) (path ++ k ∷ []) around g) fresh) s o q)
     fields_near_after (component name g (When ts) default own fs) pre path around k post p ks fresh s o h =
         near_parts {F = fields_after ks fs s ≡ true} own (When ts) (near_node g) (near fs) s h
         (λ q. (let never = own_always pre path around k name g (When ts) default own fs post p s q in cc))
         (λ q. cc)
-        (λ q. fields_near_after fs (pre ++ nodes (a_component name (When ts) own) (path ++ k ∷ []) around g) path around (suc k) post (next_component (nodes_of root) numbers rules pre path around k name g (When ts) default own fs post p)
-        ks (fresh_more ks pre (nodes (a_component name (When ts) own) (path ++ k ∷ []) around g) fresh) s o q)
+        (λ q. fields_near_after fs (pre ++ nodes (component_role name (When ts) default own) (path ++ k ∷ []) around g) path around (suc k) post (next_component (nodes_of root) numbers rules pre path around k name g (When ts) default own fs post p)
+        ks (fresh_more ks pre (nodes (component_role name (When ts) default own) (path ++ k ∷ []) around g) fresh) s o q)
     fields_near_after (inserted name g (Some t) fs) pre path around k post p ks fresh s o h =
         let next = next_inserted (nodes_of root) numbers rules pre path around k name g (Some t) fs post p in
         let more = fresh_slot name g path around k t ks pre fresh in
@@ -415,9 +419,9 @@ module _ (root : Grammar) (tree : IsTree root) (sound : (f : CheckFault) → Und
 
   -- no open slot has its field in a component that may be absent
   pub optional_none : (pre : List Stand) (path around : List ℕ) (k : ℕ) (name : List ℕ) (g : Grammar) (presence : Presence) (default : Option (List ℕ)) (own : Option ℕ) (fs : Fields) (post : List Stand) → FieldsAt pre path around k (component name g presence default own fs) post
-      → (presence ≡ Always → ⊥) → (s : ℕ) → holds around s ≡ true → has_field s (nodes (a_component name presence own) (path ++ k ∷ []) around g) ≡ true → ⊥
+      → (presence ≡ Always → ⊥) → (s : ℕ) → holds around s ≡ true → has_field s (nodes (component_role name presence default own) (path ++ k ∷ []) around g) ≡ true → ⊥
   optional_none pre path around k name g presence default own fs post p never s o h =
-      let a = nodes (a_component name presence own) (path ++ k ∷ []) around g in
+      let a = nodes (component_role name presence default own) (path ++ k ∷ []) around g in
       let b = field_nodes path around (suc k) fs in
       near_parts {F = ⊥} own presence (near_node g) (near fs) s (p.close s o (any_left (field_is s) a b h))
       (λ q. never (own_always pre path around k name g presence default own fs post p s q))
@@ -435,23 +439,23 @@ module _ (root : Grammar) (tree : IsTree root) (sound : (f : CheckFault) → Und
   only_slot (node align _) f name path around slot s h = absurd f
 
   pub component_behind : (pre : List Stand) (path around : List ℕ) (k : ℕ) (name : List ℕ) (g : Grammar) (presence : Presence) (default : Option (List ℕ)) (own : Option ℕ) (fs : Fields) (post : List Stand) → FieldsAt pre path around k (component name g presence default own fs) post
-      → (ks : Known) → Knows ks pre around (field_nodes path around k (component name g presence default own fs)) → Knows (choose_known presence ks (with_own own (after ks g))) (pre ++ nodes (a_component name presence own) (path ++ k ∷ []) around g) around (field_nodes path around (suc k) fs)
+      → (ks : Known) → Knows ks pre around (field_nodes path around k (component name g presence default own fs)) → Knows (choose_known presence ks (with_own own (after ks g))) (pre ++ nodes (component_role name presence default own) (path ++ k ∷ []) around g) around (field_nodes path around (suc k) fs)
   component_behind pre path around k name g Always default own fs post p ks knows =
-      let a = nodes (a_component name Always own) (path ++ k ∷ []) around g in
+      let a = nodes (component_role name Always default own) (path ++ k ∷ []) around g in
       let b = field_nodes path around (suc k) fs in
       let first = first_component (nodes_of root) numbers rules pre path around k name g Always default own fs post p in
       let last = field_nodes path around (suc k) fs ++ post in
       record {
         known = λ s o h m. any_either {F = with_own own (after ks g) s ≡ true} (field_is s) pre a h
-            (λ q. own_second own (after ks g) s (keeps g pre (a_component name Always own) (path ++ k ∷ []) around last first ks knows.fresh s (knows.known s o q (any_right (used s) a b m))))
+            (λ q. own_second own (after ks g) s (keeps g pre (component_role name Always default own) (path ++ k ∷ []) around last first ks knows.fresh s (knows.known s o q (any_right (used s) a b m))))
             (λ q. if_truth {F = with_own own (after ks g) s ≡ true} (is_slot s own) (λ e. own_first own (after ks g) s e)
-            (λ e. own_second own (after ks g) s (near_after g pre (a_component name Always own) (path ++ k ∷ []) around last first ks knows.fresh s o (first.close s o q e))));
-        fresh = fresh_own name g path around k own ks pre knows.fresh;
+            (λ e. own_second own (after ks g) s (near_after g pre (component_role name Always default own) (path ++ k ∷ []) around last first ks knows.fresh s o (first.close s o q e))));
+        fresh = fresh_own name g path around k default own ks pre knows.fresh;
       }
   component_behind pre path around k name g Bit default own fs post p ks knows =
-      knows_right ks pre around (nodes (a_component name Bit own) (path ++ k ∷ []) around g) (field_nodes path around (suc k) fs) (optional_none pre path around k name g Bit default own fs post p (λ e. cc)) knows
+      knows_right ks pre around (nodes (component_role name Bit default own) (path ++ k ∷ []) around g) (field_nodes path around (suc k) fs) (optional_none pre path around k name g Bit default own fs post p (λ e. cc)) knows
   component_behind pre path around k name g (When ts) default own fs post p ks knows =
-      knows_right ks pre around (nodes (a_component name (When ts) own) (path ++ k ∷ []) around g) (field_nodes path around (suc k) fs) (optional_none pre path around k name g (When ts) default own fs post p (λ e. cc)) knows
+      knows_right ks pre around (nodes (component_role name (When ts) default own) (path ++ k ∷ []) around g) (field_nodes path around (suc k) fs) (optional_none pre path around k name g (When ts) default own fs post p (λ e. cc)) knows
 
   pub inserted_behind : (pre : List Stand) (path around : List ℕ) (k : ℕ) (name : List ℕ) (g : Grammar) (t : ℕ) (fs : Fields) (post : List Stand) → FieldsAt pre path around k (inserted name g (Some t) fs) post
       → (ks : Known) → Knows ks pre around (field_nodes path around k (inserted name g (Some t) fs)) → Knows (with_slot t ks) (pre ++ nodes (an_inserted name (Some t)) (path ++ k ∷ []) around g) around (field_nodes path around (suc k) fs)

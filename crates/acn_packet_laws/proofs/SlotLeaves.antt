@@ -8,7 +8,8 @@ use Rattle.acn_grammar.specs.Grammar.{Grammar, Form, Fields, Alternatives, node,
 use Rattle.acn_grammar.specs.Slots as slots
 use Rattle.acn_grammar.specs.Slots.{first_of_two, number_leaf, slot_leaf, form_leaf, fields_leaf, alternatives_leaf}
 use Rattle.acn_grammar.specs.Tree.{IsTree, is_slot}
-use Rattle.acn_grammar.specs.Walk.{Stand, Role, a_component, an_inserted, an_alternative, an_element, a_content, nodes, nodes_of, form_nodes, field_nodes, alternative_nodes, slot_here}
+use Rattle.acn_grammar.specs.Walk.{Stand, Role, component_role, an_inserted, alternative_role, an_element, a_content, nodes, nodes_of, form_nodes, field_nodes, alternative_nodes, slot_here}
+use Rattle.acn_grammar.specs.declared.node.ChoiceRule.{ChoiceRule}
 use Rattle.acn_grammar.specs.declared.node.NumLeaf.{NumLeaf}
 use Rattle.acn_packet_laws.proofs.Placed.{any-append, any_left, any_right, field_is, has_field, twice, here_at, split_here, slot_in}
 use Rattle.acn_packet_laws.proofs.Scoping.{At, numbers, rules}
@@ -56,7 +57,7 @@ mutual
   no_leaf (text leaf) path around s h = refl
   no_leaf (seq fields home) path around s h = no_fields_leaf fields path (home ++ around) 0 s h
   no_leaf (list sizing g) path around s h = no_node_leaf g an_element (path ++ 0 ∷ []) around s h
-  no_leaf (choice cases rule) path around s h = no_cases_leaf cases path around 0 s h
+  no_leaf (choice cases rule) path around s h = no_cases_leaf cases rule path around 0 s h
   no_leaf (contained sizing g) path around s h = no_node_leaf g a_content (path ++ 0 ∷ []) around s h
 
   pub no_node_leaf : (g : Grammar) (role : Role) (path around : List ℕ) (s : ℕ) → has_field s (nodes role path around g) ≡ false → slot_leaf g s ≡ None
@@ -65,15 +66,15 @@ mutual
   pub no_fields_leaf : (fs : Fields) (path around : List ℕ) (k s : ℕ) → has_field s (field_nodes path around k fs) ≡ false → fields_leaf fs s ≡ None
   no_fields_leaf no_fields path around k s h = refl
   no_fields_leaf (component name g presence default own fs) path around k s h =
-      no_field_leaf g (a_component name presence own) (path ++ k ∷ []) around (field_nodes path around (suc k) fs) s (fields_leaf fs s) (no_node_leaf g (a_component name presence own) (path ++ k ∷ []) around s) (no_fields_leaf fs path around (suc k) s) h
+      no_field_leaf g (component_role name presence default own) (path ++ k ∷ []) around (field_nodes path around (suc k) fs) s (fields_leaf fs s) (no_node_leaf g (component_role name presence default own) (path ++ k ∷ []) around s) (no_fields_leaf fs path around (suc k) s) h
   no_fields_leaf (inserted name g slot fs) path around k s h =
       no_field_leaf g (an_inserted name slot) (path ++ k ∷ []) around (field_nodes path around (suc k) fs) s (fields_leaf fs s) (no_node_leaf g (an_inserted name slot) (path ++ k ∷ []) around s) (no_fields_leaf fs path around (suc k) s) h
 
-  pub no_cases_leaf : (cases : Alternatives) (path around : List ℕ) (k s : ℕ) → has_field s (alternative_nodes path around k cases) ≡ false → alternatives_leaf cases s ≡ None
-  no_cases_leaf no_alternatives path around k s h = refl
-  no_cases_leaf (alternative name g tests more) path around k s h =
-      let f = apart_false (field_is s) (nodes (an_alternative name tests) (path ++ k ∷ []) around g) (alternative_nodes path around (suc k) more) h in
-      first_gone (slot_leaf g s) (alternatives_leaf more s) (no_node_leaf g (an_alternative name tests) (path ++ k ∷ []) around s f.0) ∙ no_cases_leaf more path around (suc k) s f.1
+  pub no_cases_leaf : (cases : Alternatives) (rule : ChoiceRule) (path around : List ℕ) (k s : ℕ) → has_field s (alternative_nodes rule path around k cases) ≡ false → alternatives_leaf cases s ≡ None
+  no_cases_leaf no_alternatives rule path around k s h = refl
+  no_cases_leaf (alternative name g tests more) rule path around k s h =
+      let f = apart_false (field_is s) (nodes (alternative_role name tests rule) (path ++ k ∷ []) around g) (alternative_nodes rule path around (suc k) more) h in
+      first_gone (slot_leaf g s) (alternatives_leaf more s) (no_node_leaf g (alternative_role name tests rule) (path ++ k ∷ []) around s f.0) ∙ no_cases_leaf more rule path around (suc k) s f.1
 
 module _ (root : Grammar) (tree : IsTree root) (sound : (f : CheckFault) → Undecodable root f → ⊥) where
   -- the part gives the leaf of each slot whose field stands in it

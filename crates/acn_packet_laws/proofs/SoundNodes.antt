@@ -7,7 +7,8 @@ use Rattle.acn_grammar.specs.Sound.{Sound, FormSound, FieldsSound, AlternativesS
 use Rattle.acn_grammar.specs.Tree.{holds}
 use Rattle.acn_grammar.specs.declared.node.Presence.{Presence}
 use Rattle.acn_grammar.specs.declared.node.Presence.TheVariants.{Always, Bit, When}
-use Rattle.acn_grammar.specs.Walk.{Stand, Role, a_component, an_inserted, an_alternative, an_element, a_content, root_node, nodes, form_nodes, field_nodes, alternative_nodes}
+use Rattle.acn_grammar.specs.Walk.{Stand, Role, component_role, an_inserted, alternative_role, an_element, a_content, root_node, nodes, form_nodes, field_nodes, alternative_nodes}
+use Rattle.acn_grammar.specs.declared.node.ChoiceRule.{ChoiceRule}
 use Rattle.acn_packet_laws.specs.Laws.{EachNodeIsSound}
 use Rattle.acn_packet_laws.proofs.NodeLaws.{in_either}
 use Rattle.acn_packet_laws.proofs.OneFault.{some_same}
@@ -50,13 +51,13 @@ module _ (root : Grammar) where
     at_form (seq fields home) path around d e ks w h n at is = at_fields fields path (home ++ around) 0 (suc d) (ap suc e) ks (λ s k. holds_right home around s (w s k)) (last_two h) n at is
     at_form (list sizing g) path around d e ks w h n at is = at_node g an_element (path ++ 0 ∷ []) around (suc d) (one_step path 0 (suc d) (ap suc e)) ks w (last_five h) n at is
     at_form (contained sizing g) path around d e ks w h n at is = at_node g a_content (path ++ 0 ∷ []) around (suc d) (one_step path 0 (suc d) (ap suc e)) ks w (last_four h) n at is
-    at_form (choice cases rule) path around d e ks w h n at is = at_cases cases path around 0 (suc d) (ap suc e) ks w (last_four h) n at is
+    at_form (choice cases rule) path around d e ks w h n at is = at_cases cases rule path around 0 (suc d) (ap suc e) ks w (last_four h) n at is
 
     at_fields : (fs : Fields) (path around : List ℕ) (k d : ℕ) → suc (length path) ≡ d → (ks : Known) → AtHome around ks → FieldsSound root d around ks fs → (n : ℕ) (at : Stand) → slice_get (field_nodes path around k fs) n ≡ Some at → Somewhere at
     at_fields no_fields path around k d e ks w h n at is = cc
     at_fields (component name g presence default own fs) path around k d e ks w h n at is =
-        in_either {F = Somewhere at} (nodes (a_component name presence own) (path ++ k ∷ []) around g) (field_nodes path around (suc k) fs) n at is
-        (λ q. at_node g (a_component name presence own) (path ++ k ∷ []) around d (one_step path k d e) ks w (fourth_five h) n at q)
+        in_either {F = Somewhere at} (nodes (component_role name presence default own) (path ++ k ∷ []) around g) (field_nodes path around (suc k) fs) n at is
+        (λ q. at_node g (component_role name presence default own) (path ++ k ∷ []) around d (one_step path k d e) ks w (fourth_five h) n at q)
         (λ m l q. at_fields fs path around (suc k) d e (choose_known presence ks (with_own own (after ks g))) (behind_home name g presence default own fs d around ks w h) (last_five h) m at q)
     at_fields (inserted name g (Some s) fs) path around k d e ks w h n at is =
         in_either {F = Somewhere at} (nodes (an_inserted name (Some s)) (path ++ k ∷ []) around g) (field_nodes path around (suc k) fs) n at is
@@ -67,12 +68,12 @@ module _ (root : Grammar) where
         (λ q. at_node g (an_inserted name None) (path ++ k ∷ []) around d (one_step path k d e) ks w (second_three h) n at q)
         (λ m l q. at_fields fs path around (suc k) d e ks w (last_three h) m at q)
 
-    at_cases : (cases : Alternatives) (path around : List ℕ) (k d : ℕ) → suc (length path) ≡ d → (ks : Known) → AtHome around ks → AlternativesSound root d around ks cases → (n : ℕ) (at : Stand) → slice_get (alternative_nodes path around k cases) n ≡ Some at → Somewhere at
-    at_cases no_alternatives path around k d e ks w h n at is = cc
-    at_cases (alternative name g tests more) path around k d e ks w h n at is =
-        in_either {F = Somewhere at} (nodes (an_alternative name tests) (path ++ k ∷ []) around g) (alternative_nodes path around (suc k) more) n at is
-        (λ q. at_node g (an_alternative name tests) (path ++ k ∷ []) around d (one_step path k d e) ks w (second_three h) n at q)
-        (λ m l q. at_cases more path around (suc k) d e ks w (last_three h) m at q)
+    at_cases : (cases : Alternatives) (rule : ChoiceRule) (path around : List ℕ) (k d : ℕ) → suc (length path) ≡ d → (ks : Known) → AtHome around ks → AlternativesSound root d around ks cases → (n : ℕ) (at : Stand) → slice_get (alternative_nodes rule path around k cases) n ≡ Some at → Somewhere at
+    at_cases no_alternatives rule path around k d e ks w h n at is = cc
+    at_cases (alternative name g tests more) rule path around k d e ks w h n at is =
+        in_either {F = Somewhere at} (nodes (alternative_role name tests rule) (path ++ k ∷ []) around g) (alternative_nodes rule path around (suc k) more) n at is
+        (λ q. at_node g (alternative_role name tests rule) (path ++ k ∷ []) around d (one_step path k d e) ks w (second_three h) n at q)
+        (λ m l q. at_cases more rule path around (suc k) d e ks w (last_three h) m at q)
 
 pub each_node_sound : EachNodeIsSound
 each_node_sound root k here a is = at_node root root root_node [] [] 0 refl (λ s. false) (λ s e. cc) (accepted_sound_nodes root a) k here is

@@ -15,7 +15,7 @@ use Rattle.acn_grammar.specs.Scoped.{Known, with_slot, with_own, choose_known, a
 use Rattle.acn_grammar.specs.Slots.{items_of, slot_leaf, fields_leaf, alternatives_leaf, number_leaf, first_of_two}
 use Rattle.acn_grammar.specs.Sound.{field_count, PresenceSound, NothingLeaves, NothingLeavesIt, OneWidth, IsNull, SaysSlot, OwnSound, SequenceSound, RuleSound, Sound, FormSound, FieldsSound, AlternativesSound}
 use Rattle.acn_grammar.specs.Tree.{IsTree, holds, slots_of, same_numbers, is_slot, is_home, has_tests, choice_rule_fine, presence_fine, own_fine, inserted_fine, stand_rules, all_true, near, near_form}
-use Rattle.acn_grammar.specs.Walk.{Stand, Role, a_component, an_inserted, an_alternative, an_element, a_content, root_node, nodes, nodes_of, form_nodes, field_nodes, alternative_nodes, slot_here, conditions_of}
+use Rattle.acn_grammar.specs.Walk.{Stand, Role, component_role, an_inserted, alternative_role, an_element, a_content, root_node, nodes, nodes_of, form_nodes, field_nodes, alternative_nodes, slot_here, conditions_of}
 use Rattle.acn_grammar.specs.declared.node.ChoiceRule.{ChoiceRule}
 use Rattle.acn_grammar.specs.declared.node.ChoiceRule.TheVariants.{Index, Tests, Item}
 use Rattle.acn_grammar.specs.declared.node.Presence.{Presence}
@@ -80,8 +80,8 @@ node_counts role path around (node align form) = omega arith
 fields_count : (fs : Fields) (path around : List ℕ) (k : ℕ) → field_count fs ≤ length (field_nodes path around k fs)
 fields_count no_fields path around k = omega arith
 fields_count (component name g presence default own fs) path around k =
-    let c = length-append (nodes (a_component name presence own) (path ++ k ∷ []) around g) (field_nodes path around (suc k) fs) in
-    let one = node_counts (a_component name presence own) (path ++ k ∷ []) around g in
+    let c = length-append (nodes (component_role name presence default own) (path ++ k ∷ []) around g) (field_nodes path around (suc k) fs) in
+    let one = node_counts (component_role name presence default own) (path ++ k ∷ []) around g in
     let rest = fields_count fs path around (suc k) in
     omega arith
 fields_count (inserted name g slot fs) path around k =
@@ -90,12 +90,12 @@ fields_count (inserted name g slot fs) path around k =
     let rest = fields_count fs path around (suc k) in
     omega arith
 
-cases_count : (cases : Alternatives) (path around : List ℕ) (k : ℕ) → count_of cases ≤ length (alternative_nodes path around k cases)
-cases_count no_alternatives path around k = omega arith
-cases_count (alternative name g tests more) path around k =
-    let c = length-append (nodes (an_alternative name tests) (path ++ k ∷ []) around g) (alternative_nodes path around (suc k) more) in
-    let one = node_counts (an_alternative name tests) (path ++ k ∷ []) around g in
-    let rest = cases_count more path around (suc k) in
+cases_count : (cases : Alternatives) (rule : ChoiceRule) (path around : List ℕ) (k : ℕ) → count_of cases ≤ length (alternative_nodes rule path around k cases)
+cases_count no_alternatives rule path around k = omega arith
+cases_count (alternative name g tests more) rule path around k =
+    let c = length-append (nodes (alternative_role name tests rule) (path ++ k ∷ []) around g) (alternative_nodes rule path around (suc k) more) in
+    let one = node_counts (alternative_role name tests rule) (path ++ k ∷ []) around g in
+    let rest = cases_count more rule path around (suc k) in
     omega arith
 
 -- Some of the numbers of a range differ.
@@ -215,14 +215,14 @@ module _ (root : Grammar) (tree : IsTree root) (sound : (f : CheckFault) → Und
       (λ a. a ∙ sym k))
 
   -- a component has one condition
-  one_condition : (pre : List Stand) (name : List ℕ) (presence : Presence) (own : Option ℕ) (path around : List ℕ) (align : ℕ) (form : Form) (post : List Stand) → At root tree sound pre (a_component name presence own) path around (node align form) post → (ks : Known) → Knows ks pre around (nodes (a_component name presence own) path around (node align form)) → PresenceSound ks presence
-  one_condition pre name Always own path around align form post p ks knows = tt
-  one_condition pre name Bit own path around align form post p ks knows = tt
-  one_condition pre name (When ts) own path around align form post p ks knows =
-      let fine = place_fine all (numbers root tree sound) (rules root tree sound) pre (a_component name (When ts) own) path around align form post p in
+  one_condition : (pre : List Stand) (name : List ℕ) (presence : Presence) (default : Option (List ℕ)) (own : Option ℕ) (path around : List ℕ) (align : ℕ) (form : Form) (post : List Stand) → At root tree sound pre (component_role name presence default own) path around (node align form) post → (ks : Known) → Knows ks pre around (nodes (component_role name presence default own) path around (node align form)) → PresenceSound ks presence
+  one_condition pre name Always default own path around align form post p ks knows = tt
+  one_condition pre name Bit default own path around align form post p ks knows = tt
+  one_condition pre name (When ts) default own path around align form post p ks knows =
+      let fine = place_fine all (numbers root tree sound) (rules root tree sound) pre (component_role name (When ts) default own) path around align form post p in
       let some = ltb-true 0 (length ts) (and_parts (presence_fine (When ts)) (own_fine own (When ts) form) fine.role).0 in
-      let few = at_most (length ts) 1 (λ h. sound (absent_unclear path) (length pre, 0, (here_at (a_component name (When ts) own) path around align form, is_here pre (a_component name (When ts) own) path around align form post p, refl, h))) in
-      ((omega arith), tests_in ks ts (own_known root tree sound pre (a_component name (When ts) own) path around (node align form) post p ks knows))
+      let few = at_most (length ts) 1 (λ h. sound (absent_unclear path) (length pre, 0, (here_at (component_role name (When ts) default own) path around align form, is_here pre (component_role name (When ts) default own) path around align form post p, refl, h))) in
+      ((omega arith), tests_in ks ts (own_known root tree sound pre (component_role name (When ts) default own) path around (node align form) post p ks knows))
 
   -- a slot whose field stands here isn't known yet
   not_known : (pre : List Stand) (role : Role) (path around : List ℕ) (g : Grammar) (post : List Stand) → At root tree sound pre role path around g post → (ks : Known) → Fresh ks pre → (s : ℕ) → is_slot s (slot_here role) ≡ true → ks s ≡ false
@@ -241,13 +241,13 @@ module _ (root : Grammar) (tree : IsTree root) (sound : (f : CheckFault) → Und
   null_here align (contained sizing g) h = cc
 
   -- a component whose number is a slot's
-  own_sound : (pre : List Stand) (name : List ℕ) (presence : Presence) (own : Option ℕ) (path around : List ℕ) (align : ℕ) (form : Form) (post : List Stand) → At root tree sound pre (a_component name presence own) path around (node align form) post → (ks : Known) → Fresh ks pre → Homed root tree sound around (nodes (a_component name presence own) path around (node align form))
+  own_sound : (pre : List Stand) (name : List ℕ) (presence : Presence) (default : Option (List ℕ)) (own : Option ℕ) (path around : List ℕ) (align : ℕ) (form : Form) (post : List Stand) → At root tree sound pre (component_role name presence default own) path around (node align form) post → (ks : Known) → Fresh ks pre → Homed root tree sound around (nodes (component_role name presence default own) path around (node align form))
       → ((s : ℕ) → is_slot s own ≡ true → slot_leaf root s ≡ number_leaf (node align form)) → OwnSound root around ks own presence (node align form)
-  own_sound pre name presence None path around align form post p ks fresh homed leaf = tt
-  own_sound pre name presence (Some s) path around align form post p ks fresh homed leaf =
-      let fine = place_fine all (numbers root tree sound) (rules root tree sound) pre (a_component name presence (Some s)) path around align form post p in
+  own_sound pre name presence default None path around align form post p ks fresh homed leaf = tt
+  own_sound pre name presence default (Some s) path around align form post p ks fresh homed leaf =
+      let fine = place_fine all (numbers root tree sound) (rules root tree sound) pre (component_role name presence default (Some s)) path around align form post p in
       let is = own_number (Some s) presence form s (and_parts (presence_fine presence) (own_fine (Some s) presence form) fine.role).1 (same_eq s) in
-      (is.0, says root around ks s align form is.1 (slot_open root tree sound (a_component name presence (Some s)) path around align form s is.1 (same_eq s) homed) (not_known pre (a_component name presence (Some s)) path around (node align form) post p ks fresh s (same_eq s)) (leaf s (same_eq s)))
+      (is.0, says root around ks s align form is.1 (slot_open root tree sound (component_role name presence default (Some s)) path around align form s is.1 (same_eq s) homed) (not_known pre (component_role name presence default (Some s)) path around (node align form) post p ks fresh s (same_eq s)) (leaf s (same_eq s)))
 
   -- the one width of an inserted field
   width : (pre : List Stand) (name path around : List ℕ) (s align : ℕ) (form : Form) (post : List Stand) → At root tree sound pre (an_inserted name (Some s)) path around (node align form) post → is_number form ≡ true → slot_leaf root s ≡ number_leaf (node align form) → OneWidth (node align form)
@@ -308,12 +308,12 @@ module _ (root : Grammar) (tree : IsTree root) (sound : (f : CheckFault) → Und
 
   few_cases : (pre : List Stand) (role : Role) (path around : List ℕ) (align : ℕ) (cases : Alternatives) (rule : ChoiceRule) (post : List Stand) → At root tree sound pre role path around (node align (choice cases rule)) post → count_of cases ≤ 65536
   few_cases pre role path around align cases rule post p =
-      let inner = alternative_nodes path around 0 cases in
+      let inner = alternative_nodes rule path around 0 cases in
       let whole = ap length p.whole in
-      let one = length-append pre ((here_at role path around align (choice cases rule) ∷ alternative_nodes path around 0 cases) ++ post) in
-      let two = length-append (alternative_nodes path around 0 cases) post in
+      let one = length-append pre ((here_at role path around align (choice cases rule) ∷ alternative_nodes rule path around 0 cases) ++ post) in
+      let two = length-append (alternative_nodes rule path around 0 cases) post in
       let few = few_nodes in
-      let count = cases_count cases path around 0 in
+      let count = cases_count cases rule path around 0 in
       omega arith
 
   -- the slots at home are named once
@@ -347,7 +347,7 @@ module _ (root : Grammar) (tree : IsTree root) (sound : (f : CheckFault) → Und
       let fine = (place_fine all (numbers root tree sound) (rules root tree sound) pre role path around align (choice cases Tests) post p).form in
       let f = and_parts (nat_lt 0 (length (conditions_of cases))) (all_differ same_name (map (λ c. c.0) (conditions_of cases)) && choice_rule_fine (conditions_of cases) Tests) fine in
       let g = and_parts (all_differ same_name (map (λ c. c.0) (conditions_of cases))) (list_any has_tests (conditions_of cases)) f.1 in
-      (tests_known root tree sound cases (pre ++ here ∷ []) path around 0 post inner ks more, no_overlap root sound (length pre) here cases (is_here pre role path around align (choice cases Tests) post p) (refl, refl) g.1)
+      (tests_known root tree sound cases (pre ++ here ∷ []) Tests path around 0 post inner ks more, no_overlap root sound (length pre) here cases (is_here pre role path around align (choice cases Tests) post p) (refl, refl) g.1)
   chosen pre role path around align cases (Item s) post p ks knows =
       (form_known root tree sound pre role path around align (choice cases (Item s)) post p ks knows s (or_left (nat_eq s s) false (same_eq s)), items pre role path around align cases s post p)
 
@@ -416,7 +416,7 @@ module _ (root : Grammar) (tree : IsTree root) (sound : (f : CheckFault) → Und
       (place_fine all (numbers root tree sound) (rules root tree sound) pre role path around align (choice cases rule) post p).form,
       few_cases pre role path around align cases rule post p,
       chosen pre role path around align cases rule post p ks kept.knows,
-      sound_cases cases (pre ++ here_at role path around align (choice cases rule) ∷ []) path around 0 post (to_cases all (numbers root tree sound) (rules root tree sound) pre role path around align cases rule post p) ks (step_in root tree sound pre role path around align (choice cases rule) post p refl ks kept.knows)
+      sound_cases cases (pre ++ here_at role path around align (choice cases rule) ∷ []) rule path around 0 post (to_cases all (numbers root tree sound) (rules root tree sound) pre role path around align cases rule post p) ks (step_in root tree sound pre role path around align (choice cases rule) post p refl ks kept.knows)
           (in_one root tree sound role path around align (choice cases rule) refl kept.homed) kept.leafed (suc d) (ap suc e),
     )
 
@@ -425,25 +425,25 @@ module _ (root : Grammar) (tree : IsTree root) (sound : (f : CheckFault) → Und
     sound_fields no_fields pre path around k post p ks knows homed leafed d e = tt
     sound_fields (component name (node align form) presence default own fs) pre path around k post p ks knows homed leafed d e =
         let g = node align form in
-        let role = a_component name presence own in
-        let a = nodes (a_component name presence own) (path ++ k ∷ []) around (node align form) in
+        let role = component_role name presence default own in
+        let a = nodes (component_role name presence default own) (path ++ k ∷ []) around (node align form) in
         let b = field_nodes path around (suc k) fs in
         let first = first_component all (numbers root tree sound) (rules root tree sound) pre path around k name (node align form) presence default own fs post p in
         let knows' = knows_left root tree sound ks pre around a b knows in
         let homed' = in_left root tree sound around pre a b post p.whole (λ s. whole_fields all s fs path around (suc k)) homed in
-        let one = sound_node (node align form) pre (a_component name presence own) (path ++ k ∷ []) around (b ++ post) first ks (record {
+        let one = sound_node (node align form) pre (component_role name presence default own) (path ++ k ∷ []) around (b ++ post) first ks (record {
           knows = knows';
           homed = homed';
-          leafed = leafed_first root tree sound pre (a_component name presence own) (path ++ k ∷ []) around (node align form) b post first (fields_leaf fs) (λ s h. no_fields_leaf fs path around (suc k) s h) leafed;
+          leafed = leafed_first root tree sound pre (component_role name presence default own) (path ++ k ∷ []) around (node align form) b post first (fields_leaf fs) (λ s h. no_fields_leaf fs path around (suc k) s h) leafed;
         }) d (one_step path k d e) in (
-          one_condition pre name presence own (path ++ k ∷ []) around align form (b ++ post) first ks knows',
-          own_sound pre name presence own (path ++ k ∷ []) around align form (b ++ post) first ks knows'.fresh homed' (λ s h. leafed_here root tree sound (a_component name presence own) (path ++ k ∷ []) around (node align form) b (λ t. first_of_two (slot_leaf (node align form) t) (fields_leaf fs t)) s h leafed),
-          nothing_it presence ks (node align form) (λ never. nothing (node align form) pre (a_component name presence own) (path ++ k ∷ []) around (b ++ post) first ks knows'.fresh d one (optional_none root tree sound pre path around k name (node align form) presence default own fs post p never)),
+          one_condition pre name presence default own (path ++ k ∷ []) around align form (b ++ post) first ks knows',
+          own_sound pre name presence default own (path ++ k ∷ []) around align form (b ++ post) first ks knows'.fresh homed' (λ s h. leafed_here root tree sound (component_role name presence default own) (path ++ k ∷ []) around (node align form) b (λ t. first_of_two (slot_leaf (node align form) t) (fields_leaf fs t)) s h leafed),
+          nothing_it presence ks (node align form) (λ never. nothing (node align form) pre (component_role name presence default own) (path ++ k ∷ []) around (b ++ post) first ks knows'.fresh d one (optional_none root tree sound pre path around k name (node align form) presence default own fs post p never)),
           one,
           sound_fields fs (pre ++ a) path around (suc k) post (next_component all (numbers root tree sound) (rules root tree sound) pre path around k name (node align form) presence default own fs post p) (choose_known presence ks (with_own own (after ks (node align form))))
               (component_behind root tree sound pre path around k name (node align form) presence default own fs post p ks knows)
-              (in_right root tree sound around pre a b post p.whole (λ s. whole_node all s (node align form) (a_component name presence own) (path ++ k ∷ []) around) homed)
-              (leafed_next root tree sound pre (a_component name presence own) (path ++ k ∷ []) around (node align form) b post first (fields_leaf fs) leafed) d e,
+              (in_right root tree sound around pre a b post p.whole (λ s. whole_node all s (node align form) (component_role name presence default own) (path ++ k ∷ []) around) homed)
+              (leafed_next root tree sound pre (component_role name presence default own) (path ++ k ∷ []) around (node align form) b post first (fields_leaf fs) leafed) d e,
         )
     sound_fields (inserted name (node align form) (Some t) fs) pre path around k post p ks knows homed leafed d e =
         let a = nodes (an_inserted name (Some t)) (path ++ k ∷ []) around (node align form) in
@@ -482,25 +482,25 @@ module _ (root : Grammar) (tree : IsTree root) (sound : (f : CheckFault) → Und
               (leafed_next root tree sound pre (an_inserted name None) (path ++ k ∷ []) around (node align form) b post first (fields_leaf fs) leafed) d e,
         )
 
-    sound_cases : (cases : Alternatives) (pre : List Stand) (path around : List ℕ) (k : ℕ) (post : List Stand) → CasesAt root tree sound pre path around k cases post → (ks : Known) → Knows ks pre around (alternative_nodes path around k cases) → Homed root tree sound around (alternative_nodes path around k cases) → Leafed root tree sound (alternative_nodes path around k cases) (alternatives_leaf cases)
+    sound_cases : (cases : Alternatives) (pre : List Stand) (rule : ChoiceRule) (path around : List ℕ) (k : ℕ) (post : List Stand) → CasesAt root tree sound pre rule path around k cases post → (ks : Known) → Knows ks pre around (alternative_nodes rule path around k cases) → Homed root tree sound around (alternative_nodes rule path around k cases) → Leafed root tree sound (alternative_nodes rule path around k cases) (alternatives_leaf cases)
         → (d : ℕ) → suc (length path) ≡ d → AlternativesSound root d around ks cases
-    sound_cases no_alternatives pre path around k post p ks knows homed leafed d e = tt
-    sound_cases (alternative name g tests more) pre path around k post p ks knows homed leafed d e =
-        let a = nodes (an_alternative name tests) (path ++ k ∷ []) around g in
-        let b = alternative_nodes path around (suc k) more in
-        let first = first_case all (numbers root tree sound) (rules root tree sound) pre path around k name g tests more post p in
+    sound_cases no_alternatives pre rule path around k post p ks knows homed leafed d e = tt
+    sound_cases (alternative name g tests more) pre rule path around k post p ks knows homed leafed d e =
+        let a = nodes (alternative_role name tests rule) (path ++ k ∷ []) around g in
+        let b = alternative_nodes rule path around (suc k) more in
+        let first = first_case all (numbers root tree sound) (rules root tree sound) pre rule path around k name g tests more post p in
         let knows' = knows_left root tree sound ks pre around a b knows in
-        let one = sound_node g pre (an_alternative name tests) (path ++ k ∷ []) around (b ++ post) first ks (record {
+        let one = sound_node g pre (alternative_role name tests rule) (path ++ k ∷ []) around (b ++ post) first ks (record {
           knows = knows';
-          homed = in_left root tree sound around pre a b post p.whole (λ s. whole_cases all s more path around (suc k)) homed;
-          leafed = leafed_case root tree sound pre (an_alternative name tests) (path ++ k ∷ []) around g b post first (alternatives_leaf more) (λ s h. no_cases_leaf more path around (suc k) s h) leafed;
+          homed = in_left root tree sound around pre a b post p.whole (λ s. whole_cases all s more rule path around (suc k)) homed;
+          leafed = leafed_case root tree sound pre (alternative_role name tests rule) (path ++ k ∷ []) around g b post first (alternatives_leaf more) (λ s h. no_cases_leaf more rule path around (suc k) s h) leafed;
         }) d (one_step path k d e) in (
-          nothing g pre (an_alternative name tests) (path ++ k ∷ []) around (b ++ post) first ks knows'.fresh d one (λ s o h. p.none s o (any_left (field_is s) a b h)),
+          nothing g pre (alternative_role name tests rule) (path ++ k ∷ []) around (b ++ post) first ks knows'.fresh d one (λ s o h. p.none s o (any_left (field_is s) a b h)),
           one,
-          sound_cases more (pre ++ a) path around (suc k) post (next_case all (numbers root tree sound) (rules root tree sound) pre path around k name g tests more post p) ks
+          sound_cases more (pre ++ a) rule path around (suc k) post (next_case all (numbers root tree sound) (rules root tree sound) pre rule path around k name g tests more post p) ks
               (knows_right root tree sound ks pre around a b (λ s o h. p.none s o (any_left (field_is s) a b h)) knows)
-              (in_right root tree sound around pre a b post p.whole (λ s. whole_node all s g (an_alternative name tests) (path ++ k ∷ []) around) homed)
-              (leafed_next_case root tree sound pre (an_alternative name tests) (path ++ k ∷ []) around g b post first (alternatives_leaf more) leafed) d e,
+              (in_right root tree sound around pre a b post p.whole (λ s. whole_node all s g (alternative_role name tests rule) (path ++ k ∷ []) around) homed)
+              (leafed_next_case root tree sound pre (alternative_role name tests rule) (path ++ k ∷ []) around g b post first (alternatives_leaf more) leafed) d e,
         )
 
   root_leafed : (g : Grammar) → g ≡ root → Leafed root tree sound (below root tree sound [] [] g) (slot_leaf g)

@@ -15,7 +15,7 @@ use Rattle.acn_grammar.specs.Scoped.{Known, after, choose_known, with_own, with_
 use Rattle.acn_grammar.specs.Slots.{slot_leaf, form_leaf, fields_leaf, alternatives_leaf, number_leaf, first_of_two, domain_of, is_slot as if_slot}
 use Rattle.acn_grammar.specs.Sound.{Sound, FormSound, FieldsSound, AlternativesSound, PresenceSound, OwnSound, SaysSlot}
 use Rattle.acn_grammar.specs.Tree.{IsTree, holds, all_true, stand_rules, has_tests, choice_fine, choice_rule_fine}
-use Rattle.acn_grammar.specs.Walk.{Stand, Role, a_component, an_inserted, an_alternative, an_element, a_content, root_node, nodes, nodes_of, form_nodes, field_nodes, alternative_nodes, Use, condition, item_of, size_of, slot_of, uses, form_uses, own_tests, rule_uses, choice_uses, presence_tests, conditions_of}
+use Rattle.acn_grammar.specs.Walk.{Stand, Role, component_role, an_inserted, alternative_role, an_element, a_content, root_node, nodes, nodes_of, form_nodes, field_nodes, alternative_nodes, Use, condition, item_of, size_of, slot_of, uses, form_uses, own_tests, rule_uses, choice_uses, presence_tests, conditions_of}
 use Rattle.acn_grammar.specs.declared.node.ChoiceRule.{ChoiceRule}
 use Rattle.acn_grammar.specs.declared.node.ChoiceRule.TheVariants.{Index, Tests, Item}
 use Rattle.acn_grammar.specs.declared.node.NumKind.{NumKind}
@@ -293,9 +293,9 @@ module _ (root : Grammar) where
     used_fields : (fs : Fields) (path around : List ℕ) (i k : ℕ) (ks : Known) → FieldsSound root k around ks fs → AllByRecursion StandFits (field_nodes path around i fs) → FieldsUsed around fs
     used_fields no_fields path around i k ks h f = tt
     used_fields (component name g presence default own fs) path around i k ks h f =
-        let a = nodes (a_component name presence own) (path ++ i ∷ []) around g in
+        let a = nodes (component_role name presence default own) (path ++ i ∷ []) around g in
         let b = field_nodes path around (suc i) fs in
-        let n = used_node g (a_component name presence own) (path ++ i ∷ []) around k ks (fourth_five h) (each_left StandFits a b f) in (
+        let n = used_node g (component_role name presence default own) (path ++ i ∷ []) around k ks (fourth_five h) (each_left StandFits a b f) in (
           own_fits around ks own presence g (second_five h),
           presence_fits around ks presence (first_five h) n.0,
           n.1,
@@ -306,12 +306,12 @@ module _ (root : Grammar) where
     used_fields (inserted name g None fs) path around i k ks h f =
         used_fields fs path around (suc i) k ks (last_three h) (each_right StandFits (nodes (an_inserted name None) (path ++ i ∷ []) around g) (field_nodes path around (suc i) fs) f)
 
-    used_cases : (cases : Alternatives) (rule : ChoiceRule) → Bare rule (conditions_of cases) → (path around : List ℕ) (i k : ℕ) (ks : Known) → AlternativesSound root k around ks cases → AllByRecursion StandFits (alternative_nodes path around i cases) → CasesUsed around rule cases
+    used_cases : (cases : Alternatives) (rule : ChoiceRule) → Bare rule (conditions_of cases) → (path around : List ℕ) (i k : ℕ) (ks : Known) → AlternativesSound root k around ks cases → AllByRecursion StandFits (alternative_nodes rule path around i cases) → CasesUsed around rule cases
     used_cases no_alternatives rule n path around i k ks h f = tt
     used_cases (alternative name g tests more) rule n path around i k ks h f =
-        let a = nodes (an_alternative name tests) (path ++ i ∷ []) around g in
-        let b = alternative_nodes path around (suc i) more in
-        let u = used_node g (an_alternative name tests) (path ++ i ∷ []) around k ks (second_three h) (each_left StandFits a b f) in
+        let a = nodes (alternative_role name tests rule) (path ++ i ∷ []) around g in
+        let b = alternative_nodes rule path around (suc i) more in
+        let u = used_node g (alternative_role name tests rule) (path ++ i ∷ []) around k ks (second_three h) (each_left StandFits a b f) in
         (case_fits around rule name tests (conditions_of more) n u.0, u.1, used_cases more rule (bare_more rule name tests (conditions_of more) n) path around (suc i) k ks (last_three h) (each_right StandFits a b f))
 
 -- From the rules of a tree and from what its check says.

@@ -1,6 +1,6 @@
 -- Laws of the definitions, as contracts name them.
-use Rattle.std.specs.Prelude.{◌*◌, ◌≡◌, ◌≢◌, ℕ, ◌+◌, ◌≤◌, ◌<◌, ℤ, Bool, true, false, List, [], ◌∷◌, ◌++◌, length, map, take, slice_get, Some, IsTrue, ◌⊎◌}
-use Rattle.std.specs.List.{flat_map}
+use Rattle.std.specs.Prelude.{◌*◌, ◌≡◌, ◌≢◌, ℕ, ◌+◌, ◌≤◌, ◌<◌, ℤ, Bool, true, false, List, [], ◌∷◌, ◌++◌, length, map, take, slice_get, Some, IsTrue, ◌⊎◌, IsSome}
+use Rattle.std.specs.List.{flat_map, AllByRecursion}
 use Rattle.acn_grammar.specs.Grammar.{Grammar, Fields, Data, node, num, seq}
 use Rattle.acn_grammar.specs.Asks.{moments, field_path}
 use Rattle.acn_grammar.specs.AsksOn.{form_asks_on}
@@ -14,9 +14,10 @@ use Rattle.acn_grammar.specs.Interval.{span, width_of}
 use Rattle.acn_grammar.specs.LeafFails.{Reason, LeafFails, short}
 use Rattle.acn_grammar.specs.Length.{bit_length}
 use Rattle.acn_grammar.specs.Leaves.{num_fine}
-use Rattle.acn_grammar.specs.Meets.{Meets, Unfit, breaches}
+use Rattle.acn_grammar.specs.Meets.{Meets, Why, Unfit, conflict, breaches}
 use Rattle.acn_grammar.specs.Refused.{Refused, asks_of}
 use Rattle.acn_grammar.specs.PartAt.{part_at, occurrence}
+use Rattle.acn_grammar.specs.Paths.{node_at, node_on}
 use Rattle.acn_grammar.specs.Scoped.{Known, Agree, after, FineField, Permitted, Scoped}
 use Rattle.acn_grammar.specs.Shaped.{Shaped}
 use Rattle.acn_grammar.specs.Sound.{SaysSlot, Sound}
@@ -244,3 +245,38 @@ RefusedIsNotSpelled = (root : Grammar) (mode : Mode) (d : Data) (u : Unfit) (bs 
 -- a value is refused for one reason, at one place
 abbrev pub OneRefusal : Type 0
 OneRefusal = (root : Grammar) (d : Data) (u w : Unfit) → Refused root d u → Refused root d w → u ≡ w
+
+-- Paths.
+
+-- the node of a number in preorder is the node of its path
+abbrev pub EachNodeHasItsPath : Type 0
+EachNodeHasItsPath = (root : Grammar) (k : ℕ) (here : Stand) → NodeAt root k here → node_at root here.path ≡ Some (node here.align here.form)
+
+-- the node of a path is the node of a number
+abbrev pub EachPathHasItsNumber : Type 0
+EachPathHasItsNumber = (root : Grammar) (path : List ℕ) (g : Grammar) → node_at root path ≡ Some g → (k : ℕ) × (here : Stand) × NodeAt root k here × (here.path ≡ path) × (node here.align here.form ≡ g)
+
+-- a part of a value is of a node of the grammar
+abbrev pub ValuesAreOfNodes : Type 0
+ValuesAreOfNodes = (root : Grammar) (path : List ℕ) (g : Grammar) → node_on root path ≡ Some g → (at : List ℕ) × (node_at root at ≡ Some g)
+
+-- the path, one of a value, leads to a node
+abbrev pub LeadsToANode : Grammar → (path : List ℕ) → Type 0
+LeadsToANode root path = IsSome (node_on root path)
+
+-- a failure is named for a node
+abbrev pub FailuresAreAtNodes : Type 0
+FailuresAreAtNodes = (root : Grammar) (input : List Bool) (fault : Fault) (reach : ℕ) → Refusal root input fault reach → LeadsToANode root fault.path
+
+-- so is each breach of a value
+abbrev pub BreachesAreAtNodes : Type 0
+BreachesAreAtNodes = (root : Grammar) (d : Data) → AllByRecursion (λ u. LeadsToANode root u.path) (breaches [] root d)
+
+-- the field that a conflict names is a node too
+abbrev pub ReasonLeads : Grammar → Why → Type 0
+ReasonLeads root (conflict field earlier wanted) = LeadsToANode root field
+ReasonLeads root _ = Unit {0}
+
+-- and so is what a value is refused for
+abbrev pub RefusalsAreAtNodes : Type 0
+RefusalsAreAtNodes = (root : Grammar) (d : Data) (u : Unfit) → Refused root d u → LeadsToANode root u.path × ReasonLeads root u.why

@@ -1,4 +1,4 @@
-ghost use Rattle.acn_packet_laws.specs.Laws.{NumbersArePrefixFree, BoundsHold, FailuresRestOnBits, FrontsRestOnBits, NoFaultWithoutAFirst, OneFirstFault, AcceptedIsScoped, AcceptedIsSound, EachNodeIsSound, SoundIsScoped, KnownBehind, KnownStays, SlotsPermitWhatTheirFieldsSay, FewAreOpen, UsesFitTheirSlots, NodesArePrefixFree, SlotFieldsArePrefixFree, EachNodeIsPrefixFree, PacketsArePrefixFree, EachNumberHasACode, LengthsAreTold, EachLengthIsTold, WidthsAreLengths, OneFront, FrontsExcludeFailures, OneFailure, EachInputIsReadOrFails, EachInputIsANumberOrFails, WrittenIsRead, SpelledValuesMeet, SpellingsHaveNoBreach, EachOccurrenceAsks, OneWriting, RefusedIsNotSpelled, OneRefusal, EachValueIsWrittenOrRefused, LaterStartsEndLater, ValuesLieWithinBounds, ReachesLieInside, ShortIsNear};
+ghost use Rattle.acn_packet_laws.specs.Laws.{NumbersArePrefixFree, BoundsHold, FailuresRestOnBits, FrontsRestOnBits, NoFaultWithoutAFirst, OneFirstFault, AcceptedIsScoped, AcceptedIsSound, EachNodeIsSound, SoundIsScoped, KnownBehind, KnownStays, SlotsPermitWhatTheirFieldsSay, FewAreOpen, UsesFitTheirSlots, NodesArePrefixFree, SlotFieldsArePrefixFree, EachNodeIsPrefixFree, PacketsArePrefixFree, EachNumberHasACode, LengthsAreTold, EachLengthIsTold, WidthsAreLengths, OneFront, FrontsExcludeFailures, OneFailure, EachInputIsReadOrFails, EachInputIsANumberOrFails, WrittenIsRead, SpelledValuesMeet, SpellingsHaveNoBreach, EachOccurrenceAsks, OneWriting, RefusedIsNotSpelled, OneRefusal, EachValueIsWrittenOrRefused, LaterStartsEndLater, ValuesLieWithinBounds, ReachesLieInside, ShortIsNear, EachNodeHasItsPath, EachPathHasItsNumber, ValuesAreOfNodes, FailuresAreAtNodes, BreachesAreAtNodes, RefusalsAreAtNodes};
 
 /// No code of a number leaf begins another, and the code tells the number.
 pub fn numbers_are_prefix_free()
@@ -201,4 +201,35 @@ pub fn reaches_lie_inside()
 /// window round contents have.
 pub fn short_is_near()
     ensures { ShortIsNear }
+{}
+
+/// The node of a number in preorder is the node of its path.
+pub fn each_node_has_its_path()
+    ensures { EachNodeHasItsPath }
+{}
+
+/// The node of a path is the node of a number in preorder, so what is said of nodes by their numbers holds of it.
+pub fn each_path_has_its_number()
+    ensures { EachPathHasItsNumber }
+{}
+
+/// What a path of a value leads to, a path of the grammar leads to.
+pub fn values_are_of_nodes()
+    ensures { ValuesAreOfNodes }
+{}
+
+/// The path of a failure leads to a node of the grammar: a field, inserted or not, an alternative, an element or a content.
+pub fn failures_are_at_nodes()
+    ensures { FailuresAreAtNodes }
+{}
+
+/// The path of each breach of a value leads to a node of the grammar.
+pub fn breaches_are_at_nodes()
+    ensures { BreachesAreAtNodes }
+{}
+
+/// The path of what a value is refused for leads to a node of the grammar, and so does that of the field that a conflict
+/// names.
+pub fn refusals_are_at_nodes()
+    ensures { RefusalsAreAtNodes }
 {}

@@ -5,15 +5,17 @@ mod laws;
 mod row_laws;
 
 pub use laws::{
-    accepted_is_scoped, accepted_is_sound, bounds_hold, each_input_is_a_number_or_fails,
-    each_input_is_read_or_fails, each_length_is_told, each_node_is_prefix_free, each_node_is_sound,
-    each_number_has_a_code, each_occurrence_asks, each_value_is_written_or_refused,
-    failures_rest_on_bits, few_are_open, fronts_exclude_failures, fronts_rest_on_bits,
-    known_behind, known_stays, later_starts_end_later, lengths_are_told, no_fault_without_a_first,
-    nodes_are_prefix_free, numbers_are_prefix_free, one_failure, one_first_fault, one_front,
-    one_refusal, one_writing, packets_are_prefix_free, reaches_lie_inside, refused_is_not_spelled,
-    short_is_near, slot_fields_are_prefix_free, slots_permit_what_their_fields_say,
-    sound_is_scoped, spelled_values_meet, spellings_have_no_breach, uses_fit_their_slots,
+    accepted_is_scoped, accepted_is_sound, bounds_hold, breaches_are_at_nodes,
+    each_input_is_a_number_or_fails, each_input_is_read_or_fails, each_length_is_told,
+    each_node_has_its_path, each_node_is_prefix_free, each_node_is_sound, each_number_has_a_code,
+    each_occurrence_asks, each_path_has_its_number, each_value_is_written_or_refused,
+    failures_are_at_nodes, failures_rest_on_bits, few_are_open, fronts_exclude_failures,
+    fronts_rest_on_bits, known_behind, known_stays, later_starts_end_later, lengths_are_told,
+    no_fault_without_a_first, nodes_are_prefix_free, numbers_are_prefix_free, one_failure,
+    one_first_fault, one_front, one_refusal, one_writing, packets_are_prefix_free,
+    reaches_lie_inside, refusals_are_at_nodes, refused_is_not_spelled, short_is_near,
+    slot_fields_are_prefix_free, slots_permit_what_their_fields_say, sound_is_scoped,
+    spelled_values_meet, spellings_have_no_breach, uses_fit_their_slots, values_are_of_nodes,
     values_lie_within_bounds, widths_are_lengths, written_is_read,
 };
 pub use row_laws::{

@@ -9,7 +9,7 @@ use Rattle.acn_grammar.specs.Length.{ending}
 use Rattle.acn_grammar.specs.Asks.{same_name}
 use Rattle.acn_tree.specs.Made.{alternative_count}
 use Rattle.acn_grammar.specs.Tree.{IsTree, form_fine, choice_rule_fine, stand_rules, all_true, same_numbers, slots_of}
-use Rattle.acn_grammar.specs.Walk.{Stand, Role, a_component, an_inserted, an_alternative, an_element, a_content, root_node, nodes, form_nodes, field_nodes, alternative_nodes, nodes_of, conditions_of}
+use Rattle.acn_grammar.specs.Walk.{Stand, Role, component_role, an_inserted, alternative_role, an_element, a_content, root_node, nodes, form_nodes, field_nodes, alternative_nodes, nodes_of, conditions_of}
 use Rattle.acn_grammar.specs.declared.node.ChoiceRule.{ChoiceRule}
 use Rattle.acn_grammar.specs.declared.node.Sizing.{Sizing}
 use Rattle.acn_grammar.proofs.TreeRules.{stand_fine, list_all-append}
@@ -36,10 +36,10 @@ some_case cases rule h =
 some_node : (role : Role) (path around : List ℕ) (g : Grammar) → 0 < length (nodes role path around g)
 some_node role path around (node align form) = omega arith
 
-count_cases : (path around : List ℕ) (k : ℕ) (cases : Alternatives) → alternative_count cases ≤ length (alternative_nodes path around k cases)
-count_cases path around k no_alternatives = omega arith
-count_cases path around k (alternative name g tests more) =
-    omega (arith, some_node (an_alternative name tests) (path ++ k ∷ []) around g, count_cases path around (suc k) more, length-append (nodes (an_alternative name tests) (path ++ k ∷ []) around g) (alternative_nodes path around (suc k) more))
+count_cases : (rule : ChoiceRule) (path around : List ℕ) (k : ℕ) (cases : Alternatives) → alternative_count cases ≤ length (alternative_nodes rule path around k cases)
+count_cases rule path around k no_alternatives = omega arith
+count_cases rule path around k (alternative name g tests more) =
+    omega (arith, some_node (alternative_role name tests rule) (path ++ k ∷ []) around g, count_cases rule path around (suc k) more, length-append (nodes (alternative_role name tests rule) (path ++ k ∷ []) around g) (alternative_nodes rule path around (suc k) more))
 
 module _ (all : List Stand) where
   abbrev passes : Stand → Bool
@@ -60,27 +60,27 @@ module _ (all : List Stand) where
     can_form (seq fields home) path around f h n = can_fields fields path (home ++ around) 0 h n
     can_form (list sizing g) path around f h n = (list_sizes sizing f, can_node g an_element (path ++ 0 ∷ []) around h n)
     can_form (choice cases rule) path around f h n =
-        let c = count_cases path around 0 cases in
-        (some_case cases rule f, omega arith, can_alternatives cases path around 0 h n)
+        let c = count_cases rule path around 0 cases in
+        (some_case cases rule f, omega arith, can_alternatives cases rule path around 0 h n)
     can_form (contained sizing g) path around f h n = can_node g a_content (path ++ 0 ∷ []) around h n
 
     can_fields : (fs : Fields) (path around : List ℕ) (k : ℕ) → list_all passes (field_nodes path around k fs) ≡ true → length (field_nodes path around k fs) ≤ 65536 → FieldsCanDraw fs
     can_fields no_fields path around k h n = tt
     can_fields (component name g presence default own fs) path around k h n =
-        let p = list_all-append passes (nodes (a_component name presence own) (path ++ k ∷ []) around g) (field_nodes path around (suc k) fs) h in
-        let l = length-append (nodes (a_component name presence own) (path ++ k ∷ []) around g) (field_nodes path around (suc k) fs) in
-        (can_node g (a_component name presence own) (path ++ k ∷ []) around p.0 (omega arith), can_fields fs path around (suc k) p.1 (omega arith))
+        let p = list_all-append passes (nodes (component_role name presence default own) (path ++ k ∷ []) around g) (field_nodes path around (suc k) fs) h in
+        let l = length-append (nodes (component_role name presence default own) (path ++ k ∷ []) around g) (field_nodes path around (suc k) fs) in
+        (can_node g (component_role name presence default own) (path ++ k ∷ []) around p.0 (omega arith), can_fields fs path around (suc k) p.1 (omega arith))
     can_fields (inserted name g slot fs) path around k h n =
         let p = list_all-append passes (nodes (an_inserted name slot) (path ++ k ∷ []) around g) (field_nodes path around (suc k) fs) h in
         let l = length-append (nodes (an_inserted name slot) (path ++ k ∷ []) around g) (field_nodes path around (suc k) fs) in
         can_fields fs path around (suc k) p.1 (omega arith)
 
-    can_alternatives : (cases : Alternatives) (path around : List ℕ) (k : ℕ) → list_all passes (alternative_nodes path around k cases) ≡ true → length (alternative_nodes path around k cases) ≤ 65536 → AlternativesCanDraw cases
-    can_alternatives no_alternatives path around k h n = tt
-    can_alternatives (alternative name g tests more) path around k h n =
-        let p = list_all-append passes (nodes (an_alternative name tests) (path ++ k ∷ []) around g) (alternative_nodes path around (suc k) more) h in
-        let l = length-append (nodes (an_alternative name tests) (path ++ k ∷ []) around g) (alternative_nodes path around (suc k) more) in
-        (can_node g (an_alternative name tests) (path ++ k ∷ []) around p.0 (omega arith), can_alternatives more path around (suc k) p.1 (omega arith))
+    can_alternatives : (cases : Alternatives) (rule : ChoiceRule) (path around : List ℕ) (k : ℕ) → list_all passes (alternative_nodes rule path around k cases) ≡ true → length (alternative_nodes rule path around k cases) ≤ 65536 → AlternativesCanDraw cases
+    can_alternatives no_alternatives rule path around k h n = tt
+    can_alternatives (alternative name g tests more) rule path around k h n =
+        let p = list_all-append passes (nodes (alternative_role name tests rule) (path ++ k ∷ []) around g) (alternative_nodes rule path around (suc k) more) h in
+        let l = length-append (nodes (alternative_role name tests rule) (path ++ k ∷ []) around g) (alternative_nodes rule path around (suc k) more) in
+        (can_node g (alternative_role name tests rule) (path ++ k ∷ []) around p.0 (omega arith), can_alternatives more rule path around (suc k) p.1 (omega arith))
 
 pub tree_can_draw : (root : Grammar) → IsTree root → CanDraw root
 tree_can_draw root h =

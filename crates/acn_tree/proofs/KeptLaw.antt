@@ -1,8 +1,10 @@
 -- In a well-formed tree every number leaf keeps its rules, and so it is in the parts of a grammar that keeps them.
-use Rattle.std.proofs.Common.{◌≡◌, ℕ, ◌+◌, ◌<◌, List, ◌∷◌, length, get_or, drop, Option, sym, ap, subst, ◌∙◌, rules}
+use Rattle.std.proofs.Common.{◌≡◌, ℕ, zero, suc, ◌+◌, ◌<◌, List, [], ◌∷◌, length, get_or, drop, Option, Some, sym, ap, subst, ◌∙◌, rules}
 use Rattle.std.proofs.lemmas.List.{drop_more}
 use Rattle.acn_grammar.specs.Grammar.{Grammar, Form, Fields, Alternatives, node, num, octets, bits, text, seq, list, choice, contained, no_fields, component, inserted, no_alternatives, alternative}
 use Rattle.acn_tree.specs.KeptLeaves.{NumbersKept, FormKept, FieldKept, FieldsKept, AlternativesKept}
+use Rattle.acn_tree.specs.Room.{InTree}
+use Rattle.acn_grammar.specs.Paths.{node_at, child, field_at, alternative_at, only}
 use Rattle.acn_grammar.specs.Tree.{IsTree}
 use Rattle.acn_grammar.specs.View.{OneField, a_component, an_inserted, with_field, grammar_of, form_of, field_of, fields_view, alternative_of, alternatives_view}
 use Rattle.acn_grammar.specs.declared.node.Alternative.{Alternative}
@@ -13,6 +15,7 @@ use Rattle.acn_grammar.specs.declared.node.Presence.{Presence}
 use Rattle.acn_grammar.specs.declared.node.Seq.{Seq as SeqNode}
 use Rattle.acn_grammar.proofs.SpanLaw.{Fine, FormFine, FieldsFine, AlternativesFine}
 use Rattle.acn_grammar.proofs.TreeRules.{tree_fine}
+use Rattle.acn_tree.proofs.RoomLaw.{some_is, after_step}
 use Rattle.acn_grammar.proofs.Views.{view_node, view_seq_form, view_component, view_inserted}
 
 mutual
@@ -38,8 +41,44 @@ mutual
   kept_alternatives no_alternatives h = tt
   kept_alternatives (alternative name g tests more) h = (kept g h.0, kept_alternatives more h.1)
 
-pub tree-kept : (root : Grammar) → IsTree root → NumbersKept root
+tree-kept : (root : Grammar) → IsTree root → NumbersKept root
 tree-kept root h = kept root (tree_fine root h)
+
+-- Along a path.
+
+field_kept : (fs : Fields) (i : ℕ) (h : Grammar) → FieldsKept fs → field_at fs i ≡ Some h → NumbersKept h
+field_kept no_fields i h r e = cc
+field_kept (component name g presence default own fs) zero h r e = subst NumbersKept (some_is g h e) r.0
+field_kept (component name g presence default own fs) (suc i) h r e = field_kept fs i h r.1 e
+field_kept (inserted name g slot fs) zero h r e = subst NumbersKept (some_is g h e) r.0
+field_kept (inserted name g slot fs) (suc i) h r e = field_kept fs i h r.1 e
+
+alternative_kept : (as' : Alternatives) (i : ℕ) (h : Grammar) → AlternativesKept as' → alternative_at as' i ≡ Some h → NumbersKept h
+alternative_kept no_alternatives i h r e = cc
+alternative_kept (alternative name g tests more) zero h r e = subst NumbersKept (some_is g h e) r.0
+alternative_kept (alternative name g tests more) (suc i) h r e = alternative_kept more i h r.1 e
+
+only_kept : (g : Grammar) (i : ℕ) (h : Grammar) → NumbersKept g → only g i ≡ Some h → NumbersKept h
+only_kept g zero h r e = subst NumbersKept (some_is g h e) r
+only_kept g (suc i) h r e = cc
+
+child_kept : (g : Grammar) (i : ℕ) (h : Grammar) → NumbersKept g → child g i ≡ Some h → NumbersKept h
+child_kept (node align (num leaf)) i h r e = cc
+child_kept (node align (octets sizing)) i h r e = cc
+child_kept (node align (bits sizing)) i h r e = cc
+child_kept (node align (text leaf)) i h r e = cc
+child_kept (node align (seq fields home)) i h r e = field_kept fields i h r e
+child_kept (node align (list sizing g)) i h r e = only_kept g i h r e
+child_kept (node align (choice cases rule)) i h r e = alternative_kept cases i h r e
+child_kept (node align (contained sizing g)) i h r e = only_kept g i h r e
+
+path_kept : (path : List ℕ) (g h : Grammar) → NumbersKept g → node_at g path ≡ Some h → NumbersKept h
+path_kept [] g h r e = subst NumbersKept (some_is g h e) r
+path_kept (i ∷ path) g h r e = after_step (child g i) (λ inside. node_at inside path) h (NumbersKept h) e (λ inside c k. path_kept path inside h (child_kept g i inside r c) k)
+
+-- the node is one of a well-formed tree
+pub kept-in-tree : (g : Grammar) → InTree g → NumbersKept g
+kept-in-tree g t = path_kept t.path t.root g (tree-kept t.root t.formed) t.leads
 
 -- Parts.
 

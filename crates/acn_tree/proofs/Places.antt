@@ -1,7 +1,7 @@
 -- The node at a place, from the rows of fields and alternatives.
 use Rattle.std.proofs.Common.{◌≡◌, ℕ, zero, suc, ◌<◌, ◌≤◌, List, [], ◌∷◌, length, get_or, Some, None, refl, ◌∙◌, arith, rules}
 use Rattle.acn_grammar.specs.Grammar.{Fields}
-use Rattle.acn_tree.specs.NodeAt.{grammar_in, field_at, alternative_at}
+use Rattle.acn_grammar.specs.Paths.{grammar_in, field_at, alternative_at}
 use Rattle.acn_grammar.specs.View.{OneField, a_component, an_inserted, with_field, grammar_of, field_of, fields_view, alternatives_view}
 use Rattle.acn_grammar.specs.declared.node.Alternative.{Alternative}
 use Rattle.acn_grammar.specs.declared.node.Field.{Field}

@@ -8,10 +8,11 @@ use Rattle.acn_num.specs.Ranges.{has, are_ranges, all_within}
 use Rattle.acn_grammar.specs.Grammar.{Grammar, Form, Fields, Alternatives, node, num, octets, bits, text, seq, list, choice, contained, no_fields, component, inserted, no_alternatives, alternative}
 use Rattle.acn_grammar.specs.Leaves.{list_fine, list_rule_fine, sizes_fine}
 use Rattle.acn_grammar.specs.Length.{ending}
-use Rattle.acn_tree.specs.NodeAt.{node_at, child, field_at, alternative_at, only, if_some}
+use Rattle.acn_grammar.specs.Paths.{node_at, child, field_at, alternative_at, only, if_some}
 use Rattle.acn_tree.specs.Room.{InTree, HasRoom, FormHasRoom, FieldsHaveRoom, AlternativesHaveRoom, SizesAreSmall, field_count}
 use Rattle.acn_grammar.specs.Tree.{IsTree, form_fine, stand_rules, all_true, same_numbers, slots_of}
-use Rattle.acn_grammar.specs.Walk.{Stand, Role, a_component, an_inserted, an_alternative, an_element, a_content, root_node, nodes, form_nodes, field_nodes, alternative_nodes, nodes_of}
+use Rattle.acn_grammar.specs.Walk.{Stand, Role, component_role, an_inserted, alternative_role, an_element, a_content, root_node, nodes, form_nodes, field_nodes, alternative_nodes, nodes_of}
+use Rattle.acn_grammar.specs.declared.node.ChoiceRule.{ChoiceRule}
 use Rattle.acn_grammar.specs.declared.node.Sizing.{Sizing}
 use Rattle.acn_grammar.proofs.TreeRules.{stand_fine, list_all-append}
 use Rattle.acn_grammar.proofs.Within.{between}
@@ -53,7 +54,7 @@ some_node role path around (node align form) = omega arith
 count_fields : (path around : List ℕ) (k : ℕ) (fs : Fields) → field_count fs ≤ length (field_nodes path around k fs)
 count_fields path around k no_fields = omega arith
 count_fields path around k (component name g presence default own fs) =
-    omega (arith, some_node (a_component name presence own) (path ++ k ∷ []) around g, count_fields path around (suc k) fs, length-append (nodes (a_component name presence own) (path ++ k ∷ []) around g) (field_nodes path around (suc k) fs))
+    omega (arith, some_node (component_role name presence default own) (path ++ k ∷ []) around g, count_fields path around (suc k) fs, length-append (nodes (component_role name presence default own) (path ++ k ∷ []) around g) (field_nodes path around (suc k) fs))
 count_fields path around k (inserted name g slot fs) =
     omega (arith, some_node (an_inserted name slot) (path ++ k ∷ []) around g, count_fields path around (suc k) fs, length-append (nodes (an_inserted name slot) (path ++ k ∷ []) around g) (field_nodes path around (suc k) fs))
 
@@ -79,26 +80,26 @@ module _ (all : List Stand) where
         let c = count_fields path (home ++ around) 0 fields in
         (omega arith, room_fields fields path (home ++ around) 0 m e h n)
     room_form (list sizing g) path around m e f h n = (small_sizes sizing f, room_node g an_element (path ++ 0 ∷ []) around (suc m) (ap suc e ∙ sym (one_longer path 0)) h n)
-    room_form (choice cases rule) path around m e f h n = room_alternatives cases path around 0 m e h n
+    room_form (choice cases rule) path around m e f h n = room_alternatives cases rule path around 0 m e h n
     room_form (contained sizing g) path around m e f h n = room_node g a_content (path ++ 0 ∷ []) around (suc m) (ap suc e ∙ sym (one_longer path 0)) h n
 
     room_fields : (fs : Fields) (path around : List ℕ) (k m : ℕ) → m ≡ length path → list_all passes (field_nodes path around k fs) ≡ true → length (field_nodes path around k fs) ≤ 65536 → FieldsHaveRoom (suc m) fs
     room_fields no_fields path around k m e h n = tt
     room_fields (component name g presence default own fs) path around k m e h n =
-        let p = list_all-append passes (nodes (a_component name presence own) (path ++ k ∷ []) around g) (field_nodes path around (suc k) fs) h in
-        let l = length-append (nodes (a_component name presence own) (path ++ k ∷ []) around g) (field_nodes path around (suc k) fs) in
-        (room_node g (a_component name presence own) (path ++ k ∷ []) around (suc m) (ap suc e ∙ sym (one_longer path k)) p.0 (omega arith), room_fields fs path around (suc k) m e p.1 (omega arith))
+        let p = list_all-append passes (nodes (component_role name presence default own) (path ++ k ∷ []) around g) (field_nodes path around (suc k) fs) h in
+        let l = length-append (nodes (component_role name presence default own) (path ++ k ∷ []) around g) (field_nodes path around (suc k) fs) in
+        (room_node g (component_role name presence default own) (path ++ k ∷ []) around (suc m) (ap suc e ∙ sym (one_longer path k)) p.0 (omega arith), room_fields fs path around (suc k) m e p.1 (omega arith))
     room_fields (inserted name g slot fs) path around k m e h n =
         let p = list_all-append passes (nodes (an_inserted name slot) (path ++ k ∷ []) around g) (field_nodes path around (suc k) fs) h in
         let l = length-append (nodes (an_inserted name slot) (path ++ k ∷ []) around g) (field_nodes path around (suc k) fs) in
         (room_node g (an_inserted name slot) (path ++ k ∷ []) around (suc m) (ap suc e ∙ sym (one_longer path k)) p.0 (omega arith), room_fields fs path around (suc k) m e p.1 (omega arith))
 
-    room_alternatives : (as' : Alternatives) (path around : List ℕ) (k m : ℕ) → m ≡ length path → list_all passes (alternative_nodes path around k as') ≡ true → length (alternative_nodes path around k as') ≤ 65536 → AlternativesHaveRoom (suc m) as'
-    room_alternatives no_alternatives path around k m e h n = tt
-    room_alternatives (alternative name g tests more) path around k m e h n =
-        let p = list_all-append passes (nodes (an_alternative name tests) (path ++ k ∷ []) around g) (alternative_nodes path around (suc k) more) h in
-        let l = length-append (nodes (an_alternative name tests) (path ++ k ∷ []) around g) (alternative_nodes path around (suc k) more) in
-        (room_node g (an_alternative name tests) (path ++ k ∷ []) around (suc m) (ap suc e ∙ sym (one_longer path k)) p.0 (omega arith), room_alternatives more path around (suc k) m e p.1 (omega arith))
+    room_alternatives : (as' : Alternatives) (rule : ChoiceRule) (path around : List ℕ) (k m : ℕ) → m ≡ length path → list_all passes (alternative_nodes rule path around k as') ≡ true → length (alternative_nodes rule path around k as') ≤ 65536 → AlternativesHaveRoom (suc m) as'
+    room_alternatives no_alternatives rule path around k m e h n = tt
+    room_alternatives (alternative name g tests more) rule path around k m e h n =
+        let p = list_all-append passes (nodes (alternative_role name tests rule) (path ++ k ∷ []) around g) (alternative_nodes rule path around (suc k) more) h in
+        let l = length-append (nodes (alternative_role name tests rule) (path ++ k ∷ []) around g) (alternative_nodes rule path around (suc k) more) in
+        (room_node g (alternative_role name tests rule) (path ++ k ∷ []) around (suc m) (ap suc e ∙ sym (one_longer path k)) p.0 (omega arith), room_alternatives more rule path around (suc k) m e p.1 (omega arith))
 
 room_root : (root : Grammar) → IsTree root → HasRoom 0 root
 room_root root h =
@@ -131,7 +132,7 @@ mutual
   fewer_alternatives no_alternatives j k l h = tt
   fewer_alternatives (alternative name g tests more) j k l h = (fewer g j k l h.0, fewer_alternatives more j k l h.1)
 
-some_is : (a b : Grammar) → Some a ≡ Some b → a ≡ b
+pub some_is : (a b : Grammar) → Some a ≡ Some b → a ≡ b
 some_is a b e = cc
 
 room_field : (fs : Fields) (i k : ℕ) (h : Grammar) → FieldsHaveRoom k fs → field_at fs i ≡ Some h → HasRoom k h
@@ -160,13 +161,13 @@ room_child (node align (list sizing g)) i k h r e = room_only g i (suc k) h r.1.
 room_child (node align (choice cases rule)) i k h r e = room_alternative cases i (suc k) h r.1 e
 room_child (node align (contained sizing g)) i k h r e = room_only g i (suc k) h r.1 e
 
-room_after : (o : Option Grammar) (step : Grammar → Option Grammar) (h : Grammar) (F : Type 0) → if_some o step ≡ Some h → ((inside : Grammar) → o ≡ Some inside → step inside ≡ Some h → F) → F
-room_after None step h F e f = cc
-room_after (Some inside) step h F e f = f inside refl e
+pub after_step : (o : Option Grammar) (step : Grammar → Option Grammar) (h : Grammar) (F : Type 0) → if_some o step ≡ Some h → ((inside : Grammar) → o ≡ Some inside → step inside ≡ Some h → F) → F
+after_step None step h F e f = cc
+after_step (Some inside) step h F e f = f inside refl e
 
 room_path : (path : List ℕ) (g h : Grammar) → HasRoom 0 g → node_at g path ≡ Some h → HasRoom 0 h
 room_path [] g h r e = subst (HasRoom 0) (some_is g h e) r
-room_path (i ∷ path) g h r e = room_after (child g i) (λ inside. node_at inside path) h (HasRoom 0 h) e (λ inside c k. room_path path inside h (fewer inside 0 1 (omega arith) (room_child g i 0 inside r c)) k)
+room_path (i ∷ path) g h r e = after_step (child g i) (λ inside. node_at inside path) h (HasRoom 0 h) e (λ inside c k. room_path path inside h (fewer inside 0 1 (omega arith) (room_child g i 0 inside r c)) k)
 
 -- the node is one of a well-formed tree, so each path below it can be written down
 pub room-in-tree : (g : Grammar) → InTree g → HasRoom 0 g

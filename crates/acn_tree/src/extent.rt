@@ -1,6 +1,7 @@
 ghost use Rattle.std.specs.Prelude.{◌≡◌, ◌^◌, ◌<◌, ◌≤◌, IsTrue};
 ghost use Rattle.acn_grammar.specs.Interval.{span, form_span, num_span, text_span, component_span, field_span, fields_span, alternatives_span, end_width, list_around, exactly as just, plus as sum_of, times as product_of, hull as hull_of, hold as held, optional as perhaps, in_octets as whole_octets, size_of, sizes_of, from_one_octet as counted_from_one, code_lengths as lengths_of_codes};
 ghost use Rattle.acn_tree.specs.KeptLeaves.{NumbersKept, FormKept, FieldKept, FieldsKept, AlternativesKept};
+ghost use Rattle.acn_tree.specs.Room.{InTree};
 ghost use Rattle.acn_grammar.specs.Leaves.{num_fine};
 ghost use Rattle.acn_grammar.specs.Length.{rule_width, ending, index_width};
 ghost use Rattle.acn_grammar.specs.View.{grammar_of, form_of, field_of, fields_view, alternatives_view};
@@ -290,9 +291,19 @@ fn alternatives(alternatives: &[Alternative]) -> Bounds
     all
 }
 
+/// The least and the greatest number of bits that the values of a node have, the padding before it included. The node is
+/// one of a tree. Every sum and product is held down to 2^40. It takes no memory. That a value of the node of an accepted
+/// tree has no fewer and no more bits is `values_lie_within_bounds` of `acn_packet_laws`. (This profile's own.)
+pub fn node_interval(node: &Node) -> Bounds
+    requires { InTree (grammar_of node.now) }
+    ensures { result ≡ span (grammar_of node.now) }
+{
+    node_bounds(node)
+}
+
 /// The least and the greatest number of bits of a tree's values. Every sum and product is held down to 2^40. It takes no memory.
 pub fn interval(tree: &Tree) -> Bounds
     ensures { result ≡ span (grammar_of tree.now.root) }
 {
-    node_bounds(tree.root())
+    node_interval(tree.root())
 }

@@ -1,5 +1,5 @@
 ghost use Rattle.std.specs.Prelude.{◌≡◌, option_map, IfSome};
-ghost use Rattle.acn_tree.specs.NodeAt.{child as child_of, grammar_in, field_at as field_of_number, alternative_at as alternative_of_number, node_at as node_of_path};
+ghost use Rattle.acn_grammar.specs.Paths.{child as child_of, grammar_in, field_at as field_of_number, alternative_at as alternative_of_number, node_at as node_of_path};
 ghost use Rattle.acn_tree.specs.Room.{InTree};
 ghost use Rattle.acn_grammar.specs.View.{grammar_of, field_of, fields_view, alternatives_view};
 

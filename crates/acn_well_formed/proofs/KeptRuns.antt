@@ -5,7 +5,8 @@ use Rattle.std.proofs.lemmas.List.Folds.{list_all-append}
 use Rattle.acn_grammar.specs.Grammar.{Grammar, Form, Fields, Alternatives, node, num, octets, bits, text, seq, list, choice, contained, no_fields, component, inserted, no_alternatives, alternative}
 use Rattle.acn_well_formed.specs.Kept.{kept, form_kept, fields_kept, alternatives_kept, tests_below, uses_below, all_below, rises_from, form_in}
 use Rattle.acn_grammar.specs.Tree.{is_align, form_fine, role_fine}
-use Rattle.acn_grammar.specs.Walk.{Stand, Role, a_component, an_inserted, an_alternative, an_element, a_content, nodes, form_nodes, field_nodes, alternative_nodes, own_tests}
+use Rattle.acn_grammar.specs.Walk.{Stand, Role, component_role, an_inserted, alternative_role, an_element, a_content, nodes, form_nodes, field_nodes, alternative_nodes, own_tests}
+use Rattle.acn_grammar.specs.declared.node.ChoiceRule.{ChoiceRule}
 
 module _ (n : ℕ) where
   abbrev pub home_low : Form → Bool
@@ -43,20 +44,20 @@ module _ (n : ℕ) where
     kept_form (text leaf) path around = refl
     kept_form (seq fields home) path around = and_three (rises_from 0 home) (all_below n home) (list_all kept_of (field_nodes path (home ++ around) 0 fields)) (fields_kept n fields) (kept_fields fields path (home ++ around) 0)
     kept_form (list sizing g) path around = kept_node g an_element (path ++ 0 ∷ []) around
-    kept_form (choice cases rule) path around = kept_alternatives cases path around 0
+    kept_form (choice cases rule) path around = kept_alternatives cases rule path around 0
     kept_form (contained sizing g) path around = kept_node g a_content (path ++ 0 ∷ []) around
 
     kept_fields : (fs : Fields) (path around : List ℕ) (k : ℕ) → list_all kept_of (field_nodes path around k fs) ≡ fields_kept n fs
     kept_fields no_fields path around k = refl
     kept_fields (component name g presence default own fs) path around k =
-        list_all-append kept_of (nodes (a_component name presence own) (path ++ k ∷ []) around g) (field_nodes path around (suc k) fs)
-        ∙ and_two _ _ _ _ (kept_node g (a_component name presence own) (path ++ k ∷ []) around) (kept_fields fs path around (suc k))
+        list_all-append kept_of (nodes (component_role name presence default own) (path ++ k ∷ []) around g) (field_nodes path around (suc k) fs)
+        ∙ and_two _ _ _ _ (kept_node g (component_role name presence default own) (path ++ k ∷ []) around) (kept_fields fs path around (suc k))
     kept_fields (inserted name g slot fs) path around k =
         list_all-append kept_of (nodes (an_inserted name slot) (path ++ k ∷ []) around g) (field_nodes path around (suc k) fs)
         ∙ and_two _ _ _ _ (kept_node g (an_inserted name slot) (path ++ k ∷ []) around) (kept_fields fs path around (suc k))
 
-    kept_alternatives : (as' : Alternatives) (path around : List ℕ) (k : ℕ) → list_all kept_of (alternative_nodes path around k as') ≡ alternatives_kept n as'
-    kept_alternatives no_alternatives path around k = refl
-    kept_alternatives (alternative name g tests more) path around k =
-        list_all-append kept_of (nodes (an_alternative name tests) (path ++ k ∷ []) around g) (alternative_nodes path around (suc k) more)
-        ∙ and_two _ _ _ _ (kept_node g (an_alternative name tests) (path ++ k ∷ []) around) (kept_alternatives more path around (suc k))
+    kept_alternatives : (as' : Alternatives) (rule : ChoiceRule) (path around : List ℕ) (k : ℕ) → list_all kept_of (alternative_nodes rule path around k as') ≡ alternatives_kept n as'
+    kept_alternatives no_alternatives rule path around k = refl
+    kept_alternatives (alternative name g tests more) rule path around k =
+        list_all-append kept_of (nodes (alternative_role name tests rule) (path ++ k ∷ []) around g) (alternative_nodes rule path around (suc k) more)
+        ∙ and_two _ _ _ _ (kept_node g (alternative_role name tests rule) (path ++ k ∷ []) around) (kept_alternatives more rule path around (suc k))

@@ -9,7 +9,8 @@ use Rattle.acn_grammar.specs.Grammar.{Grammar, Form, Fields, Alternatives, node,
 use Rattle.acn_grammar.specs.Leaves.{implies, same_truth}
 use Rattle.acn_well_formed.specs.Seen.{tests_name, form_names, nothing, joined, weight, far, own_right, own_near, with_node, with_home, through, inserted_near, seen, form_seen, fields_seen, alternatives_seen}
 use Rattle.acn_grammar.specs.Tree.{holds, is_seq, is_slot, is_about, near, near_node, near_form, near_if, slot_list}
-use Rattle.acn_grammar.specs.Walk.{Stand, Role, a_component, an_inserted, an_alternative, an_element, a_content, nodes, form_nodes, field_nodes, alternative_nodes, inside, own_tests, presence_tests, slot_here, slot_of, form_uses, Use, condition}
+use Rattle.acn_grammar.specs.Walk.{Stand, Role, component_role, a_component, an_inserted, alternative_role, an_element, a_content, nodes, form_nodes, field_nodes, alternative_nodes, inside, own_tests, presence_tests, slot_here, slot_of, form_uses, Use, condition}
+use Rattle.acn_grammar.specs.declared.node.ChoiceRule.{ChoiceRule}
 use Rattle.acn_well_formed.specs.declared.homes.Seen.{Seen}
 use Rattle.acn_grammar.specs.declared.node.Presence.{Presence}
 use Rattle.acn_grammar.specs.declared.node.Presence.TheVariants.{Always, Bit, When}
@@ -88,7 +89,7 @@ module _ (s total : ℕ) where
   home_right _ xs = true
 
   abbrev pub own_slot : Role → Option ℕ
-  own_slot (a_component name presence own) = own
+  own_slot (a_component one) = one.slot
   own_slot _ = None
 
   abbrev pub role_right : Role → Bool
@@ -215,7 +216,7 @@ module _ (s total : ℕ) where
     sees_form (list sizing g) path around in_home h =
         inside_far (list sizing g) (nodes an_element (path ++ 0 ∷ []) around g) (near_node g) (seen s total in_home false false true g) refl (sees_grammar g an_element (path ++ 0 ∷ []) around in_home h)
     sees_form (choice cases rule) path around in_home h =
-        inside_far (choice cases rule) (alternative_nodes path around 0 cases) (near_cases cases) (alternatives_seen s total in_home nothing cases) refl (sees_alternatives cases path around 0 in_home h [] [] nothing sees_none)
+        inside_far (choice cases rule) (alternative_nodes rule path around 0 cases) (near_cases cases) (alternatives_seen s total in_home nothing cases) refl (sees_alternatives cases rule path around 0 in_home h [] [] nothing sees_none)
     sees_form (contained sizing g) path around in_home h =
         inside_far (contained sizing g) (nodes a_content (path ++ 0 ∷ []) around g) (near_node g) (seen s total in_home false false true g) refl (sees_grammar g a_content (path ++ 0 ∷ []) around in_home h)
 
@@ -223,7 +224,7 @@ module _ (s total : ℕ) where
         → Sees (xs ++ field_nodes path around k fs) (ns ++ near fs) (fields_seen s total in_home before fs)
     sees_fields no_fields path around k in_home h xs ns before p = at_end xs ns before p
     sees_fields (component name g presence default own fs) path around k in_home h xs ns before p =
-        let ys = nodes (a_component name presence own) (path ++ k ∷ []) around g in
+        let ys = nodes (component_role name presence default own) (path ++ k ∷ []) around g in
         let one = seen s total in_home (is_slot s own) (tests_name s (presence_tests presence)) (own_right s total own) g in
         let here = own_near s total own (through s total presence one) in
         let ms = slot_list own ++ near_if presence (near_node g) in
@@ -231,7 +232,7 @@ module _ (s total : ℕ) where
         (sees_fields fs path around (suc k) in_home h (xs ++ ys) (ns ++ ms) (joined before here)
         (sees_joined xs ys ns ms before here p
         (sees_own ys (near_if presence (near_node g)) (through s total presence one) own
-        (sees_through ys (near_node g) one presence (sees_grammar g (a_component name presence own) (path ++ k ∷ []) around in_home h))))))
+        (sees_through ys (near_node g) one presence (sees_grammar g (component_role name presence default own) (path ++ k ∷ []) around in_home h))))))
     sees_fields (inserted name g None fs) path around k in_home h xs ns before p =
         let ys = nodes (an_inserted name None) (path ++ k ∷ []) around g in
         let one = seen s total in_home false false true g in
@@ -247,12 +248,12 @@ module _ (s total : ℕ) where
         (sees_joined xs ys ns (t ∷ []) before (inserted_near s total (Some t) one) p
         (slot_near ys (near_node g) one t (sees_grammar g (an_inserted name (Some t)) (path ++ k ∷ []) around in_home h))))
 
-    sees_alternatives : (as' : Alternatives) (path around : List ℕ) (k : ℕ) (in_home : Bool) → in_home ≡ holds around s → (xs : List Stand) (ns : List ℕ) (before : Seen) → Sees xs ns before
-        → Sees (xs ++ alternative_nodes path around k as') (ns ++ near_cases as') (alternatives_seen s total in_home before as')
-    sees_alternatives no_alternatives path around k in_home h xs ns before p = at_end xs ns before p
-    sees_alternatives (alternative name g tests more) path around k in_home h xs ns before p =
-        let ys = nodes (an_alternative name tests) (path ++ k ∷ []) around g in
+    sees_alternatives : (as' : Alternatives) (rule : ChoiceRule) (path around : List ℕ) (k : ℕ) (in_home : Bool) → in_home ≡ holds around s → (xs : List Stand) (ns : List ℕ) (before : Seen) → Sees xs ns before
+        → Sees (xs ++ alternative_nodes rule path around k as') (ns ++ near_cases as') (alternatives_seen s total in_home before as')
+    sees_alternatives no_alternatives rule path around k in_home h xs ns before p = at_end xs ns before p
+    sees_alternatives (alternative name g tests more) rule path around k in_home h xs ns before p =
+        let ys = nodes (alternative_role name tests rule) (path ++ k ∷ []) around g in
         let one = seen s total in_home false (tests_name s tests) true g in
-        regroup xs ys (alternative_nodes path around (suc k) more) ns (near_node g) (near_cases more) (alternatives_seen s total in_home (joined before one) more)
-        (sees_alternatives more path around (suc k) in_home h (xs ++ ys) (ns ++ near_node g) (joined before one)
-        (sees_joined xs ys ns (near_node g) before one p (sees_grammar g (an_alternative name tests) (path ++ k ∷ []) around in_home h)))
+        regroup xs ys (alternative_nodes rule path around (suc k) more) ns (near_node g) (near_cases more) (alternatives_seen s total in_home (joined before one) more)
+        (sees_alternatives more rule path around (suc k) in_home h (xs ++ ys) (ns ++ near_node g) (joined before one)
+        (sees_joined xs ys ns (near_node g) before one p (sees_grammar g (alternative_role name tests rule) (path ++ k ∷ []) around in_home h)))

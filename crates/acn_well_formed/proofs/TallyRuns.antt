@@ -6,7 +6,8 @@ use Rattle.std.proofs.lemmas.Bool.Decides.{nat_tests}
 use Rattle.acn_grammar.specs.Grammar.{Grammar, Form, Fields, Alternatives, node, num, octets, bits, text, seq, list, choice, contained, no_fields, component, inserted, no_alternatives, alternative}
 use Rattle.acn_well_formed.specs.Tallies.{spent, numbered, then_tally, tally, form_tally, fields_tally, alternatives_tally}
 use Rattle.acn_grammar.specs.Tree.{same_numbers, slots_of}
-use Rattle.acn_grammar.specs.Walk.{Stand, Role, a_component, an_inserted, an_alternative, an_element, a_content, nodes, form_nodes, field_nodes, alternative_nodes, slot_here}
+use Rattle.acn_grammar.specs.Walk.{Stand, Role, component_role, an_inserted, alternative_role, an_element, a_content, nodes, form_nodes, field_nodes, alternative_nodes, slot_here}
+use Rattle.acn_grammar.specs.declared.node.ChoiceRule.{ChoiceRule}
 use Rattle.acn_well_formed.specs.declared.tallies.Tally.{Tally}
 use Rattle.std.proofs.lemmas.Bool.{and_parts}
 
@@ -57,26 +58,26 @@ mutual
   runs_form (text leaf) path around t = refl
   runs_form (seq fields home) path around t = runs_fields fields path (home ++ around) 0 t
   runs_form (list sizing g) path around t = runs_node g an_element (path ++ 0 ∷ []) around t ∙ ap (λ (n : ℕ). tally n g t) (longer path 0)
-  runs_form (choice cases rule) path around t = runs_alternatives cases path around 0 t
+  runs_form (choice cases rule) path around t = runs_alternatives cases rule path around 0 t
   runs_form (contained sizing g) path around t = runs_node g a_content (path ++ 0 ∷ []) around t ∙ ap (λ (n : ℕ). tally n g t) (longer path 0)
 
   runs_fields : (fs : Fields) (path around : List ℕ) (k : ℕ) (t : Tally) → run (field_nodes path around k fs) t ≡ fields_tally (length path + 1) fs t
   runs_fields no_fields path around k t = refl
   runs_fields (component name g presence default own fs) path around k t =
-      run-append (nodes (a_component name presence own) (path ++ k ∷ []) around g) (field_nodes path around (suc k) fs) t
-      ∙ joined_step (run (nodes (a_component name presence own) (path ++ k ∷ []) around g) t) (then_tally (numbered own t) (tally (length path + 1) g)) (run (field_nodes path around (suc k) fs)) (fields_tally (length path + 1) fs)
-      (runs_node g (a_component name presence own) (path ++ k ∷ []) around t ∙ ap (λ (n : ℕ). then_tally (numbered own t) (tally n g)) (longer path k)) (λ u. runs_fields fs path around (suc k) u)
+      run-append (nodes (component_role name presence default own) (path ++ k ∷ []) around g) (field_nodes path around (suc k) fs) t
+      ∙ joined_step (run (nodes (component_role name presence default own) (path ++ k ∷ []) around g) t) (then_tally (numbered own t) (tally (length path + 1) g)) (run (field_nodes path around (suc k) fs)) (fields_tally (length path + 1) fs)
+      (runs_node g (component_role name presence default own) (path ++ k ∷ []) around t ∙ ap (λ (n : ℕ). then_tally (numbered own t) (tally n g)) (longer path k)) (λ u. runs_fields fs path around (suc k) u)
   runs_fields (inserted name g slot fs) path around k t =
       run-append (nodes (an_inserted name slot) (path ++ k ∷ []) around g) (field_nodes path around (suc k) fs) t
       ∙ joined_step (run (nodes (an_inserted name slot) (path ++ k ∷ []) around g) t) (then_tally (numbered slot t) (tally (length path + 1) g)) (run (field_nodes path around (suc k) fs)) (fields_tally (length path + 1) fs)
       (runs_node g (an_inserted name slot) (path ++ k ∷ []) around t ∙ ap (λ (n : ℕ). then_tally (numbered slot t) (tally n g)) (longer path k)) (λ u. runs_fields fs path around (suc k) u)
 
-  runs_alternatives : (as' : Alternatives) (path around : List ℕ) (k : ℕ) (t : Tally) → run (alternative_nodes path around k as') t ≡ alternatives_tally (length path + 1) as' t
-  runs_alternatives no_alternatives path around k t = refl
-  runs_alternatives (alternative name g tests more) path around k t =
-      run-append (nodes (an_alternative name tests) (path ++ k ∷ []) around g) (alternative_nodes path around (suc k) more) t
-      ∙ joined_step (run (nodes (an_alternative name tests) (path ++ k ∷ []) around g) t) (tally (length path + 1) g t) (run (alternative_nodes path around (suc k) more)) (alternatives_tally (length path + 1) more)
-      (runs_node g (an_alternative name tests) (path ++ k ∷ []) around t ∙ ap (λ (n : ℕ). tally n g t) (longer path k)) (λ u. runs_alternatives more path around (suc k) u)
+  runs_alternatives : (as' : Alternatives) (rule : ChoiceRule) (path around : List ℕ) (k : ℕ) (t : Tally) → run (alternative_nodes rule path around k as') t ≡ alternatives_tally (length path + 1) as' t
+  runs_alternatives no_alternatives rule path around k t = refl
+  runs_alternatives (alternative name g tests more) rule path around k t =
+      run-append (nodes (alternative_role name tests rule) (path ++ k ∷ []) around g) (alternative_nodes rule path around (suc k) more) t
+      ∙ joined_step (run (nodes (alternative_role name tests rule) (path ++ k ∷ []) around g) t) (tally (length path + 1) g t) (run (alternative_nodes rule path around (suc k) more)) (alternatives_tally (length path + 1) more)
+      (runs_node g (alternative_role name tests rule) (path ++ k ∷ []) around t ∙ ap (λ (n : ℕ). tally n g t) (longer path k)) (λ u. runs_alternatives more rule path around (suc k) u)
 
 -- What a run says of the list.
 

@@ -8,8 +8,9 @@ use Rattle.acn_grammar.specs.Grammar.{Grammar, Form, Fields, Alternatives, node,
 use Rattle.acn_well_formed.specs.Kept.{tests_below, uses_below, all_below, rises_from, kept}
 use Rattle.acn_grammar.specs.Leaves.{implies, same_truth}
 use Rattle.acn_well_formed.specs.Seen.{seen, slot_kept, own_right, tests_name, form_names}
-use Rattle.acn_grammar.specs.Tree.{is_tree, is_align, form_fine, role_fine, own_used, all_true, stand_rules, holds, is_seq, is_about, near, encloses, is_home, home_fine, names_open, slots_of, same_numbers}
-use Rattle.acn_grammar.specs.Walk.{Stand, Role, root_node, a_component, an_inserted, an_alternative, an_element, a_content, nodes, form_nodes, field_nodes, alternative_nodes, nodes_of, inside, uses, slot_of, slot_here, own_tests, form_uses, Use, condition}
+use Rattle.acn_grammar.specs.Tree.{is_tree, is_align, form_fine, role_fine, slot_used, own_used, all_true, stand_rules, holds, is_seq, is_about, near, encloses, is_home, home_fine, names_open, slots_of, same_numbers}
+use Rattle.acn_grammar.specs.Walk.{Stand, Role, root_node, component_role, a_component, an_inserted, alternative_role, an_alternative, an_element, a_content, nodes, form_nodes, field_nodes, alternative_nodes, nodes_of, inside, uses, slot_of, slot_here, own_tests, form_uses, Use, condition}
+use Rattle.acn_grammar.specs.declared.node.ChoiceRule.{ChoiceRule}
 use Rattle.acn_grammar.specs.declared.node.Test.{Test}
 use Rattle.acn_grammar.specs.declared.node.Test.TheVariants.{Flag, Equals}
 use Rattle.acn_well_formed.proofs.TallyRuns.{run, runs_node, runs_some, ran, Ended, deep}
@@ -125,9 +126,9 @@ module _ (all : List Stand) (n : ℕ) (numbered : slots_of all ≡ range_with_le
   home_part s few l at (choice cases rule) e h = refl
   home_part s few l at (contained sizing g) e h = refl
 
-  own_part : (s : ℕ) (role : Role) → own_used all role ≡ true → role_right s (min (count_by (is_about s) all) (2 ^ 32 - 1)) role ≡ true
-  own_part s (a_component name presence None) h = refl
-  own_part s (a_component name presence (Some t)) h = own_case (nat_eq t s) refl
+  own_slot_part : (s : ℕ) (slot : Option ℕ) → slot_used all slot ≡ true → own_right s (min (count_by (is_about s) all) (2 ^ 32 - 1)) slot ≡ true
+  own_slot_part s None h = refl
+  own_slot_part s (Some t) h = own_case (nat_eq t s) refl
     where
       two : (c : ℕ) → nat_lt 1 c ≡ true → nat_lt 1 (min c (2 ^ 32 - 1)) ≡ true
       two c k = grind (arith, nat_tests)
@@ -135,9 +136,12 @@ module _ (all : List Stand) (n : ℕ) (numbered : slots_of all ≡ range_with_le
       own_case : (b : Bool) → nat_eq t s ≡ b → implies b (nat_lt 1 (min (count_by (is_about s) all) (2 ^ 32 - 1))) ≡ true
       own_case true e = two (count_by (is_about s) all) (subst (λ (r : ℕ). nat_lt 1 (count_by (is_about r) all) ≡ true) (eqb-true t s e) h)
       own_case false e = refl
+
+  own_part : (s : ℕ) (role : Role) → own_used all role ≡ true → role_right s (min (count_by (is_about s) all) (2 ^ 32 - 1)) role ≡ true
+  own_part s (a_component one) h = own_slot_part s one.slot h
   own_part s root_node h = refl
   own_part s (an_inserted name slot) h = refl
-  own_part s (an_alternative name tests) h = refl
+  own_part s (an_alternative one) h = refl
   own_part s an_element h = refl
   own_part s a_content h = refl
 
@@ -242,18 +246,21 @@ module _ (all : List Stand) (n : ℕ) (numbered : slots_of all ≡ range_with_le
       (q.0, q.1, p.1)
 
   -- a component's slot is below n, and so it is tested
-  pub used_from : (role : Role) → ((t : ℕ) → slot_here role ≡ Some t → t < n) → ((s : ℕ) → s < n → role_right s (min (count_by (is_about s) all) (2 ^ 32 - 1)) role ≡ true) → own_used all role ≡ true
-  used_from (a_component name presence None) low f = refl
-  used_from (a_component name presence (Some t)) low f = two (count_by (is_about t) all) (implies_gives (nat_eq t t) (nat_lt 1 (min (count_by (is_about t) all) (2 ^ 32 - 1))) (f t (low t refl)) (equal_self t))
+  slot_used_from : (slot : Option ℕ) → ((t : ℕ) → slot ≡ Some t → t < n) → ((s : ℕ) → s < n → own_right s (min (count_by (is_about s) all) (2 ^ 32 - 1)) slot ≡ true) → slot_used all slot ≡ true
+  slot_used_from None low f = refl
+  slot_used_from (Some t) low f = two (count_by (is_about t) all) (implies_gives (nat_eq t t) (nat_lt 1 (min (count_by (is_about t) all) (2 ^ 32 - 1))) (f t (low t refl)) (equal_self t))
     where
       equal_self : (a : ℕ) → nat_eq a a ≡ true
       equal_self a = grind (arith, nat_tests)
 
       two : (c : ℕ) → nat_lt 1 (min c (2 ^ 32 - 1)) ≡ true → nat_lt 1 c ≡ true
       two c k = grind (arith, nat_tests)
+
+  pub used_from : (role : Role) → ((t : ℕ) → slot_here role ≡ Some t → t < n) → ((s : ℕ) → s < n → role_right s (min (count_by (is_about s) all) (2 ^ 32 - 1)) role ≡ true) → own_used all role ≡ true
+  used_from (a_component one) low f = slot_used_from one.slot low f
   used_from root_node low f = refl
   used_from (an_inserted name slot) low f = refl
-  used_from (an_alternative name tests) low f = refl
+  used_from (an_alternative one) low f = refl
   used_from an_element low f = refl
   used_from a_content low f = refl
 
@@ -314,23 +321,23 @@ module _ (all : List Stand) (n : ℕ) (numbered : slots_of all ≡ range_with_le
     from_form (text leaf) path around b l h = refl
     from_form (seq fs home) path around b l h = from_fields fs path (home ++ around) 0 (below-append n home around (and_parts (rises_from 0 home) (all_below n home) l).1 b) h
     from_form (list sizing g) path around b l h = from_node g an_element (path ++ 0 ∷ []) around b h
-    from_form (choice cases rule) path around b l h = from_alternatives cases path around 0 b h
+    from_form (choice cases rule) path around b l h = from_alternatives cases rule path around 0 b h
     from_form (contained sizing g) path around b l h = from_node g a_content (path ++ 0 ∷ []) around b h
 
     from_fields : (fs : Fields) (path around : List ℕ) (k : ℕ) → all_below n around ≡ true → list_all passes (field_nodes path around k fs) ≡ true → list_all (kept_of n) (field_nodes path around k fs) ≡ true
     from_fields no_fields path around k b h = refl
     from_fields (component name g presence default own fs) path around k b h =
-        let p = list_all-append passes (nodes (a_component name presence own) (path ++ k ∷ []) around g) (field_nodes path around (suc k) fs) h in
-        both_lists (nodes (a_component name presence own) (path ++ k ∷ []) around g) (field_nodes path around (suc k) fs) (from_node g (a_component name presence own) (path ++ k ∷ []) around b p.0) (from_fields fs path around (suc k) b p.1)
+        let p = list_all-append passes (nodes (component_role name presence default own) (path ++ k ∷ []) around g) (field_nodes path around (suc k) fs) h in
+        both_lists (nodes (component_role name presence default own) (path ++ k ∷ []) around g) (field_nodes path around (suc k) fs) (from_node g (component_role name presence default own) (path ++ k ∷ []) around b p.0) (from_fields fs path around (suc k) b p.1)
     from_fields (inserted name g slot fs) path around k b h =
         let p = list_all-append passes (nodes (an_inserted name slot) (path ++ k ∷ []) around g) (field_nodes path around (suc k) fs) h in
         both_lists (nodes (an_inserted name slot) (path ++ k ∷ []) around g) (field_nodes path around (suc k) fs) (from_node g (an_inserted name slot) (path ++ k ∷ []) around b p.0) (from_fields fs path around (suc k) b p.1)
 
-    from_alternatives : (as' : Alternatives) (path around : List ℕ) (k : ℕ) → all_below n around ≡ true → list_all passes (alternative_nodes path around k as') ≡ true → list_all (kept_of n) (alternative_nodes path around k as') ≡ true
-    from_alternatives no_alternatives path around k b h = refl
-    from_alternatives (alternative name g tests more) path around k b h =
-        let p = list_all-append passes (nodes (an_alternative name tests) (path ++ k ∷ []) around g) (alternative_nodes path around (suc k) more) h in
-        both_lists (nodes (an_alternative name tests) (path ++ k ∷ []) around g) (alternative_nodes path around (suc k) more) (from_node g (an_alternative name tests) (path ++ k ∷ []) around b p.0) (from_alternatives more path around (suc k) b p.1)
+    from_alternatives : (as' : Alternatives) (rule : ChoiceRule) (path around : List ℕ) (k : ℕ) → all_below n around ≡ true → list_all passes (alternative_nodes rule path around k as') ≡ true → list_all (kept_of n) (alternative_nodes rule path around k as') ≡ true
+    from_alternatives no_alternatives rule path around k b h = refl
+    from_alternatives (alternative name g tests more) rule path around k b h =
+        let p = list_all-append passes (nodes (alternative_role name tests rule) (path ++ k ∷ []) around g) (alternative_nodes rule path around (suc k) more) h in
+        both_lists (nodes (alternative_role name tests rule) (path ++ k ∷ []) around g) (alternative_nodes rule path around (suc k) more) (from_node g (alternative_role name tests rule) (path ++ k ∷ []) around b p.0) (from_alternatives more rule path around (suc k) b p.1)
 
 -- The whole.
 

@@ -1,5 +1,5 @@
 use Rattle.std.proofs.Common.{◌≡◌, drop}
-use Rattle.acn_tree.specs.NodeAt.{node_at}
+use Rattle.acn_grammar.specs.Paths.{node_at}
 use Rattle.acn_grammar.specs.View.{grammar_of}
 use Rattle.acn_tree.proofs.place.node_at.Given as goal
 
