@@ -61,6 +61,7 @@ mod OneRefusals
 mod OneWriting
 mod OpenFields
 mod Overlaps
+mod PartPaths
 mod PathSlots
 mod PlaceRows
 -- for acn_check
