@@ -59,6 +59,7 @@ mod OneFault
 mod OneRefusals
 mod OneWriting
 mod Overlaps
+mod PartPaths
 mod PathSlots
 mod PlaceRows
 -- for acn_check

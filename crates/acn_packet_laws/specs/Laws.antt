@@ -260,6 +260,10 @@ EachPathHasItsNumber = (root : Grammar) (path : List ℕ) (g : Grammar) → node
 abbrev pub ValuesAreOfNodes : Type 0
 ValuesAreOfNodes = (root : Grammar) (path : List ℕ) (g : Grammar) → node_on root path ≡ Some g → (at : List ℕ) × (node_at root at ≡ Some g)
 
+-- the part of a value at a path is of the node that the path leads to
+abbrev pub PartsAreOfNodes : Type 0
+PartsAreOfNodes = (root : Grammar) (d : Data) (path : List ℕ) (g : Grammar) (part : Data) → part_at root d path ≡ Some (occurrence g part) → node_on root path ≡ Some g
+
 -- the path, one of a value, leads to a node
 abbrev pub LeadsToANode : Grammar → (path : List ℕ) → Type 0
 LeadsToANode root path = IsSome (node_on root path)

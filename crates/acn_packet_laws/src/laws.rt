@@ -1,4 +1,4 @@
-ghost use Rattle.acn_packet_laws.specs.Laws.{NumbersArePrefixFree, BoundsHold, FailuresRestOnBits, FrontsRestOnBits, NoFaultWithoutAFirst, OneFirstFault, AcceptedIsScoped, AcceptedIsSound, EachNodeIsSound, SoundIsScoped, KnownBehind, KnownStays, SlotsPermitWhatTheirFieldsSay, FewAreOpen, UsesFitTheirSlots, NodesArePrefixFree, SlotFieldsArePrefixFree, EachNodeIsPrefixFree, PacketsArePrefixFree, EachNumberHasACode, LengthsAreTold, EachLengthIsTold, WidthsAreLengths, OneFront, FrontsExcludeFailures, OneFailure, EachInputIsReadOrFails, EachInputIsANumberOrFails, WrittenIsRead, SpelledValuesMeet, SpellingsHaveNoBreach, EachOccurrenceAsks, OneWriting, RefusedIsNotSpelled, OneRefusal, EachValueIsWrittenOrRefused, LaterStartsEndLater, ValuesLieWithinBounds, ReachesLieInside, ShortIsNear, EachNodeHasItsPath, EachPathHasItsNumber, ValuesAreOfNodes, FailuresAreAtNodes, BreachesAreAtNodes, RefusalsAreAtNodes};
+ghost use Rattle.acn_packet_laws.specs.Laws.{NumbersArePrefixFree, BoundsHold, FailuresRestOnBits, FrontsRestOnBits, NoFaultWithoutAFirst, OneFirstFault, AcceptedIsScoped, AcceptedIsSound, EachNodeIsSound, SoundIsScoped, KnownBehind, KnownStays, SlotsPermitWhatTheirFieldsSay, FewAreOpen, UsesFitTheirSlots, NodesArePrefixFree, SlotFieldsArePrefixFree, EachNodeIsPrefixFree, PacketsArePrefixFree, EachNumberHasACode, LengthsAreTold, EachLengthIsTold, WidthsAreLengths, OneFront, FrontsExcludeFailures, OneFailure, EachInputIsReadOrFails, EachInputIsANumberOrFails, WrittenIsRead, SpelledValuesMeet, SpellingsHaveNoBreach, EachOccurrenceAsks, OneWriting, RefusedIsNotSpelled, OneRefusal, EachValueIsWrittenOrRefused, LaterStartsEndLater, ValuesLieWithinBounds, ReachesLieInside, ShortIsNear, EachNodeHasItsPath, EachPathHasItsNumber, ValuesAreOfNodes, FailuresAreAtNodes, BreachesAreAtNodes, RefusalsAreAtNodes, PartsAreOfNodes};
 
 /// No code of a number leaf begins another, and the code tells the number.
 pub fn numbers_are_prefix_free()
@@ -216,6 +216,11 @@ pub fn each_path_has_its_number()
 /// What a path of a value leads to, a path of the grammar leads to.
 pub fn values_are_of_nodes()
     ensures { ValuesAreOfNodes }
+{}
+
+/// The part of a value at a path is of the node that the path leads to.
+pub fn parts_are_of_nodes()
+    ensures { PartsAreOfNodes }
 {}
 
 /// The path of a failure leads to a node of the grammar: a field, inserted or not, an alternative, an element or a content.

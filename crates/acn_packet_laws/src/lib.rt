@@ -13,10 +13,10 @@ pub use laws::{
     fronts_rest_on_bits, known_behind, known_stays, later_starts_end_later, lengths_are_told,
     no_fault_without_a_first, nodes_are_prefix_free, numbers_are_prefix_free, one_failure,
     one_first_fault, one_front, one_refusal, one_writing, packets_are_prefix_free,
-    reaches_lie_inside, refusals_are_at_nodes, refused_is_not_spelled, short_is_near,
-    slot_fields_are_prefix_free, slots_permit_what_their_fields_say, sound_is_scoped,
-    spelled_values_meet, spellings_have_no_breach, uses_fit_their_slots, values_are_of_nodes,
-    values_lie_within_bounds, widths_are_lengths, written_is_read,
+    parts_are_of_nodes, reaches_lie_inside, refusals_are_at_nodes, refused_is_not_spelled,
+    short_is_near, slot_fields_are_prefix_free, slots_permit_what_their_fields_say,
+    sound_is_scoped, spelled_values_meet, spellings_have_no_breach, uses_fit_their_slots,
+    values_are_of_nodes, values_lie_within_bounds, widths_are_lengths, written_is_read,
 };
 pub use row_laws::{
     a_component_determines, a_count_begins_at_the_lowest, a_count_is_the_least,
