@@ -42,14 +42,18 @@ AllDigits z ds = AllByRecursion (λ d. (z ≤ d) × (d < z + 10)) ds
 abbrev pub value_of : (zero_digit : ℕ) → List ℕ → ℕ
 value_of z ds = decimal_number (map (λ d. d - z) ds)
 
+-- an octet s before the octets ds
+pub data SignBefore (s : ℕ) (ds : List ℕ) (w : Wire) : Type 0 where
+  plus_digits : (s ≡ 43) × AllDigits 48 ds × (w ≡ says (pos (value_of 48 ds)) (pos (value_of 48 ds))) → SignBefore s ds w
+  minus_digits : (s ≡ 45) × AllDigits 48 ds × (0 < value_of 48 ds) × (w ≡ says (neg_ℤ (pos (value_of 48 ds))) (neg_ℤ (pos (value_of 48 ds)))) → SignBefore s ds w
+  -- zero has a plus
+  minus_nothing : (s ≡ 45) × AllDigits 48 ds × (value_of 48 ds ≡ 0) × (w ≡ wrong not_minimal) → SignBefore s ds w
+  no_signed_digits : ((s ≡ 43) ⊎ (s ≡ 45) → AllDigits 48 ds → ⊥) × (w ≡ wrong bad_digit) → SignBefore s ds w
+
 -- a sign octet and digits
 abbrev pub SignedWire : List ℕ → Wire → Type 0
 SignedWire [] w = ⊥
-SignedWire (s ∷ ds) w =
-    ((s ≡ 43) × AllDigits 48 ds × (w ≡ says (pos (value_of 48 ds)) (pos (value_of 48 ds))))
-    ⊎ ((s ≡ 45) × AllDigits 48 ds × (0 < value_of 48 ds) × (w ≡ says (neg_ℤ (pos (value_of 48 ds))) (neg_ℤ (pos (value_of 48 ds)))))
-    ⊎ ((s ≡ 45) × AllDigits 48 ds × (value_of 48 ds ≡ 0) × (w ≡ wrong not_minimal))
-    ⊎ (((s ≡ 43) ⊎ (s ≡ 45) → AllDigits 48 ds → ⊥) × (w ≡ wrong bad_digit))
+SignedWire (s ∷ ds) w = SignBefore s ds w
 
 abbrev pub DigitsWire : (zero_digit : ℕ) → List ℕ → Wire → Type 0
 DigitsWire z ds w =

@@ -7,7 +7,7 @@ use Rattle.acn_bits.specs.Reading.{Reading, passed, Reads, Stays}
 use Rattle.acn_num.proofs.BitLists.{number_same}
 use Rattle.acn_grammar.specs.Code.{Any, CodingCode, InMinimalDigits, SignOctet, digit_octets}
 use Rattle.acn_grammar.specs.Images.{images_of}
-use Rattle.acn_grammar.specs.LeafFails.{Reason, bad_digit, not_minimal, out_of_range, says, wrong, NoneHas, Positive, Negative, most_digits, EndedFails, AllDigits, value_of, octet_values, SignedWire}
+use Rattle.acn_grammar.specs.LeafFails.{Reason, bad_digit, not_minimal, out_of_range, says, wrong, NoneHas, Positive, Negative, most_digits, EndedFails, AllDigits, value_of, octet_values, SignedWire, plus_digits, minus_digits, minus_nothing, no_signed_digits}
 use Rattle.acn_grammar.specs.ReadFaults.{reason_of}
 use Rattle.acn_grammar.specs.declared.node.NumLeaf.{NumLeaf}
 use Rattle.acn_grammar.specs.declared.node.NumCoding.TheVariants.{Ascii, AsciiEnded}
@@ -141,8 +141,8 @@ digits_here : (old mid : Reading) (negative : Bool) → PassedSign old mid negat
 digits_here old mid negative p = ap (λ (x : Reading). x.rest) p.moved
 
 tells : (negative minimal : Bool) (k s : ℕ) (ds : List ℕ) (wire image : ℤ) → s ≡ sign_code negative → AllDigits 48 ds → value_of 48 ds ≡ k → IsSignedValue negative minimal k wire → IsSignedValue negative minimal k image → SignedWire (s ∷ ds) (says wire image)
-tells false minimal k s ds wire image c all value w i = inl (c, all, rw (w.is, i.is, value) refl)
-tells true minimal k s ds wire image c all value w i = let some = w.some refl in inr (inl (c, all, omega (arith, value, some), rw (w.is, i.is, value) refl))
+tells false minimal k s ds wire image c all value w i = plus_digits (c, all, rw (w.is, i.is, value) refl)
+tells true minimal k s ds wire image c all value w i = let some = w.some refl in minus_digits (c, all, omega (arith, value, some), rw (w.is, i.is, value) refl)
 
 pub ascii_signed_said : (n count : ℕ) (little negative minimal : Bool) (old mid new : Reading) (k : ℕ) (wire image : ℤ) → n ≡ 8 + 8 * count → n ≤ length old.rest → PassedSign old mid negative → AreRead 48 8 count mid new k
     → IsSignedValue negative minimal k wire → IsSignedValue negative minimal k image → FixedSaid (Ascii n true) little n old new wire image
@@ -188,12 +188,12 @@ ascii_signed_said_at n count little negative minimal old mid new k (Err x) e wit
 pub no_sign : (n count : ℕ) (little : Bool) (old new : Reading) (x : ReadFault) → n ≡ 8 + 8 * count → n ≤ length old.rest → SignWrong old.rest (reason_of x) → Stays old new → FixedWrong (Ascii n true) little n old new (reason_of x)
 no_sign n count little old new x e within (inl w) s = let few = w.0 in absurd (omega arith)
 no_sign n count little old new x e within (inr w) s =
-    inr (within, s, subst (λ (ds : List ℕ). SignedWire ds (wrong (reason_of x))) (sym (front_values n count old e within)) (inr (inr (inr ((λ c _. w.1 c), ap wrong w.2)))))
+    inr (within, s, subst (λ (ds : List ℕ). SignedWire ds (wrong (reason_of x))) (sym (front_values n count old e within)) (no_signed_digits ((λ c _. w.1 c), ap wrong w.2)))
 
 pub no_digits : (n count : ℕ) (little negative : Bool) (old mid new : Reading) → n ≡ 8 + 8 * count → n ≤ length old.rest → PassedSign old mid negative → (AllDigits 48 (groups 8 count mid.rest) → ⊥) → Stays mid new → FixedWrong (Ascii n true) little n old new bad_digit
 no_digits n count little negative old mid new e within p bad s =
     let rest = digits_here old mid negative p in
-    inr (within, behind_stays old mid new negative p s, subst (λ (ds : List ℕ). SignedWire ds (wrong bad_digit)) (sym (front_values n count old e within)) (inr (inr (inr ((λ c all. bad (subst (λ (bs : List Bool). AllDigits 48 (groups 8 count bs)) (sym rest) all)), refl)))))
+    inr (within, behind_stays old mid new negative p s, subst (λ (ds : List ℕ). SignedWire ds (wrong bad_digit)) (sym (front_values n count old e within)) (no_signed_digits ((λ c all. bad (subst (λ (bs : List Bool). AllDigits 48 (groups 8 count bs)) (sym rest) all)), refl)))
 
 pub minus_zero_at : (n count : ℕ) (little negative : Bool) (old mid new : Reading) (k : ℕ) (r : Result Said ReadFault) → n ≡ 8 + 8 * count → n ≤ length old.rest → PassedSign old mid negative → AreRead 48 8 count mid new k → IfErr r (NotShortest negative true k)
     → IfErr r (λ x. FixedWrong (Ascii n true) little n old new (reason_of x))
@@ -212,7 +212,7 @@ minus_zero_at n count little negative old mid new k (Err x) e within p r h =
     minus_zero : (negative : Bool) → number (take 8 old.rest) ≡ sign_code negative → AllDigits 48 (groups 8 count (drop 8 old.rest)) → value_of 48 (groups 8 count (drop 8 old.rest)) ≡ k → (true ≡ true → (negative ≡ true → 0 < k) → ⊥)
         → SignedWire (number (take 8 old.rest) ∷ groups 8 count (drop 8 old.rest)) (wrong not_minimal)
     minus_zero false c all value f = absurd (f refl (λ e. absurd (cc e)))
-    minus_zero true c all value f = inr (inr (inl (c, all, zero_is (λ h. f refl (λ _. h)) value, refl)))
+    minus_zero true c all value f = minus_nothing (c, all, zero_is (λ h. f refl (λ _. h)) value, refl)
       where
         zero_is : (0 < k → ⊥) → value_of 48 (groups 8 count (drop 8 old.rest)) ≡ k → value_of 48 (groups 8 count (drop 8 old.rest)) ≡ 0
         zero_is h value = value ∙ none k h

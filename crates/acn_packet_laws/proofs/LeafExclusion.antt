@@ -6,7 +6,7 @@ use Rattle.std.proofs.lemmas.Bool.Decides.{nat_tests}
 use Rattle.acn_num.specs.Bits.{number, signed_number, low_bits, bits, IsNumber}
 use Rattle.acn_num.specs.Ranges.{In}
 use Rattle.acn_grammar.specs.Code.{Any, CodingCode, decimal_number, nibbles, digit_octets, SignOctet, image_of, in_order}
-use Rattle.acn_grammar.specs.LeafFails.{Reason, short, out_of_range, not_minimal, too_long, Wire, says, wrong, nibbles_of, octet_values, AllDigits, value_of, SignedWire, DigitsWire, PatternWire, OnePatternWire, FixedWire, WireFails, FixedFails, CountedFails, no_count, none_counted, many_counted, octets_cut, octets_to_spare, counted_not_permitted}
+use Rattle.acn_grammar.specs.LeafFails.{Reason, short, out_of_range, not_minimal, too_long, Wire, says, wrong, nibbles_of, octet_values, AllDigits, value_of, SignedWire, DigitsWire, PatternWire, OnePatternWire, FixedWire, WireFails, FixedFails, CountedFails, no_count, none_counted, many_counted, octets_cut, octets_to_spare, counted_not_permitted, plus_digits, minus_digits, minus_nothing, no_signed_digits}
 use Rattle.acn_grammar.specs.Leaves.{coding_fine, is_pattern, same_bits}
 use Rattle.acn_grammar.specs.declared.node.NumCoding.{NumCoding}
 use Rattle.acn_grammar.specs.declared.node.NumCoding.TheVariants.{Range, CountedFrom, CountedSigned, PosInt, Twos, Bcd, BcdEnded, Ascii, AsciiEnded, Flag, Fixed}
@@ -73,33 +73,33 @@ digits_one z os w v (inr p) (inr q) = p.1 ∙ sym q.1
 
 -- a sign octet, and digits behind it
 signed_say : (y : ℤ) (k : ℕ) (sign : List Bool) (s : ℕ) (os : List ℕ) (w : Wire) → SignOctet true y k sign → (sign ≡ low_bits 8 43 → s ≡ 43) → (sign ≡ low_bits 8 45 → s ≡ 45) → AllDigits 48 os → value_of 48 os ≡ k → SignedWire (s ∷ os) w → (v : ℤ) × (w ≡ says v y)
-signed_say (pos n) k sign s os w o a b all v (inl h) = (pos n, h.2 ∙ ap (λ m. says (pos m) (pos m)) (v ∙ o.0))
-signed_say (pos n) k sign s os w o a b all v (inr (inl h)) = let x = a o.1 in let y = h.0 in absurd (omega arith)
-signed_say (pos n) k sign s os w o a b all v (inr (inr (inl h))) = let x = a o.1 in let y = h.0 in absurd (omega arith)
-signed_say (pos n) k sign s os w o a b all v (inr (inr (inr h))) = absurd (h.0 (inl (a o.1)) all)
-signed_say (negsuc n) k sign s os w o a b all v (inl h) = let x = b o.1 in let y = h.0 in absurd (omega arith)
-signed_say (negsuc n) k sign s os w o a b all v (inr (inl h)) = (negsuc n, h.3 ∙ ap (λ m. says (neg_ℤ (pos m)) (neg_ℤ (pos m))) (v ∙ o.0))
-signed_say (negsuc n) k sign s os w o a b all v (inr (inr (inl h))) = let x = h.2 in let y = o.0 in absurd (omega arith)
-signed_say (negsuc n) k sign s os w o a b all v (inr (inr (inr h))) = absurd (h.0 (inr (b o.1)) all)
+signed_say (pos n) k sign s os w o a b all v (plus_digits h) = (pos n, h.2 ∙ ap (λ m. says (pos m) (pos m)) (v ∙ o.0))
+signed_say (pos n) k sign s os w o a b all v (minus_digits h) = let x = a o.1 in let y = h.0 in absurd (omega arith)
+signed_say (pos n) k sign s os w o a b all v (minus_nothing h) = let x = a o.1 in let y = h.0 in absurd (omega arith)
+signed_say (pos n) k sign s os w o a b all v (no_signed_digits h) = absurd (h.0 (inl (a o.1)) all)
+signed_say (negsuc n) k sign s os w o a b all v (plus_digits h) = let x = b o.1 in let y = h.0 in absurd (omega arith)
+signed_say (negsuc n) k sign s os w o a b all v (minus_digits h) = (negsuc n, h.3 ∙ ap (λ m. says (neg_ℤ (pos m)) (neg_ℤ (pos m))) (v ∙ o.0))
+signed_say (negsuc n) k sign s os w o a b all v (minus_nothing h) = let x = h.2 in let y = o.0 in absurd (omega arith)
+signed_say (negsuc n) k sign s os w o a b all v (no_signed_digits h) = absurd (h.0 (inr (b o.1)) all)
 
 signed_one : (os : List ℕ) (w v : Wire) → SignedWire os w → SignedWire os v → w ≡ v
 signed_one [] w v p q = absurd p
-signed_one (s ∷ os) w v (inl p) (inl q) = p.2 ∙ sym q.2
-signed_one (s ∷ os) w v (inl p) (inr (inl q)) = let x = p.0 in let y = q.0 in absurd (omega arith)
-signed_one (s ∷ os) w v (inl p) (inr (inr (inl q))) = let x = p.0 in let y = q.0 in absurd (omega arith)
-signed_one (s ∷ os) w v (inl p) (inr (inr (inr q))) = absurd (q.0 (inl p.0) p.1)
-signed_one (s ∷ os) w v (inr (inl p)) (inl q) = let x = p.0 in let y = q.0 in absurd (omega arith)
-signed_one (s ∷ os) w v (inr (inl p)) (inr (inl q)) = p.3 ∙ sym q.3
-signed_one (s ∷ os) w v (inr (inl p)) (inr (inr (inl q))) = let x = p.2 in let y = q.2 in absurd (omega arith)
-signed_one (s ∷ os) w v (inr (inl p)) (inr (inr (inr q))) = absurd (q.0 (inr p.0) p.1)
-signed_one (s ∷ os) w v (inr (inr (inl p))) (inl q) = let x = p.0 in let y = q.0 in absurd (omega arith)
-signed_one (s ∷ os) w v (inr (inr (inl p))) (inr (inl q)) = let x = p.2 in let y = q.2 in absurd (omega arith)
-signed_one (s ∷ os) w v (inr (inr (inl p))) (inr (inr (inl q))) = p.3 ∙ sym q.3
-signed_one (s ∷ os) w v (inr (inr (inl p))) (inr (inr (inr q))) = absurd (q.0 (inr p.0) p.1)
-signed_one (s ∷ os) w v (inr (inr (inr p))) (inl q) = absurd (p.0 (inl q.0) q.1)
-signed_one (s ∷ os) w v (inr (inr (inr p))) (inr (inl q)) = absurd (p.0 (inr q.0) q.1)
-signed_one (s ∷ os) w v (inr (inr (inr p))) (inr (inr (inl q))) = absurd (p.0 (inr q.0) q.1)
-signed_one (s ∷ os) w v (inr (inr (inr p))) (inr (inr (inr q))) = p.1 ∙ sym q.1
+signed_one (s ∷ os) w v (plus_digits p) (plus_digits q) = p.2 ∙ sym q.2
+signed_one (s ∷ os) w v (plus_digits p) (minus_digits q) = let x = p.0 in let y = q.0 in absurd (omega arith)
+signed_one (s ∷ os) w v (plus_digits p) (minus_nothing q) = let x = p.0 in let y = q.0 in absurd (omega arith)
+signed_one (s ∷ os) w v (plus_digits p) (no_signed_digits q) = absurd (q.0 (inl p.0) p.1)
+signed_one (s ∷ os) w v (minus_digits p) (plus_digits q) = let x = p.0 in let y = q.0 in absurd (omega arith)
+signed_one (s ∷ os) w v (minus_digits p) (minus_digits q) = p.3 ∙ sym q.3
+signed_one (s ∷ os) w v (minus_digits p) (minus_nothing q) = let x = p.2 in let y = q.2 in absurd (omega arith)
+signed_one (s ∷ os) w v (minus_digits p) (no_signed_digits q) = absurd (q.0 (inr p.0) p.1)
+signed_one (s ∷ os) w v (minus_nothing p) (plus_digits q) = let x = p.0 in let y = q.0 in absurd (omega arith)
+signed_one (s ∷ os) w v (minus_nothing p) (minus_digits q) = let x = p.2 in let y = q.2 in absurd (omega arith)
+signed_one (s ∷ os) w v (minus_nothing p) (minus_nothing q) = p.3 ∙ sym q.3
+signed_one (s ∷ os) w v (minus_nothing p) (no_signed_digits q) = absurd (q.0 (inr p.0) p.1)
+signed_one (s ∷ os) w v (no_signed_digits p) (plus_digits q) = absurd (p.0 (inl q.0) q.1)
+signed_one (s ∷ os) w v (no_signed_digits p) (minus_digits q) = absurd (p.0 (inr q.0) q.1)
+signed_one (s ∷ os) w v (no_signed_digits p) (minus_nothing q) = absurd (p.0 (inr q.0) q.1)
+signed_one (s ∷ os) w v (no_signed_digits p) (no_signed_digits q) = p.1 ∙ sym q.1
 
 pattern_one : (ps : List (List Bool × ℤ)) (bs : List Bool) (w v : Wire) → PatternWire ps bs w → PatternWire ps bs v → w ≡ v
 pattern_one [] bs w v p q = p ∙ sym q

@@ -1,5 +1,5 @@
 -- Packets of one number each: what is written, and what can't be read.
-use Rattle.std.proofs.Common.{◌≡◌, ℕ, zero, suc, ℤ, pos, ◌*◌, ◌≤◌, ◌<◌, Bool, true, false, List, [], ◌∷◌, ◌++◌, Some, None, refl, arith, inl, inr}
+use Rattle.std.proofs.Common.{◌≡◌, ℕ, zero, suc, ℤ, pos, ◌*◌, ◌≤◌, ◌<◌, Bool, true, false, List, [], ◌∷◌, ◌++◌, Some, None, refl, arith, inr}
 use Rattle.std.specs.Prelude.{neg_ℤ, ◌^◌, ◌-◌}
 use Rattle.std.proofs.lemmas.Int.{ints}
 use Rattle.acn_num.specs.Bits.{low_bits, bits as bits_of, IsSigned}
@@ -7,7 +7,7 @@ use Rattle.acn_grammar.specs.Grammar.{Grammar, Data, node, num, int, boolean}
 use Rattle.acn_grammar.specs.Code.{Mode, Written, Any, Code, NumberOf}
 use Rattle.acn_grammar.specs.Spell.{Spell, Padding}
 use Rattle.acn_grammar.specs.Fails.{Refusal}
-use Rattle.acn_grammar.specs.LeafFails.{Reason, LeafFails, bad_digit, bad_pattern, not_minimal, wrong, not_shortest, octets_to_spare}
+use Rattle.acn_grammar.specs.LeafFails.{Reason, LeafFails, bad_digit, bad_pattern, not_minimal, wrong, not_shortest, octets_to_spare, minus_nothing}
 use Rattle.acn_grammar.specs.Front.{IsWritten}
 use Rattle.acn_grammar.specs.Interval.{span}
 use Rattle.acn_grammar.specs.Tree.{is_tree}
@@ -124,7 +124,7 @@ minus_seven = leaf_spelled Written signed_leaf (int (neg_ℤ (pos 7))) (neg_ℤ 
 })
 
 pub minus_zero : Refusal (root_of signed_leaf) (bits_of (45 ∷ 48 ∷ 48 ∷ [])) (record { path = []; reason = not_minimal; at = 0 }) 24
-minus_zero = leaf_fails signed_leaf _ not_minimal 24 (inr (omega arith, (wrong not_minimal, inr (inr (inl (refl, ((omega arith, omega arith), ((omega arith, omega arith), tt)), refl, refl))), refl), refl))
+minus_zero = leaf_fails signed_leaf _ not_minimal 24 (inr (omega arith, (wrong not_minimal, minus_nothing (refl, ((omega arith, omega arith), ((omega arith, omega arith), tt)), refl, refl), refl), refl))
 
 -- INTEGER (0..9999) in decimal digits with an end: 120 is 12 0f, and 0 in front is not minimal
 abbrev ended_leaf : NumLeaf

@@ -8,7 +8,7 @@ use Rattle.acn_num.specs.Bits.{number, low_bits, bits}
 use Rattle.acn_num.specs.Ranges.{has}
 use Rattle.acn_grammar.specs.Code.{Any, CodingCode, nibbles, digit_octets, SignOctet, image_of}
 use Rattle.acn_grammar.specs.Images.{images_of}
-use Rattle.acn_grammar.specs.LeafFails.{Reason, short, out_of_range, not_minimal, bad_digit, bad_pattern, Wire, says, wrong, nibbles_of, octet_values, AllDigits, value_of, OnePatternWire, FixedWire, NoneHas, FixedFails}
+use Rattle.acn_grammar.specs.LeafFails.{Reason, short, out_of_range, not_minimal, bad_digit, bad_pattern, Wire, says, wrong, nibbles_of, octet_values, AllDigits, value_of, OnePatternWire, FixedWire, NoneHas, FixedFails, plus_digits, minus_digits, minus_nothing, no_signed_digits}
 use Rattle.acn_grammar.specs.Leaves.{num_fine, same_bits}
 use Rattle.acn_grammar.specs.Length.{flag_width}
 use Rattle.acn_grammar.specs.declared.node.NumCoding.{NumCoding}
@@ -194,13 +194,13 @@ signed_wire n k little (a ∷ b ∷ c ∷ d ∷ e ∷ f ∷ g ∷ h ∷ rest) l 
         )
 
     by : (s ≡ 43) ⊎ (s ≡ 43 → ⊥) → (s ≡ 45) ⊎ (s ≡ 45 → ⊥) → AllDigits 48 (octet_values rest) ⊎ (AllDigits 48 (octet_values rest) → ⊥) → (0 < value_of 48 (octet_values rest)) ⊎ (value_of 48 (octet_values rest) ≤ 0) → Goal
-    by p m (inr other) v = record { wire = wrong bad_digit; stands = inr (inr (inr ((λ o all. other all), refl))); codes = tt }
+    by p m (inr other) v = record { wire = wrong bad_digit; stands = no_signed_digits ((λ o all. other all), refl); codes = tt }
     by (inl p) m (inl all) v =
-        record { wire = says (pos (value_of 48 (octet_values rest))) (pos (value_of 48 (octet_values rest))); stands = inl (p, all, refl); codes = spells 43 (pos (value_of 48 (octet_values rest))) (value_of 48 (octet_values rest)) p all refl (refl, refl) }
+        record { wire = says (pos (value_of 48 (octet_values rest))) (pos (value_of 48 (octet_values rest))); stands = plus_digits (p, all, refl); codes = spells 43 (pos (value_of 48 (octet_values rest))) (value_of 48 (octet_values rest)) p all refl (refl, refl) }
     by (inr p) (inl m) (inl all) (inl v) =
-        record { wire = says (neg_ℤ (pos (value_of 48 (octet_values rest)))) (neg_ℤ (pos (value_of 48 (octet_values rest)))); stands = inr (inl (m, all, v, refl)); codes = spells 45 (neg_ℤ (pos (value_of 48 (octet_values rest)))) (value_of 48 (octet_values rest)) m all refl (minus_sign (value_of 48 (octet_values rest)) v) }
-    by (inr p) (inl m) (inl all) (inr v) = record { wire = wrong not_minimal; stands = inr (inr (inl (m, all, omega (arith, v), refl))); codes = tt }
-    by (inr p) (inr m) (inl all) v = record { wire = wrong bad_digit; stands = inr (inr (inr ((λ o al. neither o), refl))); codes = tt }
+        record { wire = says (neg_ℤ (pos (value_of 48 (octet_values rest)))) (neg_ℤ (pos (value_of 48 (octet_values rest)))); stands = minus_digits (m, all, v, refl); codes = spells 45 (neg_ℤ (pos (value_of 48 (octet_values rest)))) (value_of 48 (octet_values rest)) m all refl (minus_sign (value_of 48 (octet_values rest)) v) }
+    by (inr p) (inl m) (inl all) (inr v) = record { wire = wrong not_minimal; stands = minus_nothing (m, all, omega (arith, v), refl); codes = tt }
+    by (inr p) (inr m) (inl all) v = record { wire = wrong bad_digit; stands = no_signed_digits ((λ o al. neither o), refl); codes = tt }
       where
         neither : (s ≡ 43) ⊎ (s ≡ 45) → ⊥
         neither (inl x) = p x

@@ -9,7 +9,7 @@ use Rattle.acn_num.specs.Bits.{number, signed_number, low_bits}
 use Rattle.acn_grammar.specs.Code.{nibbles, digit_octets}
 use Rattle.acn_grammar.specs.Images.{images_of}
 use Rattle.acn_grammar.specs.Interval.{held, span_by, fixed_width, num_span}
-use Rattle.acn_grammar.specs.LeafFails.{Reason, short, not_minimal, bad_digit, bad_pattern, Wire, says, wrong, SignedWire, DigitsWire, PatternWire, OnePatternWire, FixedWire, WireFails, FixedFails, CountedFails, CharacterFails, cut, end_cut, digit_too_many, no_digit_no_end, end_alone, not_shortest, not_permitted, EndedFails, AsciiEndedFails, Positive, Negative, most_digits, CodingFails, LeafFails, octet_values, no_count, none_counted, many_counted, octets_cut, octets_to_spare, counted_not_permitted}
+use Rattle.acn_grammar.specs.LeafFails.{Reason, short, not_minimal, bad_digit, bad_pattern, Wire, says, wrong, SignedWire, DigitsWire, PatternWire, OnePatternWire, FixedWire, WireFails, FixedFails, CountedFails, CharacterFails, cut, end_cut, digit_too_many, no_digit_no_end, end_alone, not_shortest, not_permitted, EndedFails, AsciiEndedFails, Positive, Negative, most_digits, CodingFails, LeafFails, octet_values, no_count, none_counted, many_counted, octets_cut, octets_to_spare, counted_not_permitted, plus_digits, minus_digits, minus_nothing, no_signed_digits}
 use Rattle.acn_grammar.specs.Leaves.{num_fine, coding_fine, is_terminator, is_pattern, begins_number}
 use Rattle.acn_grammar.specs.Length.{digit_count, least_octets, least_signed_octets, flag_width}
 use Rattle.acn_grammar.specs.Spell.{octet_numbers}
@@ -38,10 +38,10 @@ digits_said z ds w (inr t) = wrong_is w bad_digit (λ e. cc) t.1
 
 signed_said : (ds : List ℕ) (w : Wire) → SignedWire ds w → NotShort w
 signed_said [] w t = absurd t
-signed_said (s ∷ ds) w (inl t) = said w _ _ t.2
-signed_said (s ∷ ds) w (inr (inl t)) = said w _ _ t.3
-signed_said (s ∷ ds) w (inr (inr (inl t))) = wrong_is w not_minimal (λ e. cc) t.3
-signed_said (s ∷ ds) w (inr (inr (inr t))) = wrong_is w bad_digit (λ e. cc) t.1
+signed_said (s ∷ ds) w (plus_digits t) = said w _ _ t.2
+signed_said (s ∷ ds) w (minus_digits t) = said w _ _ t.3
+signed_said (s ∷ ds) w (minus_nothing t) = wrong_is w not_minimal (λ e. cc) t.3
+signed_said (s ∷ ds) w (no_signed_digits t) = wrong_is w bad_digit (λ e. cc) t.1
 
 patterns_said : (ps : List (List Bool × ℤ)) (bs : List Bool) (w : Wire) → PatternWire ps bs w → NotShort w
 patterns_said [] bs w t = wrong_is w bad_pattern (λ e. cc) t
