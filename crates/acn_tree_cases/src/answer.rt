@@ -13,13 +13,12 @@ use acn_case_lines::{wide, word};
 use acn_check::check;
 use acn_num::{Boxed, NoMemory, Path};
 use acn_tree::{
-    Body, Draw, Node, NumLeaf, Tree, interval, items_named, make, meets, node_at, shaped,
-    value_count,
+    Body, Bounds, Draw, Node, NumLeaf, Tree, interval, items_named, make, meets, node_at,
+    node_interval, shaped, value_count,
 };
 use std::alloc::Global;
 
-fn bounds_in_words(alloc: Global, tree: &Tree) -> Result<String, NoMemory> {
-    let bounds = interval(tree);
+fn bounds_in_words(alloc: Global, bounds: Bounds) -> Result<String, NoMemory> {
     Ok(format!(in alloc; "{}..{}", bounds.least, bounds.greatest)?)
 }
 
@@ -92,6 +91,16 @@ fn node_told(alloc: Global, tree: &Tree, text: &str) -> Result<String, NoMemory>
     }
 }
 
+fn bounds_told(alloc: Global, tree: &Tree, text: &str) -> Result<String, NoMemory> {
+    match path_of(text) {
+        Some(path) => match node_at(tree, &path) {
+            Some(node) => bounds_in_words(alloc, node_interval(node)),
+            None => Ok(format!(in alloc; "none")?),
+        },
+        None => Ok(format!(in alloc; "too long")?),
+    }
+}
+
 fn meets_told(alloc: Global, tree: &Tree, words: &[&str]) -> Result<String, NoMemory> {
     match value_of(alloc, words)? {
         Some(value) => match meets(tree.root(), value.get()) {
@@ -146,7 +155,8 @@ fn told(alloc: Global, tree: Boxed<Tree>, words: &[&str]) -> Result<String, NoMe
     match word(words, 0) {
         "form" => Ok(format!(in alloc; "Ok")?),
         "values" => Ok(format!(in alloc; "{}", value_count(tree.get()))?),
-        "bits" => bounds_in_words(alloc, tree.get()),
+        "bits" => bounds_in_words(alloc, interval(tree.get())),
+        "bits-at" => bounds_told(alloc, tree.get(), word(rest, 0)),
         "check" => checked(alloc, tree, false),
         "check-twice" => checked(alloc, tree, true),
         "named" => Ok(format!(in alloc; "{}", items_named(tree.get()))?),

@@ -6,7 +6,8 @@
 //! in the places of `$1` to `$4`, and a line whose part isn't there is left out. `times LOW HIGH LINE | LINE` stands for its lines
 //! once for each number from LOW up to HIGH, with the number in the place of `$i`.
 //!
-//! Questions: `form`, `values`, `bits`, `check`, `check-twice`, `named`, `at PATH`, `meets VALUE`, `shaped VALUE`, `make NUMBER`.
+//! Questions: `form`, `values`, `bits`, `bits-at PATH`, `check`, `check-twice`, `named`, `at PATH`, `meets VALUE`,
+//! `shaped VALUE`, `make NUMBER`.
 #![tactic(auto)]
 
 mod answer;
