@@ -1,6 +1,7 @@
 -- for acn_check
 pub mod AlternativeRows
 mod Blocks
+mod HeldRuns
 mod KeptRuns
 -- for acn_check
 pub mod Listed

@@ -112,7 +112,7 @@ module _ (s total : ℕ) where
     pub near : r.near ≡ holds ns s
     pub fine : r.fine ≡ (list_all slot_right xs && home_right form xs)
 
-  count-append : (xs ys : List Stand) → count_by (is_about s) (xs ++ ys) ≡ count_by (is_about s) xs + count_by (is_about s) ys
+  pub count-append : (xs ys : List Stand) → count_by (is_about s) (xs ++ ys) ≡ count_by (is_about s) xs + count_by (is_about s) ys
   count-append xs ys = sum_by-append (λ (at : Stand). cond (is_about s at) 1 0) xs ys
 
   min_join : (a b m : ℕ) → min (min a m + min b m) m ≡ min (a + b) m
@@ -148,7 +148,7 @@ module _ (s total : ℕ) where
   about_node n c m false e = omega arith
   about_node n c m true e = omega arith
 
-  count_first : (at : Stand) (xs : List Stand) → count_by (is_about s) (at ∷ xs) ≡ cond (is_about s at) 1 0 + count_by (is_about s) xs
+  pub count_first : (at : Stand) (xs : List Stand) → count_by (is_about s) (at ∷ xs) ≡ cond (is_about s at) 1 0 + count_by (is_about s) xs
   count_first at xs = count-append (at ∷ []) xs ∙ ap (λ (n : ℕ). n + count_by (is_about s) xs) (no_more (cond (is_about s at) 1 0))
 
   abbrev named_at : Role → Form → Bool
@@ -205,7 +205,7 @@ module _ (s total : ℕ) where
     sees_grammar (node align form) role path around in_home h =
         sees_node form (near_form form) role path around align in_home (form_seen s total in_home form) (sees_form form path around in_home h) h
 
-    sees_form : (form : Form) (path around : List ℕ) (in_home : Bool) → in_home ≡ holds around s → Inside form (form_nodes path around form) (near_form form) (form_seen s total in_home form)
+    pub sees_form : (form : Form) (path around : List ℕ) (in_home : Bool) → in_home ≡ holds around s → Inside form (form_nodes path around form) (near_form form) (form_seen s total in_home form)
     sees_form (num leaf) path around in_home h = inside_none (num leaf) refl
     sees_form (octets sizing) path around in_home h = inside_none (octets sizing) refl
     sees_form (bits sizing) path around in_home h = inside_none (bits sizing) refl

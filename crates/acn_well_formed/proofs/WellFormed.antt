@@ -345,7 +345,7 @@ all_as : {A : Type 0} (p q : A → Bool) → ((x : A) → p x ≡ true → q x �
 all_as p q f [] h = refl
 all_as p q f (x ∷ xs) h = (let r = and_parts (p x) (list_all p xs) h in rw (f x r.0, all_as p q f xs r.1) refl)
 
-all_range : (p : ℕ → Bool) (a k : ℕ) → ((s : ℕ) → s < a + k → p s ≡ true) → list_all p (range_with_len a k) ≡ true
+pub all_range : (p : ℕ → Bool) (a k : ℕ) → ((s : ℕ) → s < a + k → p s ≡ true) → list_all p (range_with_len a k) ≡ true
 all_range p a zero f = refl
 all_range p a (suc k) f = (let r = f a (omega arith) in rw r (all_range p (a + 1) k (λ s l. f s (omega arith))))
 
@@ -489,7 +489,7 @@ module _ (root : Grammar) where
       size_test : (n : ℕ) → n ≤ 65536 → nat_le n 65536 ≡ true
       size_test n h = grind (arith, nat_tests)
 
-  next_is : (u : Tally) → tally 0 root begin ≡ Some u → u.next ≡ length (slots_of (nodes_of root))
+  pub next_is : (u : Tally) → tally 0 root begin ≡ Some u → u.next ≡ length (slots_of (nodes_of root))
   next_is u e = (let m = (ran (nodes_of root) begin u (as_run ∙ e)).next in omega arith)
 
   pub few_slots : (u : Tally) → tally 0 root begin ≡ Some u → u.next ≤ 2 ^ 32

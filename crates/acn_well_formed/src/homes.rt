@@ -64,7 +64,7 @@ fn far(seen: &Seen) -> Seen
 }
 
 // Whether the slot is one of these.
-fn holds(home: &[u32], slot: u32) -> bool
+pub fn holds(home: &[u32], slot: u32) -> bool
     ensures { result ≡ tree.holds home.now slot }
 {
     for other in home {
@@ -250,7 +250,7 @@ pub fn look(
 }
 
 #[cycle(seen)]
-fn look_inside(body: &Body, sought: &Sought, in_home: bool) -> Seen
+pub fn look_inside(body: &Body, sought: &Sought, in_home: bool) -> Seen
     ensures { result ≡ spec.form_seen sought.now.slot sought.now.total in_home (form_of body.now) }
 {
     match body {

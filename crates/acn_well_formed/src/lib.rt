@@ -4,6 +4,7 @@
 mod homes;
 mod names;
 mod node_rules;
+mod open_homes;
 mod tallies;
 mod well_formed;
 

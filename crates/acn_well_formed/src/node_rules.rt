@@ -116,7 +116,7 @@ fn own_fine(slot: &Option<u32>, presence: &Presence, body: &Body) -> bool
     }
 }
 
-fn test_slot(test: &Test) -> u32
+pub fn test_slot(test: &Test) -> u32
     ensures { result ≡ test_slot_of test.now }
 {
     match test {

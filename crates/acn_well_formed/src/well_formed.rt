@@ -23,6 +23,7 @@ ghost use Rattle.acn_grammar.specs.View.{grammar_of};
 
 use crate::homes::{Sought, look};
 use crate::node_rules::node_kept;
+use crate::open_homes::node_held;
 use crate::tallies::{Tally, count_node};
 use acn_grammar::{MOST_NODES, Node};
 
@@ -62,6 +63,11 @@ pub fn is_well_formed(root: &Node) -> bool
     };
     match count_node(root, 0, start) {
         None => false,
-        Some(end) => node_kept(root, end.next) && slots_kept(root, end.next),
+        Some(end) => {
+            if !node_kept(root, end.next) {
+                return false;
+            }
+            node_held(root, &[]) || slots_kept(root, end.next)
+        }
     }
 }
