@@ -1,13 +1,14 @@
 -- What is sorted differs where no two neighbours are the same.
-use Rattle.std.proofs.Common.{zero, suc, ◌++◌, ◌≡◌, ◌⊎◌, ℕ, ◌+◌, ◌≤◌, Bool, true, false, not, ◌&&◌, ◌||◌, List, [], ◌∷◌, map, nat_eq, cond, refl, sym, ap, subst, ◌∙◌, arith, inl, inr, Ordering, Less}
+use Rattle.std.proofs.Common.{zero, suc, ◌++◌, ◌≡◌, ◌⊎◌, ℕ, ℤ, ◌+◌, ◌≤◌, Bool, true, false, not, ◌&&◌, ◌||◌, List, [], ◌∷◌, map, nat_eq, cond, refl, sym, ap, subst, ◌∙◌, arith, inl, inr, Ordering, Less}
 use Rattle.std.specs.List.{list_any, sum_by, dedup, dedup_from, AllByRecursion}
 use Rattle.std.specs.List.Sorted.{IsSorted, IsStrictlySortedBy, IsPermutation}
 use Rattle.std.specs.Cmp.{IsTotalOrder, both_ways}
 use Rattle.std.specs.Cmp.Lexicographic.{slice_cmp}
-use Rattle.std.specs.Ordering.{nat_cmp, is_eq}
+use Rattle.std.specs.Ordering.{int_cmp, int_eq, nat_cmp, is_eq}
 use Rattle.std.proofs.lemmas.Bool.{false_from_ne_true, true≢false, and_parts, and_from, or_parts, or_from, not-true, not_from_false, cases_Bool}
 use Rattle.std.proofs.lemmas.Bool.Decides.{nat_tests}
-use Rattle.std.proofs.lemmas.Cmp.{on_total, nat_list_cmp_total, same_from_slice_cmp, eq_by_cmp_equiv}
+use Rattle.std.proofs.lemmas.Cmp.{int_cmp_total, on_total, nat_list_cmp_total, same_from_slice_cmp, eq_by_cmp_equiv}
+use Rattle.std.proofs.lemmas.Int.{ints}
 use Rattle.std.proofs.lemmas.List.Kept.{IsStrictlySortedBy-dedup}
 use Rattle.std.proofs.lemmas.List.Sorted.{IsPermutation-map, sum_by-IsPermutation}
 use Rattle.std.proofs.lemmas.List.Sums.{sum_by-cons, sum_by-append}
@@ -37,6 +38,17 @@ pub record Tells {K : Type 0} (R : K → K → Ordering) (same : K → K → Boo
   pub total : IsTotalOrder R
   pub ties : (x y : K) → same x y ≡ is_eq (R x y)
   pub is : (x y : K) → same x y ≡ true → x ≡ y
+
+-- Numbers are told apart by their order.
+
+int_eq_is : (x y : ℤ) → int_eq x y ≡ true → x ≡ y
+int_eq_is x y h = grind (arith, ints)
+
+pub by_numbers : Tells int_cmp int_eq
+by_numbers = record { total = int_cmp_total; ties = λ x y. tied x y; is = int_eq_is }
+  where
+    tied : (x y : ℤ) → int_eq x y ≡ is_eq (int_cmp x y)
+    tied x y = grind (arith, ints)
 
 pub by_octets : Tells (slice_cmp nat_cmp) same_name
 by_octets = record { total = nat_list_cmp_total; ties = same_by_order; is = same_is }

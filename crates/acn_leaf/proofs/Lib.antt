@@ -1,3 +1,4 @@
+mod Blocks
 mod CodeLengths
 -- for acn_well_formed and acn_check
 pub mod Differ

@@ -6,6 +6,7 @@ ghost use Rattle.acn_grammar.specs.Asks.{same_name};
 ghost use Rattle.acn_grammar.specs.Images as images;
 ghost use Rattle.acn_grammar.specs.Leaves as leaves;
 
+use crate::item_blocks::{item_names_differ, item_numbers_differ};
 use crate::number_rules::{
     begins_below_zero, can_be_little, can_write, coding_fine, has_size, is_number, is_range,
     is_signed_text, takes,
@@ -20,52 +21,6 @@ pub fn same_text(a: &[u8], b: &[u8]) -> bool
     ensures { result ≡ same_name a.now b.now }
 {
     a == b
-}
-
-fn is_named(name: &[u8], items: &[(Name, i128)]) -> bool
-    ensures { result ≡ list_any (λ item. same_name name.now item.0) items.now }
-{
-    for item in items {
-        if same_text(name, item.0.bytes()) {
-            return true;
-        }
-    }
-    false
-}
-
-fn is_numbered(number: &i128, items: &[(Name, i128)]) -> bool
-    ensures { result ≡ list_any (λ item. int_eq number.now item.1) items.now }
-{
-    for item in items {
-        if *number == item.1 {
-            return true;
-        }
-    }
-    false
-}
-
-// Whether no two items have one name.
-fn names_differ(items: &[(Name, i128)]) -> bool
-    ensures { result ≡ leaves.all_differ (λ a b. same_name a.0 b.0) items.now }
-{
-    for at in 0..items.len() {
-        if is_named(items[at].0.bytes(), &items[at + 1..]) {
-            return false;
-        }
-    }
-    true
-}
-
-// Whether no two items have one number.
-fn numbers_differ(items: &[(Name, i128)]) -> bool
-    ensures { result ≡ leaves.all_differ (λ a b. int_eq a.1 b.1) items.now }
-{
-    for at in 0..items.len() {
-        if is_numbered(&items[at].1, &items[at + 1..]) {
-            return false;
-        }
-    }
-    true
 }
 
 fn no_items(items: &Items) -> bool
@@ -99,8 +54,8 @@ fn enumerated_set_fine(leaf: &NumLeaf) -> bool
 {
     let items = leaf.items.items.items();
     is_range(&0, &((items.len() - 1) as i128), &leaf.set)
-        && names_differ(items)
-        && numbers_differ(items)
+        && item_names_differ(items)
+        && item_numbers_differ(items)
 }
 
 // Whether items and set are ones that the kind can have.

@@ -1,14 +1,17 @@
 //! The rules that leaves of a packet's grammar keep, and how long their codes are.
 #![tactic(auto)]
 
+mod item_blocks;
 mod leaf_rules;
 mod lengths;
 mod names;
 mod number_rules;
+mod numbers;
 mod size_rules;
 mod table_rules;
 
 pub use leaf_rules::{num_fine, same_text};
 pub use lengths::{code_lengths, fixed_width, width};
 pub use names::names_differ;
+pub use numbers::numbers_differ;
 pub use size_rules::{is_least, list_fine, sizing_fine, text_fine};
