@@ -1,9 +1,10 @@
 -- What the walk with the homes that are open tests is enough: nothing outside a home is about its slots.
-use Rattle.std.proofs.Common.{◌≡◌, ℕ, zero, suc, ◌+◌, ◌-◌, ◌^◌, ◌<◌, ◌≤◌, min, Bool, true, false, not, List, [], ◌∷◌, ◌++◌, length, Option, Some, None, nat_eq, nat_lt, ◌&&◌, ◌||◌, cond, refl, sym, ap, ◌∙◌, subst, arith}
-use Rattle.std.specs.Prelude.{count_by, map}
+use Rattle.std.proofs.Common.{◌≡◌, ◌⊎◌, inl, inr, ℕ, zero, suc, ◌+◌, ◌-◌, ◌^◌, ◌<◌, ◌≤◌, min, Bool, true, false, not, List, [], ◌∷◌, ◌++◌, length, Option, Some, None, nat_eq, nat_lt, ◌&&◌, ◌||◌, cond, refl, sym, ap, ◌∙◌, subst, arith}
+use Rattle.std.specs.Prelude.{count_by, map, if◌then◌else◌}
 use Rattle.std.specs.List.{list_all, list_any, range_with_len, cons_option}
 use Rattle.std.proofs.lemmas.Bool.{eqb-true, and_parts}
 use Rattle.std.proofs.lemmas.Bool.Decides.{nat_tests}
+use Rattle.std.proofs.lemmas.List.Sums.{count_by-le-length}
 use Rattle.std.proofs.lemmas.List.Folds.{list_all-append, list_any-append}
 use Rattle.acn_grammar.specs.Check.{test_slot}
 use Rattle.acn_grammar.specs.Grammar.{Grammar, Form, Fields, Alternatives, node, num, octets, bits, text, seq, list, choice, contained, no_fields, component, inserted, no_alternatives, alternative}
@@ -13,7 +14,7 @@ use Rattle.acn_grammar.specs.Walk.{Stand, Role, root_node, a_component, an_inser
 use Rattle.acn_grammar.specs.declared.node.Presence.{Presence}
 use Rattle.acn_grammar.specs.declared.node.Presence.TheVariants.{Always, Bit, When}
 use Rattle.acn_grammar.specs.declared.node.Test.{Test}
-use Rattle.acn_well_formed.specs.Held.{is_held, slot_held, tests_held, uses_held, right_inside, held, form_held, fields_held, alternatives_held}
+use Rattle.acn_well_formed.specs.Held.{not_below, from_slot, stands_first, all_right, is_held, slot_held, tests_held, uses_held, right_inside, held, form_held, fields_held, alternatives_held}
 use Rattle.acn_well_formed.specs.Kept.{kept}
 use Rattle.acn_well_formed.specs.Seen.{form_seen, form_names, tests_name, slot_kept, weight}
 use Rattle.acn_well_formed.specs.Tallies.{tally}
@@ -282,6 +283,7 @@ module _ (s : ℕ) where
   -- the slot's home
   record Homes (form : Form) (xs : List Stand) : Type 0 where
     is : is_seq form ≡ true
+    near : holds (near_form form) s ≡ true
     fields : 1 ≤ fields_in xs
     right : list_all (slot_right s (all_of xs)) xs ≡ true
     home : home_right s (all_of xs) form xs ≡ true
@@ -289,6 +291,7 @@ module _ (s : ℕ) where
   data Inner (form : Form) (xs : List Stand) : Type 0 where
     home_here : Homes form xs → Inner form xs
     other_here : Quiet form → Found xs → Inner form xs
+    more_here : 2 ≤ fields_in xs → Inner form xs
 
   node_nothing : (at : Stand) → Aside at.role at.form → Quiet at.form → Nothing (inside at) → Nothing (at ∷ inside at)
   node_nothing at p quiet q = record {
@@ -323,6 +326,8 @@ module _ (s : ℕ) where
   found_node at p (other_here quiet (whole_here q)) = whole_here (node_whole at p quiet q)
   found_node at p (other_here quiet (fields_here q)) = fields_here (let e = aside_fields at (inside at) p in omega arith)
 
+  found_node at p (more_here q) = fields_here (let e = aside_fields at (inside at) p in omega arith)
+
   -- What isn't held isn't named.
 
   not_named : {A : Type 0} (slot : A → ℕ) (homes : List (List ℕ)) (ts : List A) → is_held homes s ≡ false → list_all (λ t. is_held homes (slot t)) ts ≡ true → list_any (λ t. nat_eq s (slot t)) ts ≡ false
@@ -337,15 +342,64 @@ module _ (s : ℕ) where
   not_own homes None e h = refl
   not_own homes (Some t) e h = not_yes (nat_eq t s) (λ k. clash (is_held homes s) (ap (is_held homes) (sym (eqb-true t s k)) ∙ h) e)
 
-  member : (p : ℕ → Bool) (home : List ℕ) → list_all p home ≡ true → holds home s ≡ true → p s ≡ true
-  member p [] h g = cc
-  member p (t ∷ home) h g =
-      let r = and_parts (p t) (list_all p home) h in
-      member_step (nat_eq t s) refl g (λ k. member p home r.1 k)
+  -- A slot whose inserted field stands in its home itself.
+
+  abbrev inserts : Fields → Bool
+  inserts no_fields = false
+  inserts (component name g presence default own fs) = inserts fs
+  inserts (inserted name g slot fs) = is_slot s slot || inserts fs
+
+  first_inserts : (fs : Fields) → stands_first s fs ≡ true → inserts fs ≡ true
+  first_inserts no_fields h = cc
+  first_inserts (component name g presence default own fs) h = cc
+  first_inserts (inserted name g slot fs) h = rw h refl
+
+  from_inserts : (t : ℕ) (fs : Fields) → inserts (from_slot t fs) ≡ true → inserts fs ≡ true
+  from_inserts t no_fields h = h
+  from_inserts t (component name g presence default own fs) h = from_inserts t fs h
+  from_inserts t (inserted name g slot fs) h = from_case (not_below t slot) h (λ k. from_inserts t fs k)
     where
-      member_step : (b : Bool) → nat_eq t s ≡ b → (b || holds home s) ≡ true → (holds home s ≡ true → p s ≡ true) → p s ≡ true
-      member_step true e g ih = ap p (sym (eqb-true t s e)) ∙ (and_parts (p t) (list_all p home) h).0
-      member_step false e g ih = ih g
+      from_case : (b : Bool) → inserts (if b then inserted name g slot fs else from_slot t fs) ≡ true → (inserts (from_slot t fs) ≡ true → inserts fs ≡ true) → (is_slot s slot || inserts fs) ≡ true
+      from_case true k f = k
+      from_case false k f = rw (f k) (or_yes (is_slot s slot))
+
+  all_gives : (form : Form) (fs : Fields) (home : List ℕ) → all_right form fs home ≡ true → holds home s ≡ true → (inserts fs ≡ true) ⊎ (right_inside form s ≡ true)
+  all_gives form fs [] h g = cc
+  all_gives form fs (t ∷ home) h g =
+      let p = and_parts (stands_first t (from_slot t fs) || right_inside form t) (all_right form (from_slot t fs) home) h in
+      given_case (nat_eq t s) refl p.0 g (λ k. all_gives form (from_slot t fs) home p.1 k)
+    where
+      either : (a : Bool) → stands_first s (from_slot t fs) ≡ a → (a || right_inside form s) ≡ true → (inserts fs ≡ true) ⊎ (right_inside form s ≡ true)
+      either true e k = inl (from_inserts t fs (first_inserts (from_slot t fs) e))
+      either false e k = inr k
+
+      further : (inserts (from_slot t fs) ≡ true) ⊎ (right_inside form s ≡ true) → (inserts fs ≡ true) ⊎ (right_inside form s ≡ true)
+      further (inl k) = inl (from_inserts t fs k)
+      further (inr k) = inr k
+
+      given_case : (b : Bool) → nat_eq t s ≡ b → (stands_first t (from_slot t fs) || right_inside form t) ≡ true → (b || holds home s) ≡ true
+          → (holds home s ≡ true → (inserts (from_slot t fs) ≡ true) ⊎ (right_inside form s ≡ true)) → (inserts fs ≡ true) ⊎ (right_inside form s ≡ true)
+      given_case true e k m ih = either (stands_first s (from_slot t fs)) refl (subst (λ (u : ℕ). (stands_first u (from_slot t fs) || right_inside form u) ≡ true) (eqb-true t s e) k)
+      given_case false e k m ih = further (ih m)
+
+  inserts_near : (fs : Fields) → inserts fs ≡ true → holds (near fs) s ≡ true
+  inserts_near no_fields h = cc
+  inserts_near (component name g presence default own fs) h =
+      holds-append (slot_list own) (near_if presence (near_node g) ++ near fs) s
+      ∙ rw (holds-append (near_if presence (near_node g)) (near fs) s, inserts_near fs h, or_yes (holds (near_if presence (near_node g)) s)) (or_yes (holds (slot_list own) s))
+  inserts_near (inserted name g None fs) h = inserts_near fs h
+  inserts_near (inserted name g (Some t) fs) h = near_case (nat_eq t s) h (λ k. inserts_near fs k)
+    where
+      near_case : (b : Bool) → (b || inserts fs) ≡ true → (inserts fs ≡ true → holds (near fs) s ≡ true) → (b || holds (near fs) s) ≡ true
+      near_case true k f = refl
+      near_case false k f = f k
+
+  near_some : (fs : Fields) (path around : List ℕ) (k : ℕ) → holds (near fs) s ≡ true → 1 ≤ fields_in (field_nodes path around k fs)
+  near_some fs path around k h = some_weight (holds (near fs) s) (fields_in (field_nodes path around k fs)) h (near_fields fs path around k)
+
+  implied : (a b : Bool) → a ≡ true → implies a b ≡ true → b ≡ true
+  implied true b e h = h
+  implied false b e h = cc
 
   -- inside its home the slot is right
   homes_from : (fs : Fields) (home path around : List ℕ) → holds around s ≡ false → holds home s ≡ true → right_inside (seq fs home) s ≡ true → Homes (seq fs home) (field_nodes path (home ++ around) 0 fs)
@@ -361,67 +415,307 @@ module _ (s : ℕ) where
       let p = and_parts (list_all (slot_right s (all_of xs)) xs) (home_right s (all_of xs) form xs) k' in
       let q = and_parts (same_truth (holds home s) (enough s (all_of xs) xs && not (list_any (has_all s (all_of xs)) xs))) (implies (holds home s) (holds (near fs) s)) p.1 in
       let n : holds (near fs) s ≡ true = implied (holds home s) (holds (near fs) s) h q.1 in
-      record { is = refl; fields = some_weight (holds (near fs) s) (fields_in xs) n (near_fields fs path (home ++ around) 0); right = p.0; home = p.1 }
+      record { is = refl; near = n; fields = near_some fs path (home ++ around) 0 n; right = p.0; home = p.1 }
+
+  -- a slot at home here has a field here
+  held_near : (fs : Fields) (home : List ℕ) → all_right (seq fs home) fs home ≡ true → holds home s ≡ true → holds (near fs) s ≡ true
+  held_near fs home h k = by (all_gives (seq fs home) fs home h k)
     where
-      implied : (a b : Bool) → a ≡ true → implies a b ≡ true → b ≡ true
-      implied true b e h = h
-      implied false b e h = cc
+      by : (inserts fs ≡ true) ⊎ (right_inside (seq fs home) s ≡ true) → holds (near fs) s ≡ true
+      by (inl i) = inserts_near fs i
+      by (inr r) = near_of (homes_from fs home [] [] refl k r)
+        where
+          near_of : Homes (seq fs home) (field_nodes [] (home ++ []) 0 fs) → holds (near fs) s ≡ true
+          near_of q = q.near
 
-  seq_case : (fs : Fields) (home path around : List ℕ) → holds around s ≡ false → list_all (right_inside (seq fs home)) home ≡ true → (b : Bool) → holds home s ≡ b
-      → (holds home s ≡ false → Found (field_nodes path (home ++ around) 0 fs)) → Inner (seq fs home) (field_nodes path (home ++ around) 0 fs)
-  seq_case fs home path around a r true k f = home_here (homes_from fs home path around a k (member (right_inside (seq fs home)) home r k))
-  seq_case fs home path around a r false k f = other_here (quiet_seq fs home k) (f k)
+  -- Inside its home, where no field of the slot is and some node about it is elsewhere.
 
-  mutual
-    found_grammar : (g : Grammar) (role : Role) (path around : List ℕ) (homes : List (List ℕ)) → holds around s ≡ false → is_held homes s ≡ false → is_slot s (slot_here role) ≡ false → tests_name s (own_tests role) ≡ false
-        → held homes g ≡ true → Found (nodes role path around g)
-    found_grammar (node align form) role path around homes a e f t h =
-        let p = and_parts (uses_held homes form) (form_held homes form) h in
-        let at : Stand = record { path = path; around = around; role = role; align = align; form = form } in
-        found_node at (record { own = f; tests = t; uses = not_named slot_of homes (form_uses form) e p.0 }) (found_form form path around homes a e p.1)
+  record Calm (total : ℕ) (xs : List Stand) : Type 0 where
+    right : list_all (slot_right s total) xs ≡ true
+    apart : list_any (has_all s total) xs ≡ false
 
-    found_form : (form : Form) (path around : List ℕ) (homes : List (List ℕ)) → holds around s ≡ false → is_held homes s ≡ false → form_held homes form ≡ true → Inner form (form_nodes path around form)
-    found_form (seq fs home) path around homes a e h =
-        let p = and_parts (nat_lt (length homes) LEVELS) (list_all (right_inside (seq fs home)) home && fields_held (homes ++ (home ∷ [])) fs) h in
-        let q = and_parts (list_all (right_inside (seq fs home)) home) (fields_held (homes ++ (home ∷ [])) fs) p.1 in
-        seq_case fs home path around a q.0 (holds home s) refl
-        (λ k. found_fields fs path (home ++ around) 0 (homes ++ (home ∷ [])) (holds-append home around s ∙ or_of (holds home s) (holds around s) k a)
-        (list_any-append (λ ss. holds ss s) homes (home ∷ []) ∙ or_of (is_held homes s) (holds home s || false) e (rw k refl)) q.1)
-    found_form (num leaf) path around homes a e h = other_here (λ total xs k. refl) found_none
-    found_form (octets sizing) path around homes a e h = other_here (λ total xs k. refl) found_none
-    found_form (bits sizing) path around homes a e h = other_here (λ total xs k. refl) found_none
-    found_form (text leaf) path around homes a e h = other_here (λ total xs k. refl) found_none
-    found_form (list sizing g) path around homes a e h = other_here (λ total xs k. refl) (found_grammar g an_element (path ++ 0 ∷ []) around homes a e refl refl h)
-    found_form (choice cases rule) path around homes a e h = other_here (λ total xs k. refl) (found_alternatives cases path around 0 homes a e h)
-    found_form (contained sizing g) path around homes a e h = other_here (λ total xs k. refl) (found_grammar g a_content (path ++ 0 ∷ []) around homes a e refl refl h)
+  calm_join : (total : ℕ) (xs ys : List Stand) → Calm total xs → Calm total ys → Calm total (xs ++ ys)
+  calm_join total xs ys p q = record {
+    right = list_all-append (slot_right s total) xs ys ∙ both (list_all (slot_right s total) xs) (list_all (slot_right s total) ys) p.right q.right;
+    apart = list_any-append (has_all s total) xs ys ∙ or_of (list_any (has_all s total) xs) (list_any (has_all s total) ys) p.apart q.apart;
+  }
 
-    found_fields : (fs : Fields) (path around : List ℕ) (k : ℕ) (homes : List (List ℕ)) → holds around s ≡ false → is_held homes s ≡ false → fields_held homes fs ≡ true → Found (field_nodes path around k fs)
-    found_fields no_fields path around k homes a e h = found_none
-    found_fields (component name g presence default own fs) path around k homes a e h =
+  calm_none : (total : ℕ) → Calm total []
+  calm_none total = record { right = refl; apart = refl }
+
+  three : (n a r h : Bool) → a ≡ true → r ≡ true → h ≡ true → ((implies n a && r) && h) ≡ true
+  three true a r h e f g = rw (e, f, g) refl
+  three false a r h e f g = rw (f, g) refl
+
+  short : (c total : ℕ) → c < total → total ≤ 2 ^ 32 - 1 → nat_eq (min c (2 ^ 32 - 1)) total ≡ false
+  short c total l m = grind (arith, nat_tests)
+
+  calm_node : (total : ℕ) (at : Stand) → total ≤ 2 ^ 32 - 1 → holds at.around s ≡ true → role_right s total at.role ≡ true → Quiet at.form → about (inside at) < total → Calm total (inside at) → Calm total (at ∷ inside at)
+  calm_node total at m a r quiet l p =
+      let e : enough s total (inside at) ≡ false = short (about (inside at)) total l m in
+      record {
+        right = both (slot_right s total at) (list_all (slot_right s total) (inside at))
+        (three (tests_name s (own_tests at.role) || form_names s at.form) (holds at.around s) (role_right s total at.role) (home_right s total at.form (inside at)) a r (quiet total (inside at) (rw e refl))) p.right;
+        apart = or_of (has_all s total at) (list_any (has_all s total) (inside at)) (rw e (and_no (is_seq at.form))) p.apart;
+      }
+
+  abbrev inner : Grammar → List ℕ → List ℕ → List Stand
+  inner (node align form) path around = form_nodes path around form
+
+  inner_fields : (g : Grammar) (role : Role) (path around : List ℕ) → fields_in (nodes role path around g) ≡ weight (is_slot s (slot_here role)) + fields_in (inner g path around)
+  inner_fields (node align form) role path around = refl
+
+  inner_about : (g : Grammar) (role : Role) (path around : List ℕ) → about (inner g path around) ≤ about (nodes role path around g)
+  inner_about (node align form) role path around =
+      let at : Stand = record { path = path; around = around; role = role; align = align; form = form } in
+      let e = count_first s 0 at (form_nodes path around form) in
+      more (cond (is_about s at) 1 0) (about (form_nodes path around form)) (about (at ∷ form_nodes path around form)) e
+    where
+      more : (a n m : ℕ) → m ≡ a + n → n ≤ m
+      more a n m e = omega arith
+
+  -- the node of the slot's field is about it
+  own_about : (g : Grammar) (role : Role) (path around : List ℕ) → is_slot s (slot_here role) ≡ true → suc (about (inner g path around)) ≤ about (nodes role path around g)
+  own_about (node align form) role path around h =
+      let at : Stand = record { path = path; around = around; role = role; align = align; form = form } in
+      let e = count_first s 0 at (form_nodes path around form) in
+      let f : is_about s at ≡ true = rw h refl in
+      let c : cond (is_about s at) 1 0 ≡ 1 = ap (λ (b : Bool). cond b 1 0) f in
+      one_more (cond (is_about s at) 1 0) (about (form_nodes path around form)) (about (at ∷ form_nodes path around form)) e c
+    where
+      one_more : (a n m : ℕ) → m ≡ a + n → a ≡ 1 → suc n ≤ m
+      one_more a n m e c = omega arith
+
+  no_slot : (b : Bool) (m n : ℕ) → n ≡ weight b + m → n ≡ 0 → b ≡ false
+  no_slot true m n e z = absurd (omega arith)
+  no_slot false m n e z = refl
+
+  quiet_held : (form : Form) (path around : List ℕ) (homes : List (List ℕ)) → form_held homes form ≡ true → fields_in (form_nodes path around form) ≡ 0 → Quiet form
+  quiet_held (seq fs home) path around homes h z =
+      let p = and_parts (nat_lt (length homes) LEVELS) (all_right (seq fs home) fs home && fields_held (homes ++ (home ∷ [])) fs) h in
+      let q = and_parts (all_right (seq fs home) fs home) (fields_held (homes ++ (home ∷ [])) fs) p.1 in
+      quiet_seq fs home (not_yes (holds home s) (λ k. (let n = near_some fs path (home ++ around) 0 (held_near fs home q.0 k) in absurd (omega arith))))
+  quiet_held (num leaf) path around homes h z = λ total xs k. refl
+  quiet_held (octets sizing) path around homes h z = λ total xs k. refl
+  quiet_held (bits sizing) path around homes h z = λ total xs k. refl
+  quiet_held (text leaf) path around homes h z = λ total xs k. refl
+  quiet_held (list sizing g) path around homes h z = λ total xs k. refl
+  quiet_held (choice cases rule) path around homes h z = λ total xs k. refl
+  quiet_held (contained sizing g) path around homes h z = λ total xs k. refl
+
+  holds_more : (home around : List ℕ) → holds around s ≡ true → holds (home ++ around) s ≡ true
+  holds_more home around a = holds-append home around s ∙ rw a (or_yes (holds home s))
+
+  module _ (total : ℕ) (most : total ≤ 2 ^ 32 - 1) where
+    mutual
+      calm_grammar : (g : Grammar) (role : Role) (path around : List ℕ) (homes : List (List ℕ)) → holds around s ≡ true → role_right s total role ≡ true → held homes g ≡ true
+          → fields_in (inner g path around) ≡ 0 → about (inner g path around) < total → Calm total (nodes role path around g)
+      calm_grammar (node align form) role path around homes a r h z l =
+          let p = and_parts (uses_held homes form) (form_held homes form) h in
+          let at : Stand = record { path = path; around = around; role = role; align = align; form = form } in
+          calm_node total at most a r (quiet_held form path around homes p.1 z) l (calm_form form path around homes a p.1 z l)
+
+      calm_form : (form : Form) (path around : List ℕ) (homes : List (List ℕ)) → holds around s ≡ true → form_held homes form ≡ true
+          → fields_in (form_nodes path around form) ≡ 0 → about (form_nodes path around form) < total → Calm total (form_nodes path around form)
+      calm_form (seq fs home) path around homes a h z l =
+          let p = and_parts (nat_lt (length homes) LEVELS) (all_right (seq fs home) fs home && fields_held (homes ++ (home ∷ [])) fs) h in
+          let q = and_parts (all_right (seq fs home) fs home) (fields_held (homes ++ (home ∷ [])) fs) p.1 in
+          calm_fields fs path (home ++ around) 0 (homes ++ (home ∷ [])) (holds_more home around a) q.1 z l
+      calm_form (num leaf) path around homes a h z l = calm_none total
+      calm_form (octets sizing) path around homes a h z l = calm_none total
+      calm_form (bits sizing) path around homes a h z l = calm_none total
+      calm_form (text leaf) path around homes a h z l = calm_none total
+      calm_form (list sizing g) path around homes a h z l =
+          let e = inner_fields g an_element (path ++ 0 ∷ []) around in
+          let f = inner_about g an_element (path ++ 0 ∷ []) around in
+          calm_grammar g an_element (path ++ 0 ∷ []) around homes a refl h (omega arith) (omega arith)
+      calm_form (choice cases rule) path around homes a h z l = calm_alternatives cases path around 0 homes a h z l
+      calm_form (contained sizing g) path around homes a h z l =
+          let e = inner_fields g a_content (path ++ 0 ∷ []) around in
+          let f = inner_about g a_content (path ++ 0 ∷ []) around in
+          calm_grammar g a_content (path ++ 0 ∷ []) around homes a refl h (omega arith) (omega arith)
+
+      calm_fields : (fs : Fields) (path around : List ℕ) (k : ℕ) (homes : List (List ℕ)) → holds around s ≡ true → fields_held homes fs ≡ true
+          → fields_in (field_nodes path around k fs) ≡ 0 → about (field_nodes path around k fs) < total → Calm total (field_nodes path around k fs)
+      calm_fields no_fields path around k homes a h z l = calm_none total
+      calm_fields (component name g presence default own fs) path around k homes a h z l =
+          let p = and_parts (slot_held homes own && (tests_held homes (presence_tests presence) && held homes g)) (fields_held homes fs) h in
+          let q = and_parts (slot_held homes own) (tests_held homes (presence_tests presence) && held homes g) p.0 in
+          let r = and_parts (tests_held homes (presence_tests presence)) (held homes g) q.1 in
+          let role = a_component name presence own in
+          let xs = nodes role (path ++ k ∷ []) around g in
+          let ys = field_nodes path around (suc k) fs in
+          let b = fields_append xs ys in
+          let c = count-append s 0 xs ys in
+          let e = inner_fields g role (path ++ k ∷ []) around in
+          let f = inner_about g role (path ++ k ∷ []) around in
+          let n : is_slot s own ≡ false = no_slot (is_slot s own) (fields_in (inner g (path ++ k ∷ []) around)) (fields_in xs) e (omega arith) in
+          calm_join total xs ys
+          (calm_grammar g role (path ++ k ∷ []) around homes a (aside_role total role n) r.1 (omega arith) (omega arith))
+          (calm_fields fs path around (suc k) homes a p.1 (omega arith) (omega arith))
+      calm_fields (inserted name g slot fs) path around k homes a h z l =
+          let p = and_parts (slot_held homes slot && held homes g) (fields_held homes fs) h in
+          let q = and_parts (slot_held homes slot) (held homes g) p.0 in
+          let role = an_inserted name slot in
+          let xs = nodes role (path ++ k ∷ []) around g in
+          let ys = field_nodes path around (suc k) fs in
+          let b = fields_append xs ys in
+          let c = count-append s 0 xs ys in
+          let e = inner_fields g role (path ++ k ∷ []) around in
+          let f = inner_about g role (path ++ k ∷ []) around in
+          calm_join total xs ys
+          (calm_grammar g role (path ++ k ∷ []) around homes a refl q.1 (omega arith) (omega arith))
+          (calm_fields fs path around (suc k) homes a p.1 (omega arith) (omega arith))
+
+      calm_alternatives : (as' : Alternatives) (path around : List ℕ) (k : ℕ) (homes : List (List ℕ)) → holds around s ≡ true → alternatives_held homes as' ≡ true
+          → fields_in (alternative_nodes path around k as') ≡ 0 → about (alternative_nodes path around k as') < total → Calm total (alternative_nodes path around k as')
+      calm_alternatives no_alternatives path around k homes a h z l = calm_none total
+      calm_alternatives (alternative name g tests more) path around k homes a h z l =
+          let p = and_parts (tests_held homes tests && held homes g) (alternatives_held homes more) h in
+          let q = and_parts (tests_held homes tests) (held homes g) p.0 in
+          let role = an_alternative name tests in
+          let xs = nodes role (path ++ k ∷ []) around g in
+          let ys = alternative_nodes path around (suc k) more in
+          let b = fields_append xs ys in
+          let c = count-append s 0 xs ys in
+          let e = inner_fields g role (path ++ k ∷ []) around in
+          let f = inner_about g role (path ++ k ∷ []) around in
+          calm_join total xs ys
+          (calm_grammar g role (path ++ k ∷ []) around homes a refl q.1 (omega arith) (omega arith))
+          (calm_alternatives more path around (suc k) homes a p.1 (omega arith) (omega arith))
+
+    -- where one field is the slot's, and stands here
+    direct_fields : (fs : Fields) (path around : List ℕ) (k : ℕ) (homes : List (List ℕ)) → holds around s ≡ true → fields_held homes fs ≡ true → inserts fs ≡ true
+        → fields_in (field_nodes path around k fs) ≤ 1 → about (field_nodes path around k fs) ≤ total → Calm total (field_nodes path around k fs)
+    direct_fields no_fields path around k homes a h i z l = calm_none total
+    direct_fields (component name g presence default own fs) path around k homes a h i z l =
         let p = and_parts (slot_held homes own && (tests_held homes (presence_tests presence) && held homes g)) (fields_held homes fs) h in
         let q = and_parts (slot_held homes own) (tests_held homes (presence_tests presence) && held homes g) p.0 in
         let r = and_parts (tests_held homes (presence_tests presence)) (held homes g) q.1 in
-        join (nodes (a_component name presence own) (path ++ k ∷ []) around g) (field_nodes path around (suc k) fs)
-        (found_grammar g (a_component name presence own) (path ++ k ∷ []) around homes a e (not_own homes own e q.0) (not_named test_slot homes (presence_tests presence) e r.0) r.1)
-        (found_fields fs path around (suc k) homes a e p.1)
-    found_fields (inserted name g slot fs) path around k homes a e h =
+        let role = a_component name presence own in
+        let xs = nodes role (path ++ k ∷ []) around g in
+        let ys = field_nodes path around (suc k) fs in
+        let b = fields_append xs ys in
+        let c = count-append s 0 xs ys in
+        let e = inner_fields g role (path ++ k ∷ []) around in
+        let f = inner_about g role (path ++ k ∷ []) around in
+        let some = near_some fs path around (suc k) (inserts_near fs i) in
+        let seen = fields_about ys in
+        let n : is_slot s own ≡ false = no_slot (is_slot s own) (fields_in (inner g (path ++ k ∷ []) around)) (fields_in xs) e (omega arith) in
+        calm_join total xs ys
+        (calm_grammar g role (path ++ k ∷ []) around homes a (aside_role total role n) r.1 (omega arith) (omega arith))
+        (direct_fields fs path around (suc k) homes a p.1 i (omega arith) (omega arith))
+    direct_fields (inserted name g slot fs) path around k homes a h i z l =
         let p = and_parts (slot_held homes slot && held homes g) (fields_held homes fs) h in
         let q = and_parts (slot_held homes slot) (held homes g) p.0 in
-        join (nodes (an_inserted name slot) (path ++ k ∷ []) around g) (field_nodes path around (suc k) fs)
-        (found_grammar g (an_inserted name slot) (path ++ k ∷ []) around homes a e (not_own homes slot e q.0) refl q.1)
-        (found_fields fs path around (suc k) homes a e p.1)
+        let role = an_inserted name slot in
+        let xs = nodes role (path ++ k ∷ []) around g in
+        let ys = field_nodes path around (suc k) fs in
+        let b = fields_append xs ys in
+        let c = count-append s 0 xs ys in
+        let e = inner_fields g role (path ++ k ∷ []) around in
+        let f = inner_about g role (path ++ k ∷ []) around in
+        direct_case (is_slot s slot) refl i
+        (λ d.
+        let w : weight (is_slot s slot) ≡ 1 = ap weight d in
+        let o = own_about g role (path ++ k ∷ []) around d in
+        calm_join total xs ys
+        (calm_grammar g role (path ++ k ∷ []) around homes a refl q.1 (omega arith) (omega arith))
+        (calm_fields fs path around (suc k) homes a p.1 (omega arith) (omega arith)))
+        (λ j.
+        let some = near_some fs path around (suc k) (inserts_near fs j) in
+        let seen = fields_about ys in
+        calm_join total xs ys
+        (calm_grammar g role (path ++ k ∷ []) around homes a refl q.1 (omega arith) (omega arith))
+        (direct_fields fs path around (suc k) homes a p.1 j (omega arith) (omega arith)))
+      where
+        direct_case : {C : Type 0} (b : Bool) → is_slot s slot ≡ b → (b || inserts fs) ≡ true → (is_slot s slot ≡ true → C) → (inserts fs ≡ true → C) → C
+        direct_case true d j f g' = f d
+        direct_case false d j f g' = g' j
 
-    found_alternatives : (as' : Alternatives) (path around : List ℕ) (k : ℕ) (homes : List (List ℕ)) → holds around s ≡ false → is_held homes s ≡ false → alternatives_held homes as' ≡ true → Found (alternative_nodes path around k as')
-    found_alternatives no_alternatives path around k homes a e h = found_none
-    found_alternatives (alternative name g tests more) path around k homes a e h =
+  direct_homes : (fs : Fields) (home path around : List ℕ) (homes : List (List ℕ)) → holds home s ≡ true → inserts fs ≡ true → fields_held homes fs ≡ true
+      → fields_in (field_nodes path (home ++ around) 0 fs) ≤ 1 → about (field_nodes path (home ++ around) 0 fs) ≤ 2 ^ 32 - 1 → Homes (seq fs home) (field_nodes path (home ++ around) 0 fs)
+  direct_homes fs home path around homes k i h z l =
+      let xs = field_nodes path (home ++ around) 0 fs in
+      let total = all_of xs in
+      let a : holds (home ++ around) s ≡ true = holds-append home around s ∙ rw k refl in
+      let calm = direct_fields total (omega arith) fs path (home ++ around) 0 homes a h i z (omega arith) in
+      let n = inserts_near fs i in
+      record { is = refl; near = n; fields = near_some fs path (home ++ around) 0 n; right = calm.right; home = rw (k, same_self total, calm.apart, n) refl }
+
+  seq_case : (fs : Fields) (home path around : List ℕ) (homes : List (List ℕ)) → holds around s ≡ false → all_right (seq fs home) fs home ≡ true → fields_held homes fs ≡ true
+      → about (field_nodes path (home ++ around) 0 fs) ≤ 2 ^ 32 - 1 → (b : Bool) → holds home s ≡ b
+      → (holds home s ≡ false → Found (field_nodes path (home ++ around) 0 fs)) → Inner (seq fs home) (field_nodes path (home ++ around) 0 fs)
+  seq_case fs home path around homes a r h l true k f = by (all_gives (seq fs home) fs home r k)
+    where
+      few : (b : Bool) → nat_lt 1 (fields_in (field_nodes path (home ++ around) 0 fs)) ≡ b → inserts fs ≡ true → Inner (seq fs home) (field_nodes path (home ++ around) 0 fs)
+      few true e i = more_here (two (fields_in (field_nodes path (home ++ around) 0 fs)) e)
+        where
+          two : (n : ℕ) → nat_lt 1 n ≡ true → 2 ≤ n
+          two n e = grind (arith, nat_tests)
+      few false e i = home_here (direct_homes fs home path around homes k i h (one (fields_in (field_nodes path (home ++ around) 0 fs)) e) l)
+        where
+          one : (n : ℕ) → nat_lt 1 n ≡ false → n ≤ 1
+          one n e = grind (arith, nat_tests)
+
+      by : (inserts fs ≡ true) ⊎ (right_inside (seq fs home) s ≡ true) → Inner (seq fs home) (field_nodes path (home ++ around) 0 fs)
+      by (inl i) = few (nat_lt 1 (fields_in (field_nodes path (home ++ around) 0 fs))) refl i
+      by (inr q) = home_here (homes_from fs home path around a k q)
+  seq_case fs home path around homes a r h l false k f = other_here (quiet_seq fs home k) (f k)
+
+  mutual
+    found_grammar : (g : Grammar) (role : Role) (path around : List ℕ) (homes : List (List ℕ)) → holds around s ≡ false → is_held homes s ≡ false → is_slot s (slot_here role) ≡ false → tests_name s (own_tests role) ≡ false
+        → held homes g ≡ true → about (nodes role path around g) ≤ 2 ^ 32 - 1 → Found (nodes role path around g)
+    found_grammar (node align form) role path around homes a e f t h l =
+        let p = and_parts (uses_held homes form) (form_held homes form) h in
+        let at : Stand = record { path = path; around = around; role = role; align = align; form = form } in
+        found_node at (record { own = f; tests = t; uses = not_named slot_of homes (form_uses form) e p.0 }) (found_form form path around homes a e p.1 (let b = inner_about (node align form) role path around in omega arith))
+
+    found_form : (form : Form) (path around : List ℕ) (homes : List (List ℕ)) → holds around s ≡ false → is_held homes s ≡ false → form_held homes form ≡ true → about (form_nodes path around form) ≤ 2 ^ 32 - 1 → Inner form (form_nodes path around form)
+    found_form (seq fs home) path around homes a e h l =
+        let p = and_parts (nat_lt (length homes) LEVELS) (all_right (seq fs home) fs home && fields_held (homes ++ (home ∷ [])) fs) h in
+        let q = and_parts (all_right (seq fs home) fs home) (fields_held (homes ++ (home ∷ [])) fs) p.1 in
+        seq_case fs home path around (homes ++ (home ∷ [])) a q.0 q.1 l (holds home s) refl
+        (λ k. found_fields fs path (home ++ around) 0 (homes ++ (home ∷ [])) (holds-append home around s ∙ or_of (holds home s) (holds around s) k a)
+        (list_any-append (λ ss. holds ss s) homes (home ∷ []) ∙ or_of (is_held homes s) (holds home s || false) e (rw k refl)) q.1 l)
+    found_form (num leaf) path around homes a e h l = other_here (λ total xs k. refl) found_none
+    found_form (octets sizing) path around homes a e h l = other_here (λ total xs k. refl) found_none
+    found_form (bits sizing) path around homes a e h l = other_here (λ total xs k. refl) found_none
+    found_form (text leaf) path around homes a e h l = other_here (λ total xs k. refl) found_none
+    found_form (list sizing g) path around homes a e h l = other_here (λ total xs k. refl) (found_grammar g an_element (path ++ 0 ∷ []) around homes a e refl refl h l)
+    found_form (choice cases rule) path around homes a e h l = other_here (λ total xs k. refl) (found_alternatives cases path around 0 homes a e h l)
+    found_form (contained sizing g) path around homes a e h l = other_here (λ total xs k. refl) (found_grammar g a_content (path ++ 0 ∷ []) around homes a e refl refl h l)
+
+    found_fields : (fs : Fields) (path around : List ℕ) (k : ℕ) (homes : List (List ℕ)) → holds around s ≡ false → is_held homes s ≡ false → fields_held homes fs ≡ true → about (field_nodes path around k fs) ≤ 2 ^ 32 - 1 → Found (field_nodes path around k fs)
+    found_fields no_fields path around k homes a e h l = found_none
+    found_fields (component name g presence default own fs) path around k homes a e h l =
+        let p = and_parts (slot_held homes own && (tests_held homes (presence_tests presence) && held homes g)) (fields_held homes fs) h in
+        let q = and_parts (slot_held homes own) (tests_held homes (presence_tests presence) && held homes g) p.0 in
+        let r = and_parts (tests_held homes (presence_tests presence)) (held homes g) q.1 in
+        let c = count-append s 0 (nodes (a_component name presence own) (path ++ k ∷ []) around g) (field_nodes path around (suc k) fs) in
+        join (nodes (a_component name presence own) (path ++ k ∷ []) around g) (field_nodes path around (suc k) fs)
+        (found_grammar g (a_component name presence own) (path ++ k ∷ []) around homes a e (not_own homes own e q.0) (not_named test_slot homes (presence_tests presence) e r.0) r.1 (omega arith))
+        (found_fields fs path around (suc k) homes a e p.1 (omega arith))
+    found_fields (inserted name g slot fs) path around k homes a e h l =
+        let p = and_parts (slot_held homes slot && held homes g) (fields_held homes fs) h in
+        let q = and_parts (slot_held homes slot) (held homes g) p.0 in
+        let c = count-append s 0 (nodes (an_inserted name slot) (path ++ k ∷ []) around g) (field_nodes path around (suc k) fs) in
+        join (nodes (an_inserted name slot) (path ++ k ∷ []) around g) (field_nodes path around (suc k) fs)
+        (found_grammar g (an_inserted name slot) (path ++ k ∷ []) around homes a e (not_own homes slot e q.0) refl q.1 (omega arith))
+        (found_fields fs path around (suc k) homes a e p.1 (omega arith))
+
+    found_alternatives : (as' : Alternatives) (path around : List ℕ) (k : ℕ) (homes : List (List ℕ)) → holds around s ≡ false → is_held homes s ≡ false → alternatives_held homes as' ≡ true → about (alternative_nodes path around k as') ≤ 2 ^ 32 - 1 → Found (alternative_nodes path around k as')
+    found_alternatives no_alternatives path around k homes a e h l = found_none
+    found_alternatives (alternative name g tests more) path around k homes a e h l =
         let p = and_parts (tests_held homes tests && held homes g) (alternatives_held homes more) h in
         let q = and_parts (tests_held homes tests) (held homes g) p.0 in
+        let c = count-append s 0 (nodes (an_alternative name tests) (path ++ k ∷ []) around g) (alternative_nodes path around (suc k) more) in
         join (nodes (an_alternative name tests) (path ++ k ∷ []) around g) (alternative_nodes path around (suc k) more)
-        (found_grammar g (an_alternative name tests) (path ++ k ∷ []) around homes a e refl (not_named test_slot homes tests e q.0) q.1)
-        (found_alternatives more path around (suc k) homes a e p.1)
+        (found_grammar g (an_alternative name tests) (path ++ k ∷ []) around homes a e refl (not_named test_slot homes tests e q.0) q.1 (omega arith))
+        (found_alternatives more path around (suc k) homes a e p.1 (omega arith))
 
-  pub held_right : (root : Grammar) (n : ℕ) → slots_of (nodes_of root) ≡ range_with_len 0 n → s < n → held [] root ≡ true → slot_kept root s ≡ true
-  held_right root n e l h = from_found (found_grammar root root_node [] [] [] refl refl refl refl h)
+  pub held_right : (root : Grammar) (n : ℕ) → about (nodes_of root) ≤ 2 ^ 32 - 1 → slots_of (nodes_of root) ≡ range_with_len 0 n → s < n → held [] root ≡ true → slot_kept root s ≡ true
+  held_right root n m e l h = from_found (found_grammar root root_node [] [] [] refl refl refl refl h m)
     where
       from_found : Found (nodes_of root) → slot_kept root s ≡ true
       from_found (nothing_here p) = (let c = p.count in let f = one_field (nodes_of root) n e l in let g = fields_about (nodes_of root) in absurd (omega arith))
@@ -434,4 +728,4 @@ held_tree root u r e k h t =
     let n = length (slots_of (nodes_of root)) in
     let numbered = same_is (slots_of (nodes_of root)) (range_with_len 0 n) facts.slots in
     let nx : u.next ≡ n = next_is root u e in
-    sym (tree_from root u e k (all_range (slot_kept root) 0 u.next (λ s l. held_right s root n numbered (omega arith) (sym h ∙ t))))
+    sym (tree_from root u e k (all_range (slot_kept root) 0 u.next (λ s l. held_right s root n (let b = count_by-le-length (is_about s) (nodes_of root) in let f = facts.fits in omega arith) numbered (omega arith) (sym h ∙ t))))

@@ -135,7 +135,7 @@ fn is_seq(body: &Body) -> bool
     matches!(body, Body::Seq(_))
 }
 
-fn is_slot(found: &Option<u32>, slot: u32) -> bool
+pub fn is_slot(found: &Option<u32>, slot: u32) -> bool
     ensures { result ≡ tree.is_slot slot found.now }
 {
     match found {

@@ -1,14 +1,16 @@
 //! One walk with the homes that are open, which looks inside each home alone.
 //!
 //! Where each field's slot and each use is at home in a SEQUENCE round it, nothing outside a home is about its slots, and so
-//! what is seen inside the home is all. The time is that of the open slots of all nodes together.
+//! what is seen inside the home is all. Where a slot's inserted field stands in the home itself, no SEQUENCE further inside
+//! has it, and one needn't look at all. The time grows as the nodes, and as the slots whose fields stand in SEQUENCEs
+//! inside their homes times the nodes of these homes.
 ghost use Rattle.std.specs.Prelude.{◌≡◌, ◌<◌, ◌++◌, [], ◌∷◌, length, map};
 ghost use Rattle.std.specs.List.{list_all};
 ghost use Rattle.acn_grammar.specs.View.{grammar_of, form_of, field_of, alternative_of, fields_view, alternatives_view};
 ghost use Rattle.acn_grammar.specs.Walk.{rule_uses, choice_uses, slot_of};
 ghost use Rattle.acn_well_formed.specs.Held as spec;
 
-use crate::homes::{Sought, holds, look_inside};
+use crate::homes::{Sought, holds, is_slot, look_inside};
 use crate::node_rules::{conditions, test_slot};
 use acn_grammar::{Alternative, Body, ChoiceRule, Field, Node, SizeRule, Test};
 use arrayvec::ArrayVec;
@@ -95,12 +97,63 @@ fn right_inside(body: &Body, slot: u32) -> bool
     seen.fine
 }
 
-// Whether each slot at home in this SEQUENCE is right inside it.
-fn all_right_inside(body: &Body, home: &[u32]) -> bool
-    ensures { result ≡ list_all (spec.right_inside (form_of body.now)) home.now }
+fn not_below(found: &Option<u32>, slot: u32) -> bool
+    ensures { result ≡ spec.not_below slot found.now }
 {
+    match found {
+        None => false,
+        Some(found) => slot <= *found,
+    }
+}
+
+fn is_from(field: &Field, slot: u32) -> bool
+    ensures { result ≡ spec.is_from slot (field_of field.now) }
+{
+    match field {
+        Field::Component { .. } => false,
+        Field::Inserted { slot: found, .. } => not_below(found, slot),
+    }
+}
+
+// The fields from the first inserted one on whose slot isn't below this one.
+fn from_slot(fields: &[Field], slot: u32) -> &[Field]
+    ensures { fields_view result.now ≡ spec.from_slot slot (fields_view fields.now) }
+{
+    for at in 0..fields.len() {
+        if is_from(&fields[at], slot) {
+            return &fields[at..];
+        }
+    }
+    &[]
+}
+
+fn is_inserted(field: &Field, slot: u32) -> bool
+    ensures { result ≡ spec.is_inserted slot (field_of field.now) }
+{
+    match field {
+        Field::Component { .. } => false,
+        Field::Inserted { slot: found, .. } => is_slot(found, slot),
+    }
+}
+
+// Whether the first of the fields is inserted and says the slot.
+fn stands_first(fields: &[Field], slot: u32) -> bool
+    ensures { result ≡ spec.stands_first slot (fields_view fields.now) }
+{
+    match fields.first() {
+        None => false,
+        Some(field) => is_inserted(field, slot),
+    }
+}
+
+// Whether each slot at home in this SEQUENCE is that of an inserted field in it, or right inside it.
+fn all_right(body: &Body, fields: &[Field], home: &[u32]) -> bool
+    ensures { result ≡ spec.all_right (form_of body.now) (fields_view fields.now) home.now }
+{
+    let mut rest = fields;
     for slot in home {
-        if !right_inside(body, *slot) {
+        rest = from_slot(rest, *slot);
+        if !stands_first(rest, *slot) && !right_inside(body, *slot) {
             return false;
         }
     }
@@ -138,7 +191,7 @@ fn body_held<'a>(body: &'a Body, homes: &[&'a [u32]]) -> bool
                 return false;
             }
             let inner = with_home(homes, seq.home.items());
-            all_right_inside(body, seq.home.items())
+            all_right(body, seq.fields.items(), seq.home.items())
                 && fields_held(seq.fields.items(), inner.as_slice())
         }
         Body::List(_, inside) => node_held(inside.get(), homes),
