@@ -2,10 +2,9 @@
 use Rattle.std.proofs.Common.{◌≡◌, ◌⊎◌, inl, inr, ℕ, suc, ℤ, Bool, true, false, not, ◌&&◌, ◌||◌, List, [], ◌∷◌, ◌++◌, length, map, Option, Some, None, refl, sym, ap, ◌∙◌, subst, arith, nat_eq}
 use Rattle.std.specs.Prelude.{option_map, if◌then◌else◌, Result, Ok, Err, IfOk}
 use Rattle.std.specs.List.{list_any}
-use Rattle.std.specs.Ordering.{int_eq, int_cmp, is_eq}
+use Rattle.std.specs.Ordering.{int_eq}
 use Rattle.std.proofs.lemmas.Bool.{and_parts, or_parts, or_cases, not-true, cases_Bool, eqb-true}
 use Rattle.std.proofs.lemmas.Bool.Decides.{nat_tests}
-use Rattle.std.proofs.lemmas.Cmp.{int_cmp_total}
 use Rattle.std.proofs.lemmas.Int.{ints}
 use Rattle.std.proofs.lemmas.List.{append-nil}
 use Rattle.acn_grammar.specs.Env.{Env, at_slot, Holds, AllHold}
@@ -13,12 +12,8 @@ use Rattle.acn_grammar.specs.Leaves.{all_differ}
 use Rattle.acn_grammar.specs.Slots.{first_of_two}
 use Rattle.acn_grammar.specs.declared.node.Test.{Test}
 use Rattle.acn_grammar.specs.declared.node.Test.TheVariants.{Flag, Equals}
-use Rattle.acn_leaf.proofs.Differ.{Tells}
 use Rattle.acn_check.specs.First.{Det, asked, gathered, given, only_if, permits, common, has_some, both_hold, overlapping, against, pairs, number_asked, is_other, disputes, clash, numbers_on, differ_in, have_own, NoneMeet}
 use Rattle.acn_check.proofs.Gathered.{gathering}
-
-int_eq_is : (x y : ℤ) → int_eq x y ≡ true → x ≡ y
-int_eq_is x y h = grind (arith, ints)
 
 int_same : (x : ℤ) → int_eq x x ≡ true
 int_same x = grind (arith, ints)
@@ -122,9 +117,3 @@ own_apart s cases h ds path = by (numbers_on s cases) refl h
 pub if_own : {E : Type 0} (r : Result Bool E) (s : ℕ) (cases : List (List ℕ × List Test)) → IfOk r (λ own. own ≡ have_own s cases) → IfOk r (λ told. told ≡ true → NoneMeet cases)
 if_own (Ok b) s cases h = λ t. own_apart s cases (sym h ∙ t)
 if_own (Err e) s cases h = tt
-
-pub by_numbers : Tells int_cmp int_eq
-by_numbers = record { total = int_cmp_total; ties = λ x y. tied x y; is = int_eq_is }
-  where
-    tied : (x y : ℤ) → int_eq x y ≡ is_eq (int_cmp x y)
-    tied x y = grind (arith, ints)

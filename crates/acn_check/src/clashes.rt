@@ -3,9 +3,8 @@ ghost use Rattle.std.specs.Prelude.{◌≡◌, true, map, option_map, IfOk};
 ghost use Rattle.std.specs.Ordering.{int_eq};
 ghost use Rattle.acn_check.specs.First as spec;
 ghost use Rattle.acn_check.specs.Program.{cases_of};
-ghost use Rattle.acn_grammar.specs.Leaves.{all_differ};
-ghost use Rattle.acn_leaf.specs.Neighbours as neighbours;
 
+use acn_leaf::numbers_differ;
 use acn_num::NoMemory;
 use acn_tree::{Alternative, Test};
 use std::alloc::Global;
@@ -92,36 +91,6 @@ fn numbers_on(
         }
     }
     Ok(Some(numbers))
-}
-
-// Whether the first of the numbers behind one is the same.
-fn is_next(number: &i128, behind: &[i128]) -> bool
-    ensures { result ≡ neighbours.is_next int_eq number.now behind.now }
-{
-    match behind.first() {
-        Some(other) => is_number(number, other),
-        None => false,
-    }
-}
-
-// Whether no two neighbours are the same.
-fn neighbours_differ(numbers: &[i128]) -> bool
-    ensures { result ≡ neighbours.neighbours_differ int_eq numbers.now }
-{
-    for at in 0..numbers.len() {
-        if is_next(&numbers[at], &numbers[at + 1..]) {
-            return false;
-        }
-    }
-    true
-}
-
-// Whether no two of the numbers are the same. It sorts them.
-fn numbers_differ(numbers: &mut [i128]) -> bool
-    ensures { result ≡ all_differ int_eq numbers.old }
-{
-    numbers.sort_unstable();
-    neighbours_differ(numbers)
 }
 
 // Whether each alternative asks a number of its own of the slot.

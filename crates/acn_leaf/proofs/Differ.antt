@@ -1,5 +1,5 @@
 -- What is sorted differs where no two neighbours are the same.
-use Rattle.std.proofs.Common.{zero, suc, ◌++◌, ◌≡◌, ◌⊎◌, ℕ, ℤ, ◌+◌, ◌≤◌, Bool, true, false, not, ◌&&◌, ◌||◌, List, [], ◌∷◌, map, nat_eq, cond, refl, sym, ap, subst, ◌∙◌, arith, inl, inr, Ordering, Less}
+use Rattle.std.proofs.Common.{zero, suc, ◌++◌, ◌≡◌, ◌⊎◌, ℕ, ℤ, ◌+◌, ◌≤◌, Bool, true, false, not, List, [], ◌∷◌, map, nat_eq, cond, refl, sym, ap, subst, ◌∙◌, arith, inl, inr, Ordering, Less}
 use Rattle.std.specs.List.{list_any, sum_by, dedup, dedup_from, AllByRecursion}
 use Rattle.std.specs.List.Sorted.{IsSorted, IsStrictlySortedBy, IsPermutation}
 use Rattle.std.specs.Cmp.{IsTotalOrder, both_ways}
@@ -14,7 +14,7 @@ use Rattle.std.proofs.lemmas.List.Sorted.{IsPermutation-map, sum_by-IsPermutatio
 use Rattle.std.proofs.lemmas.List.Sums.{sum_by-cons, sum_by-append}
 use Rattle.acn_grammar.specs.Asks.{same_name}
 use Rattle.acn_grammar.specs.Leaves.{all_differ}
-use Rattle.acn_leaf.specs.Neighbours.{is_next, neighbours_differ}
+use Rattle.acn_leaf.specs.Neighbours.{neighbours_differ}
 
 -- Names are told apart by the order of their octets.
 

@@ -1,4 +1,5 @@
-mod Blocks
+-- for acn_well_formed
+pub mod Blocks
 mod CodeLengths
 -- for acn_well_formed and acn_check
 pub mod Differ

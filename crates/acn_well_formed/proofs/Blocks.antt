@@ -1,18 +1,12 @@
 -- Names in blocks.
-use Rattle.std.proofs.Common.{◌≡◌, ℕ, ◌+◌, ◌≤◌, Bool, true, false, ◌&&◌, List, [], ◌∷◌, ◌++◌, map, inl, inr, length, nat_eq, arith, refl, sym, ap, ◌∙◌, subst}
-use Rattle.std.specs.Cmp.Lexicographic.{slice_cmp}
-use Rattle.std.specs.Ordering.{nat_cmp}
+use Rattle.std.proofs.Common.{◌≡◌, ℕ, Bool, true, List, [], ◌∷◌, ◌++◌, map, length, nat_eq, arith, refl, sym, ap, ◌∙◌}
 use Rattle.std.proofs.lemmas.Bool.Decides.{nat_tests}
-use Rattle.std.proofs.lemmas.List.{append_assoc, append-nil}
-use Rattle.acn_grammar.specs.Asks.{same_name}
-use Rattle.acn_grammar.specs.Leaves.{all_differ}
 use Rattle.acn_grammar.specs.Tree.{field_names}
 use Rattle.acn_grammar.specs.View.{OneField, a_component, an_inserted, with_field, field_of, fields_view, alternative_of, alternatives_view}
 use Rattle.acn_grammar.specs.Grammar.{Fields}
 use Rattle.acn_grammar.specs.Walk.{conditions_of}
 use Rattle.acn_grammar.specs.declared.node.Alternative.{Alternative}
 use Rattle.acn_grammar.specs.declared.node.Field.{Field}
-use Rattle.acn_leaf.proofs.Differ.{Alone, alone_more, front_alone, block_fails, by_octets}
 use Rattle.acn_well_formed.specs.Kept.{name_in}
 
 abbrev pub names : List Field → List (List ℕ)
@@ -28,42 +22,6 @@ names_append (x ∷ xs) ys = first_name (field_of x) (fields_view (xs ++ ys)) �
 
 pub names_split : (fs block more : List Field) → fs ≡ block ++ more → names fs ≡ names block ++ names more
 names_split fs block more e = ap names e ∙ names_append block more
-
-abbrev Names : Type 0
-Names = List (List ℕ)
-
-abbrev pub differ : Names → Bool
-differ = all_differ same_name
-
--- a block differs from all that was passed of the names behind it
-pub record Passed (block behind rest : Names) : Type 0 where
-  pub done : Names
-  pub whole : behind ≡ done ++ rest
-  pub alone : Alone (slice_cmp nat_cmp) same_name by_octets block done
-  pub front : differ block ≡ true
-
-pub begun : (block behind none : Names) → none ≡ [] → differ (block ++ none) ≡ true → Passed block behind behind
-begun block behind none e h = record { done = []; whole = refl; alone = λ x. inr refl; front = subst (λ l. differ l ≡ true) (ap (λ l. block ++ l) e ∙ append-nil block) h }
-
-pub passed_more : (block behind rest next more : Names) → rest ≡ next ++ more → differ (block ++ next) ≡ true → Passed block behind rest → Passed block behind more
-passed_more block behind rest next more e h p = record {
-  done = p.done ++ next;
-  whole = p.whole ∙ (ap (λ l. p.done ++ l) e ∙ sym (append_assoc p.done next more));
-  alone = alone_more (slice_cmp nat_cmp) same_name by_octets block p.done next p.alone h;
-  front = p.front;
-}
-
-pub passed_all : (block behind rest : Names) → rest ≡ [] → Passed block behind rest → differ (block ++ behind) ≡ differ behind
-passed_all block behind rest e p =
-    let whole : p.done ≡ behind = sym (p.whole ∙ (ap (λ l. p.done ++ l) e ∙ append-nil p.done)) in
-    front_alone (slice_cmp nat_cmp) same_name by_octets block behind p.front (subst (Alone (slice_cmp nat_cmp) same_name by_octets block) whole p.alone)
-
-pub passed_fails : (block behind rest next more : Names) → rest ≡ next ++ more → differ (block ++ next) ≡ false → Passed block behind rest → differ (block ++ behind) ≡ false
-passed_fails block behind rest next more e h p =
-    ap (λ l. differ (block ++ l)) (p.whole ∙ ap (λ l. p.done ++ l) e) ∙ block_fails (slice_cmp nat_cmp) same_name by_octets block p.done next more h
-
-pub first_fails : (block behind none : Names) → none ≡ [] → differ (block ++ none) ≡ false → differ (block ++ behind) ≡ false
-first_fails block behind none e h = block_fails (slice_cmp nat_cmp) same_name by_octets block [] [] behind (subst (λ l. differ (block ++ l) ≡ false) e h)
 
 pub none_left : (b : Bool) (fs : List Field) → b ≡ nat_eq (length fs) 0 → b ≡ true → names fs ≡ []
 none_left b [] e h = refl

@@ -13,7 +13,6 @@ use Rattle.acn_grammar.specs.Tree.{is_tree, holds, is_seq, is_slot, is_about, ne
 use Rattle.acn_grammar.specs.Walk.{Stand, Role, root_node, a_component, an_inserted, an_alternative, an_element, a_content, nodes, form_nodes, field_nodes, alternative_nodes, nodes_of, inside, uses, slot_of, slot_here, own_tests, form_uses, presence_tests}
 use Rattle.acn_grammar.specs.declared.node.Presence.{Presence}
 use Rattle.acn_grammar.specs.declared.node.Presence.TheVariants.{Always, Bit, When}
-use Rattle.acn_grammar.specs.declared.node.Test.{Test}
 use Rattle.acn_well_formed.specs.Held.{not_below, from_slot, stands_first, all_right, is_held, slot_held, tests_held, uses_held, right_inside, held, form_held, fields_held, alternatives_held}
 use Rattle.acn_well_formed.specs.Kept.{kept}
 use Rattle.acn_well_formed.specs.Seen.{form_seen, form_names, tests_name, slot_kept, weight}
@@ -21,7 +20,7 @@ use Rattle.acn_well_formed.specs.Tallies.{tally}
 use Rattle.acn_well_formed.specs.declared.open_homes.TheConstants.{LEVELS}
 use Rattle.acn_well_formed.specs.declared.tallies.Tally.{Tally}
 use Rattle.acn_well_formed.proofs.Listed.{same_is}
-use Rattle.acn_well_formed.proofs.SeenRuns.{slot_right, role_right, own_slot, home_right, has_all, enough, uses_named, sees_form, count-append, count_first, holds-append}
+use Rattle.acn_well_formed.proofs.SeenRuns.{slot_right, role_right, home_right, has_all, enough, uses_named, sees_form, count-append, count_first, holds-append}
 use Rattle.acn_well_formed.proofs.TallyRuns.{ran}
 use Rattle.acn_well_formed.proofs.WellFormed.{slot_kept_is, tree_from, next_is, all_range, as_run, begin}
 
@@ -325,7 +324,6 @@ module _ (s : ℕ) where
   found_node at p (other_here quiet (nothing_here q)) = nothing_here (node_nothing at p quiet q)
   found_node at p (other_here quiet (whole_here q)) = whole_here (node_whole at p quiet q)
   found_node at p (other_here quiet (fields_here q)) = fields_here (let e = aside_fields at (inside at) p in omega arith)
-
   found_node at p (more_here q) = fields_here (let e = aside_fields at (inside at) p in omega arith)
 
   -- What isn't held isn't named.
@@ -455,7 +453,7 @@ module _ (s : ℕ) where
       let e : enough s total (inside at) ≡ false = short (about (inside at)) total l m in
       record {
         right = both (slot_right s total at) (list_all (slot_right s total) (inside at))
-        (three (tests_name s (own_tests at.role) || form_names s at.form) (holds at.around s) (role_right s total at.role) (home_right s total at.form (inside at)) a r (quiet total (inside at) (rw e refl))) p.right;
+            (three (tests_name s (own_tests at.role) || form_names s at.form) (holds at.around s) (role_right s total at.role) (home_right s total at.form (inside at)) a r (quiet total (inside at) (rw e refl))) p.right;
         apart = or_of (has_all s total at) (list_any (has_all s total) (inside at)) (rw e (and_no (is_seq at.form))) p.apart;
       }
 

@@ -20,7 +20,7 @@ use Rattle.acn_well_formed.specs.declared.tallies.Tally.{Tally}
 use Rattle.acn_well_formed.proofs.KeptRuns.{home_low, kept_of, kept_node}
 use Rattle.acn_grammar.proofs.TreeRules.{StandFine, stand_fine, list_all-append}
 use Rattle.acn_well_formed.proofs.Listed.{same_is, same_refl, chosen_holds, chosen_rise, chosen_below, listed}
-use Rattle.acn_well_formed.proofs.SeenRuns.{sees_grammar, slot_right, role_right, own_slot, home_right, has_all, enough, uses_named}
+use Rattle.acn_well_formed.proofs.SeenRuns.{sees_grammar, slot_right, role_right, home_right, has_all, enough, uses_named}
 use Rattle.std.proofs.lemmas.Bool.{eqb-true, ltb-true, lt-ltb, or_right, and_parts}
 
 pub not_true : (b : Bool) → (b ≡ true → ⊥) → false ≡ b

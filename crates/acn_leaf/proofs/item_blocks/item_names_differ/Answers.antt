@@ -1,7 +1,5 @@
 use Rattle.std.proofs.Common.{ℕ, List, sym, ◌∙◌}
 use Rattle.std.specs.Prelude.{ℤ}
-use Rattle.std.specs.Cmp.Lexicographic.{slice_cmp}
-use Rattle.std.specs.Ordering.{nat_cmp}
 use Rattle.acn_grammar.specs.Asks.{same_name}
 use Rattle.acn_leaf.proofs.Blocks.{keyed}
 use Rattle.acn_leaf.proofs.item_blocks.item_names_differ.Goals as goal

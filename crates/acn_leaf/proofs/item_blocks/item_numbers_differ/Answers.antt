@@ -1,6 +1,6 @@
 use Rattle.std.proofs.Common.{ℕ, List, sym, ◌∙◌}
 use Rattle.std.specs.Prelude.{ℤ}
-use Rattle.std.specs.Ordering.{int_cmp, int_eq}
+use Rattle.std.specs.Ordering.{int_eq}
 use Rattle.acn_leaf.proofs.Blocks.{keyed}
 use Rattle.acn_leaf.proofs.item_blocks.item_numbers_differ.Goals as goal
 

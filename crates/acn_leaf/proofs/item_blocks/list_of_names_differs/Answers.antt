@@ -1,7 +1,5 @@
 use Rattle.std.proofs.Common.{ℕ, List, map, ◌&&◌, sym, ap, ◌∙◌}
 use Rattle.std.specs.Prelude.{ℤ}
-use Rattle.std.specs.Cmp.Lexicographic.{slice_cmp}
-use Rattle.std.specs.Ordering.{nat_cmp}
 use Rattle.acn_grammar.specs.Asks.{same_name}
 use Rattle.acn_grammar.specs.Leaves.{all_differ}
 use Rattle.acn_leaf.proofs.Blocks.{keys_split}

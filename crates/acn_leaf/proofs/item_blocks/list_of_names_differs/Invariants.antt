@@ -1,6 +1,4 @@
 use Rattle.std.proofs.Common.{◌≡◌, length, map}
-use Rattle.std.specs.Cmp.Lexicographic.{slice_cmp}
-use Rattle.std.specs.Ordering.{nat_cmp}
 use Rattle.acn_grammar.specs.Asks.{same_name}
 use Rattle.acn_grammar.specs.Leaves.{all_differ}
 use Rattle.acn_leaf.proofs.item_blocks.list_of_names_differs.Given as goal

@@ -1,6 +1,6 @@
 use Rattle.std.proofs.Common.{ℕ, List, map, ◌&&◌, sym, ap, ◌∙◌}
 use Rattle.std.specs.Prelude.{ℤ}
-use Rattle.std.specs.Ordering.{int_cmp, int_eq}
+use Rattle.std.specs.Ordering.{int_eq}
 use Rattle.acn_grammar.specs.Leaves.{all_differ}
 use Rattle.acn_leaf.proofs.Blocks.{keys_split}
 use Rattle.acn_leaf.proofs.item_blocks.list_of_numbers_differs.Goals as goal

@@ -1,13 +1,15 @@
 use Rattle.std.proofs.Common.{◌&&◌, sym, ap, ◌∙◌}
-use Rattle.acn_well_formed.proofs.Blocks.{case_names, cases_split, differ}
+use Rattle.acn_grammar.specs.Asks.{same_name}
+use Rattle.acn_grammar.specs.Leaves.{all_differ}
+use Rattle.acn_well_formed.proofs.Blocks.{case_names, cases_split}
 use Rattle.acn_well_formed.proofs.names.alternative_names_differ.Goals as goal
 
 pub returns-then-not-alternative_block_differs : goal.returns-then-not-alternative_block_differs
 returns-then-not-alternative_block_differs c =
     let split = cases_split c.loop-rest.rest.now c.split_at.result.0.now c.split_at.result.1.now c.split_at.ensures.by_index.0 in
-    sym (sym c.loop-rest.invariant ∙ (ap differ split ∙ (c.alternative_block_differs.ensures ∙ ap (λ b. b && differ (case_names c.split_at.result.1.now)) c.if-not-alternative_block_differs.true)))
+    sym (sym c.loop-rest.invariant ∙ (ap (all_differ same_name) split ∙ (c.alternative_block_differs.ensures ∙ ap (λ b. b && all_differ same_name (case_names c.split_at.result.1.now)) c.if-not-alternative_block_differs.true)))
 
 pub loop-rest-preserved : goal.loop-rest-preserved
 loop-rest-preserved c =
     let split = cases_split c.loop-rest.rest.now c.split_at.result.0.now c.split_at.result.1.now c.split_at.ensures.by_index.0 in
-    sym (c.alternative_block_differs.ensures ∙ ap (λ b. b && differ (case_names c.split_at.result.1.now)) c.if-not-alternative_block_differs.false) ∙ (sym (ap differ split) ∙ c.loop-rest.invariant)
+    sym (c.alternative_block_differs.ensures ∙ ap (λ b. b && all_differ same_name (case_names c.split_at.result.1.now)) c.if-not-alternative_block_differs.false) ∙ (sym (ap (all_differ same_name) split) ∙ c.loop-rest.invariant)

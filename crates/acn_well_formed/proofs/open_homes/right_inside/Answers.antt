@@ -1,4 +1,4 @@
-use Rattle.std.proofs.Common.{ap, ◌∙◌, ℕ, true, false}
+use Rattle.std.proofs.Common.{ap, ◌∙◌, ℕ, false}
 use Rattle.acn_well_formed.specs.Held.{right_inside}
 use Rattle.acn_well_formed.specs.Seen.{form_seen}
 use Rattle.acn_grammar.specs.View.{form_of}
