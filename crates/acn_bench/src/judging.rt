@@ -82,6 +82,6 @@ pub fn time_trees(rt: &HostRuntime) -> Result<(), Fault> {
     time_tree(rt, "62 levels with headers", deep(alloc, 62, 1_048))?;
     time_tree(rt, "65,535 items", enumerated(alloc, 65_535))?;
     time_tree(rt, "65,531 alternatives by one slot", alternatives(alloc, Told::BySlot, 65_531))?;
-    time_tree(rt, "65,531 alternatives by two slots", alternatives(alloc, Told::ByPair, 65_531))?;
+    time_tree(rt, "4,096 alternatives by two slots", alternatives(alloc, Told::ByPair, 4_096))?;
     time_tree(rt, "65,531 alternatives by item", alternatives(alloc, Told::ByItem, 65_531))
 }
