@@ -6,6 +6,7 @@ mod DetLaw
 mod FirstOf
 mod Flat
 mod Gathered
+mod ItemNames
 mod KindEnds
 mod KindItems
 mod KindLaws

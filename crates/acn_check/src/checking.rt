@@ -66,13 +66,18 @@ fn can_be_read(alloc: Global, lines: &[Line], dets: &[Det]) -> Result<(), CheckF
 }
 
 // The faults 5 to 8, which concern conditions and uses.
-fn is_clear(lines: &[Line], dets: &[Det], tallies: &[Tally]) -> Result<(), CheckFault>
+fn is_clear(
+    alloc: Global,
+    lines: &[Line],
+    dets: &[Det],
+    tallies: &[Tally],
+) -> Result<(), CheckFault>
     requires { FewCases (map facts_of lines.now) }
     ensures { Told (order.dubious (map det_of dets.now) (map tally_of tallies.now) (map facts_of lines.now)) result }
 {
     all_clear(lines)?;
     all_used(lines, tallies)?;
-    all_have_items(lines, dets)?;
+    all_have_items(alloc, lines, dets)?;
     none_mixed(lines)
 }
 
@@ -114,7 +119,7 @@ fn judge(
     ensures { Told (first_fault (grammar_of tree.now.root)) result }
 {
     can_be_read(alloc, lines, dets)?;
-    is_clear(lines, dets, tallies)?;
+    is_clear(alloc, lines, dets, tallies)?;
     is_within_limits(tree, lines, tallies)
 }
 

@@ -1,7 +1,7 @@
 //! Faults of a CHOICE by itself: an alternative without an item, conditions on some alternatives alone.
-ghost use Rattle.std.specs.Prelude.{◌≡◌, ◌≤◌, length, map, not, slice_get};
+ghost use Rattle.std.specs.Prelude.{◌≡◌, ◌≤◌, ℕ, ℤ, List, [], length, map, not, slice_get, IfOk};
 ghost use Rattle.std.specs.List.{list_any};
-ghost use Rattle.acn_grammar.specs.Asks.{same_name};
+ghost use Rattle.acn_firsts.specs.Placed.{noted_all};
 ghost use Rattle.acn_grammar.specs.Tree.{has_tests};
 ghost use Rattle.acn_check.specs.Facts.{facts_of};
 ghost use Rattle.acn_check.specs.First as spec;
@@ -11,24 +11,28 @@ ghost use Rattle.acn_grammar.specs.declared.limits.TheConstants.{MOST_NODES};
 
 use crate::dets::{Det, det_of_slot};
 use crate::lines::Line;
-use acn_num::{Name, Path};
+use acn_firsts::Firsts;
+use acn_num::{Name, NoMemory, Path};
 use acn_tree::{Alternative, Body, CheckFault, ChoiceRule};
+use std::alloc::Global;
 
-fn are_same(a: &[u8], b: &[u8]) -> bool
-    ensures { result ≡ same_name a.now b.now }
+// The names of the items.
+#[tactic(auto, unfolding(acn_firsts::specs::Placed::noted_all))]
+fn item_names(alloc: Global, items: &[(Name, i128)]) -> Result<Firsts, NoMemory>
+    ensures { IfOk result (λ names. names ≡ noted_all [] (map (λ item. (item.0, 0)) items.now)) }
 {
-    a == b
+    let mut names = Firsts::new(alloc);
+    for item in items {
+        names.note(alloc, item.0.bytes(), 0)?;
+    }
+    Ok(names)
 }
 
-fn is_item(items: &[(Name, i128)], name: &[u8]) -> bool
-    ensures { result ≡ spec.is_item items.now name.now }
+// Whether the name is among those of the items.
+fn is_item(names: &Firsts, name: &[u8]) -> bool
+    ensures { (items : List (List ℕ × ℤ)) → names.now ≡ noted_all [] (map (λ item. (item.0, 0)) items) → result ≡ spec.is_item items name.now }
 {
-    for item in items {
-        if are_same(name, item.0.bytes()) {
-            return true;
-        }
-    }
-    false
+    names.get(name).is_some()
 }
 
 // The items of the slot's enumeration.
@@ -41,16 +45,16 @@ fn items_of<'d>(dets: &'d [Det], slot: u32) -> &'d [(Name, i128)]
     }
 }
 
-fn each_is_item(
-    items: &[(Name, i128)],
+fn each_is_named(
+    names: &Firsts,
     path: &Path,
     alternatives: &[Alternative],
 ) -> Result<(), CheckFault>
     requires { length alternatives.now ≤ MOST_NODES }
-    ensures { Told (spec.first_without items.now path.now (cases_of alternatives.now)) result }
+    ensures { (items : List (List ℕ × ℤ)) → names.now ≡ noted_all [] (map (λ item. (item.0, 0)) items) → Told (spec.first_without items path.now (cases_of alternatives.now)) result }
 {
     for (at, alternative) in alternatives.iter().enumerate() {
-        if !is_item(items, alternative.name.bytes()) {
+        if !is_item(names, alternative.name.bytes()) {
             return Err(CheckFault::NoItem {
                 choice: path.copy(),
                 alternative: at as u32,
@@ -60,13 +64,27 @@ fn each_is_item(
     Ok(())
 }
 
-fn line_has_items(line: &Line, dets: &[Det]) -> Result<(), CheckFault>
+fn each_is_item(
+    alloc: Global,
+    items: &[(Name, i128)],
+    path: &Path,
+    alternatives: &[Alternative],
+) -> Result<(), CheckFault>
+    requires { length alternatives.now ≤ MOST_NODES }
+    ensures { Told (spec.first_without items.now path.now (cases_of alternatives.now)) result }
+{
+    let names = item_names(alloc, items)?;
+    each_is_named(&names, path, alternatives)
+}
+
+fn line_has_items(alloc: Global, line: &Line, dets: &[Det]) -> Result<(), CheckFault>
     requires { AreFew (facts_of line.now) }
     ensures { Told (spec.without_item (map det_of dets.now) (facts_of line.now).path (facts_of line.now).form) result }
 {
     match line.body {
         Body::Choice(choice) => match choice.rule {
             ChoiceRule::Item(slot) => each_is_item(
+                alloc,
                 items_of(dets, slot),
                 &line.path,
                 choice.alternatives.items(),
@@ -78,12 +96,12 @@ fn line_has_items(line: &Line, dets: &[Det]) -> Result<(), CheckFault>
 }
 
 /// Refuses the first alternative whose name no item of its CHOICE's determinant has.
-pub fn all_have_items(lines: &[Line], dets: &[Det]) -> Result<(), CheckFault>
+pub fn all_have_items(alloc: Global, lines: &[Line], dets: &[Det]) -> Result<(), CheckFault>
     requires { FewCases (map facts_of lines.now) }
     ensures { Told (first_of (spec.no_item_at (map det_of dets.now)) 0 (map facts_of lines.now)) result }
 {
     for line in lines {
-        line_has_items(line, dets)?;
+        line_has_items(alloc, line, dets)?;
     }
     Ok(())
 }
