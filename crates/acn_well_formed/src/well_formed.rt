@@ -5,15 +5,18 @@
 //! 1. One walk counts nodes and slots. It stops where a node is more than `MOST_STEPS` steps away, a node too many comes or a slot
 //!    doesn't have the next number. Behind it the slots of the tree are the numbers from 0 up to a count.
 //! 2. One walk tests what concerns each node by itself, and that each slot that a use or a home names is below the count
-//!    and each home rises. So nothing names a slot that step 3 doesn't look at, and a home that rises is the list of the
+//!    and each home rises. So nothing names a slot that step 4 doesn't look at, and a home that rises is the list of the
 //!    slots at home exactly where, slot by slot, it holds those and no others.
-//! 3. Two walks a slot. The first counts the nodes that are the slot's field or use it. The second compares with that
-//!    count what each SEQUENCE has inside it: the slot is at home where all of them are inside and no SEQUENCE further
+//! 3. One walk with the homes that are open (`open_homes`). It tests that each field's slot and each use is at home in a SEQUENCE
+//!    round it, and looks inside each home for the slots whose fields don't stand in it directly. What it accepts is a tree.
+//! 4. Where step 3 refuses, two walks a slot. The first counts the nodes that are the slot's field or use it. The second compares
+//!    with that count what each SEQUENCE has inside it: the slot is at home where all of them are inside and no SEQUENCE further
 //!    inside has them all. It tests that each home holds the slot exactly there, that nothing that may be absent stands
 //!    between the home and the field, that every use stands inside the home, and that a component that says the slot has a use.
 //!
-//! The definition asks of each node about each slot, step 3 of each slot about each node: both ask all pairs. The counts of
-//! step 3 end at the greatest number of 32 bits, which step 1 keeps out of reach. The time grows as slots times nodes.
+//! The definition asks of each node about each slot, step 4 of each slot about each node: both ask all pairs. The counts of
+//! step 4 end at the greatest number of 32 bits, which step 1 keeps out of reach. Step 3 takes the time of the nodes and of the
+//! open slots of all nodes together, step 4 that of slots times nodes.
 
 ghost use Rattle.std.specs.Prelude.{◌≡◌, ◌≤◌, ◌<◌, ◌^◌};
 ghost use Rattle.std.specs.List.{list_all, range_with_len};
