@@ -1,6 +1,6 @@
 -- Some code of a leaf begins with a pattern exactly where its written numbers say so.
-use Rattle.std.proofs.Common.{◌≡◌, ◌≢◌, ◌⊎◌, inl, inr, ℕ, zero, suc, ◌+◌, ◌-◌, ◌*◌, ◌/◌, ◌^◌, ◌<◌, ◌≤◌, ℤ, pos, ◌+ℤ◌, Bool, true, false, not, List, [], ◌∷◌, ◌++◌, length, take, map, replicate, get_or, Option, Some, None, refl, sym, ap, ◌∙◌, subst, arith, length-append, nat_eq, nat_le, ◌&&◌, ◌||◌, IsTrue}
-use Rattle.std.specs.Prelude.{◌≤ℤ◌, ◌<ℤ◌, ◌-ℤ◌, neg_ℤ, int_le, int_lt, slice_get, option_map, if◌then◌else◌, nat_lt}
+use Rattle.std.proofs.Common.{◌≡◌, ◌≢◌, inl, inr, ℕ, zero, suc, ◌+◌, ◌-◌, ◌*◌, ◌/◌, ◌^◌, ◌<◌, ◌≤◌, ℤ, pos, ◌+ℤ◌, Bool, true, false, List, [], ◌∷◌, ◌++◌, length, take, map, replicate, get_or, Option, Some, None, refl, sym, ap, ◌∙◌, subst, arith, length-append, nat_le, ◌&&◌, ◌||◌, IsTrue}
+use Rattle.std.specs.Prelude.{◌≤ℤ◌, ◌<ℤ◌, neg_ℤ, int_le, int_lt, slice_get, option_map, if◌then◌else◌, nat_lt}
 use Rattle.std.specs.List.{list_any}
 use Rattle.std.specs.Ordering.{int_eq}
 use Rattle.std.proofs.lemmas.Int.{ints}
@@ -13,7 +13,7 @@ use native.Mathlib.Decide.{dec_lt}
 use Rattle.acn_num.proofs.BitLists.{number_below, number-append, number_same, number-take}
 use Rattle.acn_num.specs.Bits.{number, signed_number}
 use Rattle.acn_num.specs.Ranges.{In, has, distance}
-use Rattle.acn_grammar.specs.Check.{is_wide, has_no_table, is_lead, LeadAmbiguous}
+use Rattle.acn_grammar.specs.Check.{is_wide, LeadAmbiguous}
 use Rattle.acn_grammar.specs.Code.{Any, Code, CodingCode, FlagCode, image_of, image_by, item_number}
 use Rattle.acn_grammar.specs.Images.{images_by, images_of}
 use Rattle.acn_grammar.specs.Leaves.{num_fine, takes, from_to, coding_fine, set_fine, is_range, no_items, items_fine, same_bits}
@@ -30,9 +30,9 @@ use Rattle.acn_grammar.proofs.Texts.{either}
 use Rattle.acn_grammar.proofs.Within.{image_has}
 use Rattle.acn_packet_laws.proofs.Codes.{each_number_has_a_code, set_ordered}
 use Rattle.acn_packet_laws.proofs.HasImage.{Ordered}
-use Rattle.acn_check.specs.First.{hits, turned, begins, begins_by, can_begin}
+use Rattle.acn_check.specs.First.{hits, turned, begins, begins_by}
 use Rattle.acn_check.proofs.Assembly.{some_inj}
-use Rattle.std.proofs.lemmas.Bool.{le-leb, leb-true, or_left, or_right, and_parts, not-true}
+use Rattle.std.proofs.lemmas.Bool.{le-leb, leb-true, or_left, or_right, and_parts}
 
 -- one bit more of a number that is read from its front
 pub push_bit : (bs : List Bool) (i n d : ℕ) → i < length bs → length bs ≤ 64 → n ≡ number (take i bs) → d ≡ bool_byte (get_or bs i false)

@@ -1,5 +1,5 @@
 -- Lists whose end can't be told from an element.
-use Rattle.std.proofs.Common.{◌≡◌, ℕ, zero, suc, ◌+◌, ◌<◌, ◌≤◌, drop, get_or, Bool, true, false, not, ◌&&◌, List, [], ◌∷◌, ◌++◌, length, take, map, Option, Some, None, refl, sym, ap, ◌∙◌, subst, arith, nat_le, nat_eq, IsTrue}
+use Rattle.std.proofs.Common.{◌≡◌, ℕ, zero, suc, ◌+◌, ◌<◌, ◌≤◌, drop, get_or, Bool, true, false, not, ◌&&◌, List, [], ◌∷◌, ◌++◌, length, map, Option, Some, None, refl, sym, ap, ◌∙◌, subst, arith, nat_eq}
 use Rattle.std.specs.Prelude.{slice_get, option_map, if◌then◌else◌}
 use Rattle.std.specs.List.{list_all}
 use Rattle.std.proofs.lemmas.Bool.Decides.{nat_tests}
@@ -7,7 +7,7 @@ use Rattle.std.proofs.lemmas.List.{drop_more}
 use Rattle.acn_grammar.specs.Check.{CheckFault, terminator_ambiguous, Evidence, NodeAt, number_of_fault, is_wide, has_no_table, is_lead, lead, form_lead, fields_lead, LeadAmbiguous, EndAmbiguous, ListAmbiguous}
 use Rattle.acn_grammar.specs.Fails.{presence_count}
 use Rattle.acn_grammar.specs.Grammar.{Grammar, Form, Fields, Alternatives, node, num, octets, bits, text, seq, list, choice, contained, no_fields, component, inserted, no_alternatives, alternative}
-use Rattle.acn_grammar.specs.Leaves.{num_fine, sizes_fine, list_rule_fine, is_pattern, from_to}
+use Rattle.acn_grammar.specs.Leaves.{num_fine, sizes_fine, list_rule_fine, is_pattern}
 use Rattle.acn_grammar.specs.Length.{ending}
 use Rattle.acn_grammar.specs.Tree.{IsTree}
 use Rattle.acn_grammar.specs.Walk.{Stand, Role, root_node, component_role, an_inserted, alternative_role, an_element, a_content, nodes, form_nodes, field_nodes, alternative_nodes, nodes_of}
@@ -18,7 +18,7 @@ use Rattle.acn_grammar.specs.declared.node.Sizing.{Sizing}
 use Rattle.acn_grammar.specs.declared.node.Table.{Table}
 use Rattle.acn_grammar.proofs.SpanLaw.{Fine, FormFine, FieldsFine, AlternativesFine}
 use Rattle.acn_grammar.proofs.TreeRules.{tree_fine}
-use Rattle.acn_check.specs.Facts.{Facts, seen, facts_of}
+use Rattle.acn_check.specs.Facts.{seen, facts_of}
 use Rattle.acn_check.specs.declared.lines.Line.{Line}
 use Rattle.acn_check.specs.First.{given, only_if, not_told, ambiguous_in, ambiguous_at, lead_fine, end_lead, form_lead_fine, leads_fine}
 use Rattle.acn_check.specs.Order.{lines_of}

@@ -1,7 +1,6 @@
 -- Faults of uses: a field behind its user, or of another kind.
 use Rattle.std.proofs.Common.{◌≡◌, ℕ, ◌<◌, Bool, true, false, not, List, Option, Some, None, refl, sym, ap, ◌∙◌, subst, arith, nat_lt}
 use Rattle.std.specs.Prelude.{option_map, slice_get}
-use Rattle.std.proofs.lemmas.Bool.Decides.{nat_tests}
 use Rattle.acn_grammar.specs.Check.{CheckFault, forward, det_kind, Evidence, NodeAt, UseOf, AsksFor, number_of_fault}
 use Rattle.acn_grammar.specs.Grammar.{Grammar}
 use Rattle.acn_grammar.specs.Slots.{slot_leaf}

@@ -1,18 +1,16 @@
 -- Conditions that ask two numbers of one slot don't hold together.
-use Rattle.std.proofs.Common.{◌≡◌, ◌⊎◌, inl, inr, ℕ, suc, ℤ, Bool, true, false, not, ◌&&◌, ◌||◌, List, [], ◌∷◌, ◌++◌, length, map, Option, Some, None, refl, sym, ap, ◌∙◌, subst, arith, nat_eq}
+use Rattle.std.proofs.Common.{◌≡◌, ◌⊎◌, inl, inr, ℕ, suc, ℤ, Bool, true, false, not, ◌&&◌, ◌||◌, List, [], ◌∷◌, ◌++◌, Option, Some, None, refl, sym, ap, ◌∙◌, subst, arith, nat_eq}
 use Rattle.std.specs.Prelude.{option_map, if◌then◌else◌, Result, Ok, Err, IfOk}
 use Rattle.std.specs.List.{list_any}
 use Rattle.std.specs.Ordering.{int_eq}
-use Rattle.std.proofs.lemmas.Bool.{and_parts, or_parts, or_cases, not-true, cases_Bool, eqb-true}
-use Rattle.std.proofs.lemmas.Bool.Decides.{nat_tests}
+use Rattle.std.proofs.lemmas.Bool.{and_parts, or_parts, not-true, cases_Bool, eqb-true}
 use Rattle.std.proofs.lemmas.Int.{ints}
-use Rattle.std.proofs.lemmas.List.{append-nil}
 use Rattle.acn_grammar.specs.Env.{Env, at_slot, Holds, AllHold}
 use Rattle.acn_grammar.specs.Leaves.{all_differ}
 use Rattle.acn_grammar.specs.Slots.{first_of_two}
 use Rattle.acn_grammar.specs.declared.node.Test.{Test}
 use Rattle.acn_grammar.specs.declared.node.Test.TheVariants.{Flag, Equals}
-use Rattle.acn_check.specs.First.{Det, asked, gathered, given, only_if, permits, common, has_some, both_hold, overlapping, against, pairs, number_asked, is_other, disputes, clash, numbers_on, differ_in, have_own, NoneMeet}
+use Rattle.acn_check.specs.First.{Det, asked, gathered, given, only_if, permits, has_some, both_hold, overlapping, against, pairs, number_asked, is_other, disputes, clash, numbers_on, differ_in, have_own, NoneMeet}
 use Rattle.acn_check.proofs.Gathered.{gathering}
 
 int_same : (x : ℤ) → int_eq x x ≡ true

@@ -5,7 +5,6 @@ use Rattle.acn_grammar.specs.Grammar.{Form, choice}
 use Rattle.acn_grammar.specs.View.{OneField, a_component, an_inserted, alternatives_view}
 use Rattle.acn_grammar.specs.declared.node.Alternative.{Alternative}
 use Rattle.acn_grammar.specs.declared.node.NumLeaf.{NumLeaf}
-use Rattle.acn_grammar.specs.declared.node.Presence.{Presence}
 use Rattle.acn_grammar.specs.declared.node.Presence.TheVariants.{Always, Bit, When}
 use Rattle.acn_grammar.specs.declared.node.Test.{Test}
 use Rattle.acn_check.specs.Facts.{Facts}

@@ -1,4 +1,4 @@
-use Rattle.std.proofs.Common.{arith, ◌≡◌, subst, ℕ, ◌<◌, ◌^◌}
+use Rattle.std.proofs.Common.{arith, subst, ℕ, ◌<◌, ◌^◌}
 use Rattle.acn_num.specs.Ranges.{distance}
 use Rattle.acn_check.proofs.BeginsLaw.{far_left}
 use Rattle.acn_check.proofs.ends.above.Goals as goal
