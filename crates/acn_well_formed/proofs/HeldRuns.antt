@@ -10,7 +10,8 @@ use Rattle.acn_grammar.specs.Check.{test_slot}
 use Rattle.acn_grammar.specs.Grammar.{Grammar, Form, Fields, Alternatives, node, num, octets, bits, text, seq, list, choice, contained, no_fields, component, inserted, no_alternatives, alternative}
 use Rattle.acn_grammar.specs.Leaves.{implies, same_truth}
 use Rattle.acn_grammar.specs.Tree.{is_tree, holds, is_seq, is_slot, is_about, near, near_node, near_form, near_if, slot_list, slots_of}
-use Rattle.acn_grammar.specs.Walk.{Stand, Role, root_node, a_component, an_inserted, an_alternative, an_element, a_content, nodes, form_nodes, field_nodes, alternative_nodes, nodes_of, inside, uses, slot_of, slot_here, own_tests, form_uses, presence_tests}
+use Rattle.acn_grammar.specs.Walk.{Stand, Role, root_node, a_component, component_role, an_inserted, an_alternative, alternative_role, an_element, a_content, nodes, form_nodes, field_nodes, alternative_nodes, nodes_of, inside, uses, slot_of, slot_here, own_tests, form_uses, presence_tests}
+use Rattle.acn_grammar.specs.declared.node.ChoiceRule.{ChoiceRule}
 use Rattle.acn_grammar.specs.declared.node.Presence.{Presence}
 use Rattle.acn_grammar.specs.declared.node.Presence.TheVariants.{Always, Bit, When}
 use Rattle.acn_well_formed.specs.Held.{not_below, from_slot, stands_first, all_right, is_held, slot_held, tests_held, uses_held, right_inside, held, form_held, fields_held, alternatives_held}
@@ -158,9 +159,9 @@ module _ (s : ℕ) where
     near_fields : (fs : Fields) (path around : List ℕ) (k : ℕ) → weight (holds (near fs) s) ≤ fields_in (field_nodes path around k fs)
     near_fields no_fields path around k = omega arith
     near_fields (component name g presence default own fs) path around k =
-        component_step own presence (near_node g) (near fs) (fields_in (nodes (a_component name presence own) (path ++ k ∷ []) around g)) (fields_in (field_nodes path around (suc k) fs)) (fields_in (nodes (a_component name presence own) (path ++ k ∷ []) around g ++ field_nodes path around (suc k) fs))
-        (fields_append (nodes (a_component name presence own) (path ++ k ∷ []) around g) (field_nodes path around (suc k) fs))
-        (near_grammar g (a_component name presence own) (path ++ k ∷ []) around) (near_fields fs path around (suc k))
+        component_step own presence (near_node g) (near fs) (fields_in (nodes (component_role name presence default own) (path ++ k ∷ []) around g)) (fields_in (field_nodes path around (suc k) fs)) (fields_in (nodes (component_role name presence default own) (path ++ k ∷ []) around g ++ field_nodes path around (suc k) fs))
+        (fields_append (nodes (component_role name presence default own) (path ++ k ∷ []) around g) (field_nodes path around (suc k) fs))
+        (near_grammar g (component_role name presence default own) (path ++ k ∷ []) around) (near_fields fs path around (suc k))
     near_fields (inserted name g None fs) path around k =
         let e = fields_append (nodes (an_inserted name None) (path ++ k ∷ []) around g) (field_nodes path around (suc k) fs) in
         let h = near_fields fs path around (suc k) in
@@ -257,10 +258,10 @@ module _ (s : ℕ) where
       none_more n = omega arith
 
   aside_role : (total : ℕ) (role : Role) → is_slot s (slot_here role) ≡ false → role_right s total role ≡ true
-  aside_role total (a_component name presence own) h = rw h refl
+  aside_role total (a_component one) h = rw h refl
   aside_role total (an_inserted name slot) h = refl
   aside_role total root_node h = refl
-  aside_role total (an_alternative name tests) h = refl
+  aside_role total (an_alternative one) h = refl
   aside_role total an_element h = refl
   aside_role total a_content h = refl
 
@@ -527,7 +528,7 @@ module _ (s : ℕ) where
           let e = inner_fields g an_element (path ++ 0 ∷ []) around in
           let f = inner_about g an_element (path ++ 0 ∷ []) around in
           calm_grammar g an_element (path ++ 0 ∷ []) around homes a refl h (omega arith) (omega arith)
-      calm_form (choice cases rule) path around homes a h z l = calm_alternatives cases path around 0 homes a h z l
+      calm_form (choice cases rule) path around homes a h z l = calm_alternatives cases rule path around 0 homes a h z l
       calm_form (contained sizing g) path around homes a h z l =
           let e = inner_fields g a_content (path ++ 0 ∷ []) around in
           let f = inner_about g a_content (path ++ 0 ∷ []) around in
@@ -540,7 +541,7 @@ module _ (s : ℕ) where
           let p = and_parts (slot_held homes own && (tests_held homes (presence_tests presence) && held homes g)) (fields_held homes fs) h in
           let q = and_parts (slot_held homes own) (tests_held homes (presence_tests presence) && held homes g) p.0 in
           let r = and_parts (tests_held homes (presence_tests presence)) (held homes g) q.1 in
-          let role = a_component name presence own in
+          let role = component_role name presence default own in
           let xs = nodes role (path ++ k ∷ []) around g in
           let ys = field_nodes path around (suc k) fs in
           let b = fields_append xs ys in
@@ -565,22 +566,22 @@ module _ (s : ℕ) where
           (calm_grammar g role (path ++ k ∷ []) around homes a refl q.1 (omega arith) (omega arith))
           (calm_fields fs path around (suc k) homes a p.1 (omega arith) (omega arith))
 
-      calm_alternatives : (as' : Alternatives) (path around : List ℕ) (k : ℕ) (homes : List (List ℕ)) → holds around s ≡ true → alternatives_held homes as' ≡ true
-          → fields_in (alternative_nodes path around k as') ≡ 0 → about (alternative_nodes path around k as') < total → Calm total (alternative_nodes path around k as')
-      calm_alternatives no_alternatives path around k homes a h z l = calm_none total
-      calm_alternatives (alternative name g tests more) path around k homes a h z l =
+      calm_alternatives : (as' : Alternatives) (rule : ChoiceRule) (path around : List ℕ) (k : ℕ) (homes : List (List ℕ)) → holds around s ≡ true → alternatives_held homes as' ≡ true
+          → fields_in (alternative_nodes rule path around k as') ≡ 0 → about (alternative_nodes rule path around k as') < total → Calm total (alternative_nodes rule path around k as')
+      calm_alternatives no_alternatives rule path around k homes a h z l = calm_none total
+      calm_alternatives (alternative name g tests more) rule path around k homes a h z l =
           let p = and_parts (tests_held homes tests && held homes g) (alternatives_held homes more) h in
           let q = and_parts (tests_held homes tests) (held homes g) p.0 in
-          let role = an_alternative name tests in
+          let role = alternative_role name tests rule in
           let xs = nodes role (path ++ k ∷ []) around g in
-          let ys = alternative_nodes path around (suc k) more in
+          let ys = alternative_nodes rule path around (suc k) more in
           let b = fields_append xs ys in
           let c = count-append s 0 xs ys in
           let e = inner_fields g role (path ++ k ∷ []) around in
           let f = inner_about g role (path ++ k ∷ []) around in
           calm_join total xs ys
           (calm_grammar g role (path ++ k ∷ []) around homes a refl q.1 (omega arith) (omega arith))
-          (calm_alternatives more path around (suc k) homes a p.1 (omega arith) (omega arith))
+          (calm_alternatives more rule path around (suc k) homes a p.1 (omega arith) (omega arith))
 
     -- where one field is the slot's, and stands here
     direct_fields : (fs : Fields) (path around : List ℕ) (k : ℕ) (homes : List (List ℕ)) → holds around s ≡ true → fields_held homes fs ≡ true → inserts fs ≡ true
@@ -590,7 +591,7 @@ module _ (s : ℕ) where
         let p = and_parts (slot_held homes own && (tests_held homes (presence_tests presence) && held homes g)) (fields_held homes fs) h in
         let q = and_parts (slot_held homes own) (tests_held homes (presence_tests presence) && held homes g) p.0 in
         let r = and_parts (tests_held homes (presence_tests presence)) (held homes g) q.1 in
-        let role = a_component name presence own in
+        let role = component_role name presence default own in
         let xs = nodes role (path ++ k ∷ []) around g in
         let ys = field_nodes path around (suc k) fs in
         let b = fields_append xs ys in
@@ -681,7 +682,7 @@ module _ (s : ℕ) where
     found_form (bits sizing) path around homes a e h l = other_here (λ total xs k. refl) found_none
     found_form (text leaf) path around homes a e h l = other_here (λ total xs k. refl) found_none
     found_form (list sizing g) path around homes a e h l = other_here (λ total xs k. refl) (found_grammar g an_element (path ++ 0 ∷ []) around homes a e refl refl h l)
-    found_form (choice cases rule) path around homes a e h l = other_here (λ total xs k. refl) (found_alternatives cases path around 0 homes a e h l)
+    found_form (choice cases rule) path around homes a e h l = other_here (λ total xs k. refl) (found_alternatives cases rule path around 0 homes a e h l)
     found_form (contained sizing g) path around homes a e h l = other_here (λ total xs k. refl) (found_grammar g a_content (path ++ 0 ∷ []) around homes a e refl refl h l)
 
     found_fields : (fs : Fields) (path around : List ℕ) (k : ℕ) (homes : List (List ℕ)) → holds around s ≡ false → is_held homes s ≡ false → fields_held homes fs ≡ true → about (field_nodes path around k fs) ≤ 2 ^ 32 - 1 → Found (field_nodes path around k fs)
@@ -690,9 +691,9 @@ module _ (s : ℕ) where
         let p = and_parts (slot_held homes own && (tests_held homes (presence_tests presence) && held homes g)) (fields_held homes fs) h in
         let q = and_parts (slot_held homes own) (tests_held homes (presence_tests presence) && held homes g) p.0 in
         let r = and_parts (tests_held homes (presence_tests presence)) (held homes g) q.1 in
-        let c = count-append s 0 (nodes (a_component name presence own) (path ++ k ∷ []) around g) (field_nodes path around (suc k) fs) in
-        join (nodes (a_component name presence own) (path ++ k ∷ []) around g) (field_nodes path around (suc k) fs)
-        (found_grammar g (a_component name presence own) (path ++ k ∷ []) around homes a e (not_own homes own e q.0) (not_named test_slot homes (presence_tests presence) e r.0) r.1 (omega arith))
+        let c = count-append s 0 (nodes (component_role name presence default own) (path ++ k ∷ []) around g) (field_nodes path around (suc k) fs) in
+        join (nodes (component_role name presence default own) (path ++ k ∷ []) around g) (field_nodes path around (suc k) fs)
+        (found_grammar g (component_role name presence default own) (path ++ k ∷ []) around homes a e (not_own homes own e q.0) (not_named test_slot homes (presence_tests presence) e r.0) r.1 (omega arith))
         (found_fields fs path around (suc k) homes a e p.1 (omega arith))
     found_fields (inserted name g slot fs) path around k homes a e h l =
         let p = and_parts (slot_held homes slot && held homes g) (fields_held homes fs) h in
@@ -702,15 +703,15 @@ module _ (s : ℕ) where
         (found_grammar g (an_inserted name slot) (path ++ k ∷ []) around homes a e (not_own homes slot e q.0) refl q.1 (omega arith))
         (found_fields fs path around (suc k) homes a e p.1 (omega arith))
 
-    found_alternatives : (as' : Alternatives) (path around : List ℕ) (k : ℕ) (homes : List (List ℕ)) → holds around s ≡ false → is_held homes s ≡ false → alternatives_held homes as' ≡ true → about (alternative_nodes path around k as') ≤ 2 ^ 32 - 1 → Found (alternative_nodes path around k as')
-    found_alternatives no_alternatives path around k homes a e h l = found_none
-    found_alternatives (alternative name g tests more) path around k homes a e h l =
+    found_alternatives : (as' : Alternatives) (rule : ChoiceRule) (path around : List ℕ) (k : ℕ) (homes : List (List ℕ)) → holds around s ≡ false → is_held homes s ≡ false → alternatives_held homes as' ≡ true → about (alternative_nodes rule path around k as') ≤ 2 ^ 32 - 1 → Found (alternative_nodes rule path around k as')
+    found_alternatives no_alternatives rule path around k homes a e h l = found_none
+    found_alternatives (alternative name g tests more) rule path around k homes a e h l =
         let p = and_parts (tests_held homes tests && held homes g) (alternatives_held homes more) h in
         let q = and_parts (tests_held homes tests) (held homes g) p.0 in
-        let c = count-append s 0 (nodes (an_alternative name tests) (path ++ k ∷ []) around g) (alternative_nodes path around (suc k) more) in
-        join (nodes (an_alternative name tests) (path ++ k ∷ []) around g) (alternative_nodes path around (suc k) more)
-        (found_grammar g (an_alternative name tests) (path ++ k ∷ []) around homes a e refl (not_named test_slot homes tests e q.0) q.1 (omega arith))
-        (found_alternatives more path around (suc k) homes a e p.1 (omega arith))
+        let c = count-append s 0 (nodes (alternative_role name tests rule) (path ++ k ∷ []) around g) (alternative_nodes rule path around (suc k) more) in
+        join (nodes (alternative_role name tests rule) (path ++ k ∷ []) around g) (alternative_nodes rule path around (suc k) more)
+        (found_grammar g (alternative_role name tests rule) (path ++ k ∷ []) around homes a e refl (not_named test_slot homes tests e q.0) q.1 (omega arith))
+        (found_alternatives more rule path around (suc k) homes a e p.1 (omega arith))
 
   pub held_right : (root : Grammar) (n : ℕ) → about (nodes_of root) ≤ 2 ^ 32 - 1 → slots_of (nodes_of root) ≡ range_with_len 0 n → s < n → held [] root ≡ true → slot_kept root s ≡ true
   held_right root n m e l h = from_found (found_grammar root root_node [] [] [] refl refl refl refl h m)
