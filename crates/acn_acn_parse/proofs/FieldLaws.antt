@@ -1,6 +1,6 @@
 -- Fields: what is read is written so, and what is written is read again.
-use Rattle.std.proofs.Common.{◌≡◌, ℕ, zero, suc, ◌+◌, ◌<◌, ◌≤◌, Bool, true, false, ◌&&◌, ◌||◌, not, cond, List, [], ◌∷◌, ◌++◌, length, Option, Some, None, refl, sym, ap, subst, ◌∙◌, append_assoc, length-append, arith}
-use Rattle.std.specs.Prelude.{codes}
+use Rattle.std.proofs.Common.{◌≡◌, ℕ, zero, suc, ◌+◌, ◌<◌, ◌≤◌, Bool, true, false, ◌&&◌, ◌||◌, not, cond, List, [], ◌∷◌, ◌++◌, length, refl, sym, ap, subst, ◌∙◌, append_assoc, length-append, arith}
+use Rattle.std.specs.Prelude.{codes, Ok}
 use Rattle.std.specs.List.{flat_map, list_all, list_any, AllByRecursion}
 use Rattle.std.specs.Str.{bytes_eq}
 use Rattle.std.proofs.lemmas.Slice.Eq.{bytes_eq-Decides}
@@ -32,7 +32,7 @@ use Rattle.std.proofs.lemmas.Bool.{not-true, ltb-true, lt-ltb, and_parts}
 abbrev next_path_tokens : AcnPath → Tokens
 next_path_tokens p = mark (codes ",") ∷ path_tokens p
 
-next_path_found : (ts : List Lexeme) (p : AcnPath) (r : List Lexeme) → next_path ts ≡ Some (p, r) → Takes next_path_tokens IsPath ts p r
+next_path_found : (ts : List Lexeme) (p : AcnPath) (r : List Lexeme) → next_path ts ≡ Ok (p, r) → Takes next_path_tokens IsPath ts p r
 unfolding next_path
 next_path_found ts p r e =
     then_found (expect Mark (codes ",") ts) _ _ e (λ _ m1 e1 h.
@@ -40,14 +40,14 @@ next_path_found ts p r e =
     let b = path_found m1 p r h in
     record { parts = a ∙ ap (λ z. mark (codes ",") ∷ z) b.parts; fits = b.fits })
 
-next_path_again : (p : AcnPath) (r : List Lexeme) → IsPath p → sees Mark (codes ".") r ≡ false → next_path (next_path_tokens p ++ r) ≡ Some (p, r)
+next_path_again : (p : AcnPath) (r : List Lexeme) → IsPath p → sees Mark (codes ".") r ≡ false → next_path (next_path_tokens p ++ r) ≡ Ok (p, r)
 unfolding next_path
 next_path_again p r fits ends = then_again _ _ _ _ _ (expect_again _ _ _) (path_again p r fits ends)
 
 abbrev pub ArePaths : List AcnPath → Type 0
 ArePaths ps = list_all is_path ps ≡ true
 
-arguments_if_found : (b : Bool) (ts m : List Lexeme) (ps : List AcnPath) (r : List Lexeme) → ts ≡ given b (mark (codes "<")) ++ m → arguments_if b m ≡ Some (ps, r) → Takes argument_tokens ArePaths ts ps r
+arguments_if_found : (b : Bool) (ts m : List Lexeme) (ps : List AcnPath) (r : List Lexeme) → ts ≡ given b (mark (codes "<")) ++ m → arguments_if b m ≡ Ok (ps, r) → Takes argument_tokens ArePaths ts ps r
 unfolding argument_tokens
 arguments_if_found true ts m ps r p e =
     then_found (path m) _ _ e (λ first m1 e1 h.
@@ -60,7 +60,7 @@ arguments_if_found true ts m ps r p e =
     done _ _ _ _ h parts (rw (a.fits, pass_all is_path more b.fits) refl))))
 arguments_if_found false ts m ps r p e = done _ _ _ _ e p refl
 
-pub arguments_found : (ts : List Lexeme) (ps : List AcnPath) (r : List Lexeme) → arguments ts ≡ Some (ps, r) → Takes argument_tokens ArePaths ts ps r
+pub arguments_found : (ts : List Lexeme) (ps : List AcnPath) (r : List Lexeme) → arguments ts ≡ Ok (ps, r) → Takes argument_tokens ArePaths ts ps r
 unfolding arguments
 arguments_found ts ps r e = then_found (eat Mark (codes "<") ts) _ _ e (λ found m e1 h. arguments_if_found found ts m ps r (given_found _ _ _ _ _ e1) h)
 
@@ -68,7 +68,7 @@ arguments_found ts ps r e = then_found (eat Mark (codes "<") ts) _ _ e (λ found
 other_mark : (text other : List ℕ) (r : List Lexeme) → bytes_eq other text ≡ false → sees Mark text (mark other ∷ r) ≡ false
 other_mark text other r e = sees_text _ _ _ _ e
 
-more_paths_again : (ps : List AcnPath) (r : List Lexeme) → AllByRecursion IsPath ps → many has_comma next_path (flat_map next_path_tokens ps ++ mark (codes ">") ∷ r) ≡ Some (ps, mark (codes ">") ∷ r)
+more_paths_again : (ps : List AcnPath) (r : List Lexeme) → AllByRecursion IsPath ps → many has_comma next_path (flat_map next_path_tokens ps ++ mark (codes ">") ∷ r) ≡ Ok (ps, mark (codes ">") ∷ r)
 more_paths_again ps r fits =
     many_again has_comma next_path next_path_tokens IsPath (λ z. sees Mark (codes ".") z ≡ false) (length (flat_map next_path_tokens ps ++ mark (codes ">") ∷ r)) (λ p r _ fits ends. next_path_again p r fits ends) (λ p r _. sees_again _ _ _) (λ p r _. other_mark _ _ _ refl) (λ p _. omega arith) ps _ (omega arith) fits (other_mark _ _ _ refl) (other_mark _ _ _ refl)
 
@@ -76,7 +76,7 @@ more_paths_stop : (ps : List AcnPath) (r : List Lexeme) → sees Mark (codes "."
 more_paths_stop [] r = other_mark _ _ _ refl
 more_paths_stop (p ∷ ps) r = other_mark _ _ _ refl
 
-pub arguments_again : (ps : List AcnPath) (r : List Lexeme) → ArePaths ps → sees Mark (codes "<") r ≡ false → arguments (argument_tokens ps ++ r) ≡ Some (ps, r)
+pub arguments_again : (ps : List AcnPath) (r : List Lexeme) → ArePaths ps → sees Mark (codes "<") r ≡ false → arguments (argument_tokens ps ++ r) ≡ Ok (ps, r)
 unfolding arguments argument_tokens
 arguments_again [] r fits ends = then_again _ _ _ _ _ (eat_nothing _ _ _ ends) refl
 arguments_again (p ∷ ps) r fits ends =
@@ -95,7 +95,7 @@ IsKind k = is_field_kind k ≡ true
 abbrev kind_tokens : FieldKind → Tokens
 kind_tokens k = kind_token k ∷ []
 
-null_found : (b : Bool) (ts m : List Lexeme) (k : FieldKind) (r : List Lexeme) → ts ≡ given b (token Word (codes "NULL")) ++ m → null_if b m ≡ Some (k, r) → Takes kind_tokens IsKind ts k r
+null_found : (b : Bool) (ts m : List Lexeme) (k : FieldKind) (r : List Lexeme) → ts ≡ given b (token Word (codes "NULL")) ++ m → null_if b m ≡ Ok (k, r) → Takes kind_tokens IsKind ts k r
 unfolding kind_token
 null_found true ts m k r p e = done _ _ _ _ e p refl
 null_found false ts m k r p e =
@@ -103,17 +103,17 @@ null_found false ts m k r p e =
     let a = word_found _ _ _ _ e1 in
     done _ _ _ _ h (p ∙ a.0) a.1)
 
-boolean_found : (b : Bool) (ts m : List Lexeme) (k : FieldKind) (r : List Lexeme) → ts ≡ given b (token Word (codes "BOOLEAN")) ++ m → boolean_if b m ≡ Some (k, r) → Takes kind_tokens IsKind ts k r
+boolean_found : (b : Bool) (ts m : List Lexeme) (k : FieldKind) (r : List Lexeme) → ts ≡ given b (token Word (codes "BOOLEAN")) ++ m → boolean_if b m ≡ Ok (k, r) → Takes kind_tokens IsKind ts k r
 unfolding kind_token
 boolean_found true ts m k r p e = done _ _ _ _ e p refl
 boolean_found false ts m k r p e = then_found (eat Word (codes "NULL") m) _ _ e (λ b m1 e1 h. null_found b ts m1 k r (p ∙ given_found _ _ _ _ _ e1) h)
 
-integer_found : (b : Bool) (ts m : List Lexeme) (k : FieldKind) (r : List Lexeme) → ts ≡ given b (token Word (codes "INTEGER")) ++ m → integer_if b m ≡ Some (k, r) → Takes kind_tokens IsKind ts k r
+integer_found : (b : Bool) (ts m : List Lexeme) (k : FieldKind) (r : List Lexeme) → ts ≡ given b (token Word (codes "INTEGER")) ++ m → integer_if b m ≡ Ok (k, r) → Takes kind_tokens IsKind ts k r
 unfolding kind_token
 integer_found true ts m k r p e = done _ _ _ _ e p refl
 integer_found false ts m k r p e = then_found (eat Word (codes "BOOLEAN") m) _ _ e (λ b m1 e1 h. boolean_found b ts m1 k r (p ∙ given_found _ _ _ _ _ e1) h)
 
-kind_found : (ts : List Lexeme) (k : FieldKind) (r : List Lexeme) → field_kind ts ≡ Some (k, r) → Takes kind_tokens IsKind ts k r
+kind_found : (ts : List Lexeme) (k : FieldKind) (r : List Lexeme) → field_kind ts ≡ Ok (k, r) → Takes kind_tokens IsKind ts k r
 unfolding field_kind
 kind_found ts k r e = then_found (eat Word (codes "INTEGER") ts) _ _ e (λ b m1 e1 h. integer_found b ts m1 k r (given_found _ _ _ _ _ e1) h)
 
@@ -157,7 +157,7 @@ null_reserved : is_reserved (codes "NULL") ≡ true
 unfolding reserved
 null_reserved = refl
 
-kind_again : (k : FieldKind) (r : List Lexeme) → IsKind k → field_kind (kind_token k ∷ r) ≡ Some (k, r)
+kind_again : (k : FieldKind) (r : List Lexeme) → IsKind k → field_kind (kind_token k ∷ r) ≡ Ok (k, r)
 unfolding field_kind kind_token
 kind_again field.Integer r fits = then_again _ _ _ _ _ (eat_again _ _ _) refl
 kind_again field.Boolean r fits =
@@ -178,7 +178,7 @@ kind_again (field.Ref name) r fits =
 abbrev pub IsField : Field → Type 0
 IsField f = is_field f ≡ true
 
-number_found : (name : List ℕ) (ts m : List Lexeme) (f : Field) (r : List Lexeme) → is_acn_identifier name ≡ true → ts ≡ token Word name ∷ m → number_rest name m ≡ Some (f, r) → Takes field_tokens IsField ts f r
+number_found : (name : List ℕ) (ts m : List Lexeme) (f : Field) (r : List Lexeme) → is_acn_identifier name ≡ true → ts ≡ token Word name ∷ m → number_rest name m ≡ Ok (f, r) → Takes field_tokens IsField ts f r
 unfolding number_rest
 number_found name ts m f r fits p e =
     then_found (expect Mark (codes "(") m) _ _ e (λ _ m1 e1 h.
@@ -190,7 +190,7 @@ number_found name ts m f r fits p e =
     let parts : ts ≡ field_tokens (number name n) ++ m3 = simp append_assoc (cc (p, a, b.parts, c)) in
     done _ _ _ _ h parts (rw (fits, lt-ltb _ _ b.fits) refl))))
 
-inserted_found : (name : List ℕ) (ts m : List Lexeme) (f : Field) (r : List Lexeme) → is_acn_identifier name ≡ true → ts ≡ token Word name ∷ m → inserted_rest name m ≡ Some (f, r) → Takes field_tokens IsField ts f r
+inserted_found : (name : List ℕ) (ts m : List Lexeme) (f : Field) (r : List Lexeme) → is_acn_identifier name ≡ true → ts ≡ token Word name ∷ m → inserted_rest name m ≡ Ok (f, r) → Takes field_tokens IsField ts f r
 unfolding inserted_rest
 inserted_found name ts m f r fits p e =
     then_found (field_kind m) _ _ e (λ k m1 e1 h.
@@ -245,10 +245,10 @@ EndsField r = sees Mark (codes "{") r ≡ false
 
 module _ (inner : Parser Field) where
   abbrev Found : Type 0
-  Found = (ts : List Lexeme) (f : Field) (r : List Lexeme) → inner ts ≡ Some (f, r) → Takes field_tokens IsField ts f r
+  Found = (ts : List Lexeme) (f : Field) (r : List Lexeme) → inner ts ≡ Ok (f, r) → Takes field_tokens IsField ts f r
 
   module _ (found : Found) where
-    next_found : (ts : List Lexeme) (f : Field) (r : List Lexeme) → next_field inner ts ≡ Some (f, r) → Takes next_tokens IsField ts f r
+    next_found : (ts : List Lexeme) (f : Field) (r : List Lexeme) → next_field inner ts ≡ Ok (f, r) → Takes next_tokens IsField ts f r
     unfolding next_field
     next_found ts f r e =
         then_found (expect Mark (codes ",") ts) _ _ e (λ _ m1 e1 h.
@@ -256,7 +256,7 @@ module _ (inner : Parser Field) where
         let b = found m1 f r h in
         record { parts = a ∙ ap (λ z. mark (codes ",") ∷ z) b.parts; fits = b.fits })
 
-    none_found : (b : Bool) (ts m : List Lexeme) (xs : List Field) (r : List Lexeme) → ts ≡ given b (mark (codes "}")) ++ m → none_if inner b m ≡ Some (xs, r) → Takes closed_tokens AreFields ts xs r
+    none_found : (b : Bool) (ts m : List Lexeme) (xs : List Field) (r : List Lexeme) → ts ≡ given b (mark (codes "}")) ++ m → none_if inner b m ≡ Ok (xs, r) → Takes closed_tokens AreFields ts xs r
     none_found true ts m xs r p e = done _ _ _ _ e p refl
     none_found false ts m xs r p e =
         then_found (inner m) _ _ e (λ first m1 e1 h.
@@ -268,11 +268,11 @@ module _ (inner : Parser Field) where
         let parts : ts ≡ closed_tokens (first ∷ more) ++ m3 = simp append_assoc (cc (p, a.parts, b.parts, c)) in
         done _ _ _ _ h parts (rw (a.fits, pass_all is_field more b.fits) refl))))
 
-    fields_found : (ts : List Lexeme) (xs : List Field) (r : List Lexeme) → fields inner ts ≡ Some (xs, r) → Takes closed_tokens AreFields ts xs r
+    fields_found : (ts : List Lexeme) (xs : List Field) (r : List Lexeme) → fields inner ts ≡ Ok (xs, r) → Takes closed_tokens AreFields ts xs r
     unfolding fields
     fields_found ts xs r e = then_found (eat Mark (codes "}") ts) _ _ e (λ b m1 e1 h. none_found b ts m1 xs r (given_found _ _ _ _ _ e1) h)
 
-    braces_if_found : (b : Bool) (ts m : List Lexeme) (bs : Braces) (r : List Lexeme) → ts ≡ given b (mark (codes "{")) ++ m → braces_if inner b m ≡ Some (bs, r) → Takes brace_tokens AreBraces ts bs r
+    braces_if_found : (b : Bool) (ts m : List Lexeme) (bs : Braces) (r : List Lexeme) → ts ≡ given b (mark (codes "{")) ++ m → braces_if inner b m ≡ Ok (bs, r) → Takes brace_tokens AreBraces ts bs r
     braces_if_found true ts m bs r p e =
         then_found (fields inner m) _ _ e (λ xs m1 e1 h.
         let a = fields_found _ _ _ e1 in
@@ -281,11 +281,11 @@ module _ (inner : Parser Field) where
         done _ _ _ _ h parts (fits_as_list xs ∙ a.fits))
     braces_if_found false ts m bs r p e = done _ _ _ _ e p refl
 
-    pub braces_found : (ts : List Lexeme) (bs : Braces) (r : List Lexeme) → braces_at inner ts ≡ Some (bs, r) → Takes brace_tokens AreBraces ts bs r
+    pub braces_found : (ts : List Lexeme) (bs : Braces) (r : List Lexeme) → braces_at inner ts ≡ Ok (bs, r) → Takes brace_tokens AreBraces ts bs r
     unfolding braces_at
     braces_found ts bs r e = then_found (eat Mark (codes "{") ts) _ _ e (λ b m1 e1 h. braces_if_found b ts m1 bs r (given_found _ _ _ _ _ e1) h)
 
-    plain_found : (name : List ℕ) (ts m : List Lexeme) (f : Field) (r : List Lexeme) → is_acn_identifier name ≡ true → ts ≡ token Word name ∷ m → plain_rest inner name m ≡ Some (f, r) → Takes field_tokens IsField ts f r
+    plain_found : (name : List ℕ) (ts m : List Lexeme) (f : Field) (r : List Lexeme) → is_acn_identifier name ≡ true → ts ≡ token Word name ∷ m → plain_rest inner name m ≡ Ok (f, r) → Takes field_tokens IsField ts f r
     unfolding plain_rest
     plain_found name ts m f r fits p e =
         then_found (arguments m) _ _ e (λ ps m1 e1 h.
@@ -297,23 +297,23 @@ module _ (inner : Parser Field) where
         let parts : ts ≡ field_tokens (plain name ps xs bs) ++ m3 = simp append_assoc (cc (p, a.parts, b.parts, c.parts)) in
         done _ _ _ _ h parts (rw (fits, a.fits, b.fits, c.fits) refl))))
 
-    rest_found : (name : List ℕ) (ts m : List Lexeme) (f : Field) (r : List Lexeme) → is_acn_identifier name ≡ true → ts ≡ token Word name ∷ m → field_rest inner name m ≡ Some (f, r) → Takes field_tokens IsField ts f r
+    rest_found : (name : List ℕ) (ts m : List Lexeme) (f : Field) (r : List Lexeme) → is_acn_identifier name ≡ true → ts ≡ token Word name ∷ m → field_rest inner name m ≡ Ok (f, r) → Takes field_tokens IsField ts f r
     unfolding field_rest
     rest_found name ts m f r fits p e = by (sees Mark (codes "(") m) (starts_plain m) e
       where
-        by : (a b : Bool) → cond a (number_rest name m) (cond b (plain_rest inner name m) (inserted_rest name m)) ≡ Some (f, r) → Takes field_tokens IsField ts f r
+        by : (a b : Bool) → cond a (number_rest name m) (cond b (plain_rest inner name m) (inserted_rest name m)) ≡ Ok (f, r) → Takes field_tokens IsField ts f r
         by true b e = number_found name ts m f r fits p e
         by false true e = plain_found name ts m f r fits p e
         by false false e = inserted_found name ts m f r fits p e
 
-    pub in_found : (ts : List Lexeme) (f : Field) (r : List Lexeme) → field_in inner ts ≡ Some (f, r) → Takes field_tokens IsField ts f r
+    pub in_found : (ts : List Lexeme) (f : Field) (r : List Lexeme) → field_in inner ts ≡ Ok (f, r) → Takes field_tokens IsField ts f r
     unfolding field_in
     in_found ts f r e =
         then_found (word is_acn_identifier ts) _ _ e (λ name m e1 h.
         let a = word_found _ _ _ _ e1 in
         rest_found name ts m f r a.1 a.0 h)
 
-pub field_found : (n : ℕ) (ts : List Lexeme) (f : Field) (r : List Lexeme) → field_at n ts ≡ Some (f, r) → Takes field_tokens IsField ts f r
+pub field_found : (n : ℕ) (ts : List Lexeme) (f : Field) (r : List Lexeme) → field_at n ts ≡ Ok (f, r) → Takes field_tokens IsField ts f r
 field_found zero ts f r e = absurd cc
 field_found (suc n) ts f r e = in_found (field_at n) (field_found n) ts f r e
 
@@ -346,26 +346,26 @@ is_inserted field.Boolean r = (refl, refl)
 is_inserted field.Null r = (refl, refl)
 is_inserted (field.Ref name) r = (refl, refl)
 
-number_again : (name : List ℕ) (n : Signed) (r : List Lexeme) → is_signed n ≡ true → number_rest name (mark (codes "(") ∷ (signed_tokens n ++ mark (codes ")") ∷ r)) ≡ Some (number name n, r)
+number_again : (name : List ℕ) (n : Signed) (r : List Lexeme) → is_signed n ≡ true → number_rest name (mark (codes "(") ∷ (signed_tokens n ++ mark (codes ")") ∷ r)) ≡ Ok (number name n, r)
 unfolding number_rest
 number_again name n r fits =
     then_again _ _ _ _ _ (expect_again _ _ _)
     (then_again _ _ _ _ _ (signed_again n _ (ltb-true _ _ fits))
     (then_again _ _ _ _ _ (expect_again _ _ _) refl))
 
-inserted_again : (name : List ℕ) (k : FieldKind) (xs : List Attr) (r : List Lexeme) → IsKind k → AreAttrs xs → inserted_rest name (kind_token k ∷ (bracket_tokens xs ++ r)) ≡ Some (inserted name k xs, r)
+inserted_again : (name : List ℕ) (k : FieldKind) (xs : List Attr) (r : List Lexeme) → IsKind k → AreAttrs xs → inserted_rest name (kind_token k ∷ (bracket_tokens xs ++ r)) ≡ Ok (inserted name k xs, r)
 unfolding inserted_rest
 inserted_again name k xs r fits all =
     then_again _ _ _ _ _ (kind_again k _ fits)
     (then_again _ _ _ _ _ (bracket_again xs r all) refl)
 
-module _ (inner : Parser Field) (limit : ℕ) (again : (f : Field) (r : List Lexeme) → length (field_tokens f ++ r) ≤ limit → IsField f → EndsField r → inner (field_tokens f ++ r) ≡ Some (f, r)) where
-  next_again : (f : Field) (r : List Lexeme) → length (next_tokens f ++ r) ≤ limit → IsField f → EndsField r → next_field inner (next_tokens f ++ r) ≡ Some (f, r)
+module _ (inner : Parser Field) (limit : ℕ) (again : (f : Field) (r : List Lexeme) → length (field_tokens f ++ r) ≤ limit → IsField f → EndsField r → inner (field_tokens f ++ r) ≡ Ok (f, r)) where
+  next_again : (f : Field) (r : List Lexeme) → length (next_tokens f ++ r) ≤ limit → IsField f → EndsField r → next_field inner (next_tokens f ++ r) ≡ Ok (f, r)
   unfolding next_field
   next_again f r bound fits ends = then_again _ _ _ _ _ (expect_again _ _ _) (again f r (omega arith) fits ends)
 
   more_again : (xs : List Field) (r : List Lexeme) → length (flat_map next_tokens xs ++ mark (codes "}") ∷ r) ≤ limit → AllByRecursion IsField xs
-      → many has_comma (next_field inner) (flat_map next_tokens xs ++ mark (codes "}") ∷ r) ≡ Some (xs, mark (codes "}") ∷ r)
+      → many has_comma (next_field inner) (flat_map next_tokens xs ++ mark (codes "}") ∷ r) ≡ Ok (xs, mark (codes "}") ∷ r)
   more_again xs r bound fits =
       many_again has_comma (next_field inner) next_tokens IsField EndsField limit next_again (λ f r _. sees_again _ _ _) (λ f r _. other_mark _ _ _ refl) (λ f _. omega arith) xs _ bound fits (other_mark _ _ _ refl) (other_mark _ _ _ refl)
 
@@ -373,7 +373,7 @@ module _ (inner : Parser Field) (limit : ℕ) (again : (f : Field) (r : List Lex
   more_ends [] r = other_mark _ _ _ refl
   more_ends (x ∷ xs) r = other_mark _ _ _ refl
 
-  fields_again : (xs : List Field) (r : List Lexeme) → length (list_tokens xs ++ mark (codes "}") ∷ r) ≤ limit → AreFields xs → fields inner (list_tokens xs ++ mark (codes "}") ∷ r) ≡ Some (xs, r)
+  fields_again : (xs : List Field) (r : List Lexeme) → length (list_tokens xs ++ mark (codes "}") ∷ r) ≤ limit → AreFields xs → fields inner (list_tokens xs ++ mark (codes "}") ∷ r) ≡ Ok (xs, r)
   unfolding fields
   fields_again [] r bound fits = then_again _ _ _ _ _ (eat_again _ _ _) refl
   fields_again (x ∷ xs) r bound fits =
@@ -387,13 +387,13 @@ module _ (inner : Parser Field) (limit : ℕ) (again : (f : Field) (r : List Lex
       (then_again _ _ _ _ _ (more_again xs r rest (all_pass is_field xs k.1))
       (then_again _ _ _ _ _ (expect_again _ _ _) refl))))
 
-  braced_again : (xs : List Field) (r : List Lexeme) → length (list_tokens xs ++ mark (codes "}") ∷ r) ≤ limit → AreFields xs → braces_at inner (mark (codes "{") ∷ (list_tokens xs ++ mark (codes "}") ∷ r)) ≡ Some (braces (fields_of xs), r)
+  braced_again : (xs : List Field) (r : List Lexeme) → length (list_tokens xs ++ mark (codes "}") ∷ r) ≤ limit → AreFields xs → braces_at inner (mark (codes "{") ∷ (list_tokens xs ++ mark (codes "}") ∷ r)) ≡ Ok (braces (fields_of xs), r)
   unfolding braces_at
   braced_again xs r bound fits =
       then_again _ _ _ _ _ (eat_again _ _ _)
       (then_again _ _ _ _ _ (fields_again xs r bound fits) refl)
 
-  pub braces_again : (bs : Braces) (r : List Lexeme) → length (brace_tokens bs ++ r) ≤ suc limit → AreBraces bs → EndsField r → braces_at inner (brace_tokens bs ++ r) ≡ Some (bs, r)
+  pub braces_again : (bs : Braces) (r : List Lexeme) → length (brace_tokens bs ++ r) ≤ suc limit → AreBraces bs → EndsField r → braces_at inner (brace_tokens bs ++ r) ≡ Ok (bs, r)
   unfolding braces_at
   braces_again no_braces r bound fits ends = then_again _ _ _ _ _ (eat_nothing _ _ _ ends) refl
   braces_again (braces fs) r bound fits ends =
@@ -404,17 +404,17 @@ module _ (inner : Parser Field) (limit : ℕ) (again : (f : Field) (r : List Lex
       let split : (fields_tokens fs ++ mark (codes "}") ∷ []) ++ r ≡ list_tokens xs ++ mark (codes "}") ∷ r = ap (λ z. (z ++ mark (codes "}") ∷ []) ++ r) whole ∙ append_assoc (list_tokens xs) (mark (codes "}") ∷ []) r in
       let less : length ((fields_tokens fs ++ mark (codes "}") ∷ []) ++ r) ≤ limit = omega arith in
       let short : length (list_tokens xs ++ mark (codes "}") ∷ r) ≤ limit = subst (λ z. length z ≤ limit) split less in
-      ap (λ z. braces_at inner (mark (codes "{") ∷ z)) split ∙ braced_again xs r short fit ∙ ap (λ z. Some (braces z, r)) same
+      ap (λ z. braces_at inner (mark (codes "{") ∷ z)) split ∙ braced_again xs r short fit ∙ ap (λ z. Ok (braces z, r)) same
 
   plain_again : (name : List ℕ) (ps : List AcnPath) (xs : List Attr) (bs : Braces) (r : List Lexeme) → length (brace_tokens bs ++ r) ≤ suc limit → ArePaths ps → AreAttrs xs → AreBraces bs → EndsField r
-      → plain_rest inner name (argument_tokens ps ++ (bracket_tokens xs ++ (brace_tokens bs ++ r))) ≡ Some (plain name ps xs bs, r)
+      → plain_rest inner name (argument_tokens ps ++ (bracket_tokens xs ++ (brace_tokens bs ++ r))) ≡ Ok (plain name ps xs bs, r)
   unfolding plain_rest
   plain_again name ps xs bs r bound paths attrs fits ends =
       then_again _ _ _ _ _ (arguments_again ps _ paths (bracket_mark _ xs _ refl))
       (then_again _ _ _ _ _ (bracket_again xs _ attrs)
       (then_again _ _ _ _ _ (braces_again bs r bound fits ends) refl))
 
-  in_again : (f : Field) (r : List Lexeme) → length (field_tokens f ++ r) ≤ suc limit → IsField f → EndsField r → field_in inner (field_tokens f ++ r) ≡ Some (f, r)
+  in_again : (f : Field) (r : List Lexeme) → length (field_tokens f ++ r) ≤ suc limit → IsField f → EndsField r → field_in inner (field_tokens f ++ r) ≡ Ok (f, r)
   unfolding field_in field_rest
   in_again (number name n) r bound fits ends =
       let k = and_parts (is_acn_identifier name) (is_signed n) fits in
@@ -444,6 +444,6 @@ some_tokens (plain name ps xs bs) r = omega arith
 some_tokens (inserted name k xs) r = omega arith
 some_tokens (number name n) r = omega arith
 
-pub field_again : (n : ℕ) (f : Field) (r : List Lexeme) → length (field_tokens f ++ r) ≤ n → IsField f → EndsField r → field_at n (field_tokens f ++ r) ≡ Some (f, r)
+pub field_again : (n : ℕ) (f : Field) (r : List Lexeme) → length (field_tokens f ++ r) ≤ n → IsField f → EndsField r → field_at n (field_tokens f ++ r) ≡ Ok (f, r)
 field_again zero f r bound fits ends = absurd (omega (arith, some_tokens f r))
 field_again (suc n) f r bound fits ends = in_again (field_at n) n (field_again n) f r bound fits ends

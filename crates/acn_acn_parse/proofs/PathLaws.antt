@@ -1,6 +1,6 @@
 -- Paths and conditions: what is read is written so, and what is written is read again.
 use Rattle.std.proofs.Common.{◌≡◌, ℕ, ◌+◌, ◌<◌, ◌≤◌, ◌^◌, Bool, true, false, ◌&&◌, List, [], ◌∷◌, ◌++◌, length, Option, Some, None, refl, sym, ap, subst, ◌∙◌, append_assoc, length-append, arith, nat_lt}
-use Rattle.std.specs.Prelude.{codes, is_some}
+use Rattle.std.specs.Prelude.{codes, is_some, Ok}
 use Rattle.std.specs.List.{flat_map, list_all, AllByRecursion}
 use Rattle.std.proofs.lemmas.Bool.Decides.{nat_tests}
 use Rattle.acn_lex.specs.declared.Kind.{Kind}
@@ -27,7 +27,7 @@ IsName name = is_acn_identifier name ≡ true
 abbrev pub name_tokens : List ℕ → Tokens
 name_tokens name = mark (codes ".") ∷ token Word name ∷ []
 
-name_found : (ts : List Lexeme) (x : List ℕ) (r : List Lexeme) → next_name ts ≡ Some (x, r) → Takes name_tokens IsName ts x r
+name_found : (ts : List Lexeme) (x : List ℕ) (r : List Lexeme) → next_name ts ≡ Ok (x, r) → Takes name_tokens IsName ts x r
 unfolding next_name
 name_found ts x r e =
     then_found (expect Mark (codes ".") ts) _ _ e (λ _ m1 e1 h.
@@ -35,14 +35,14 @@ name_found ts x r e =
     let b = word_found is_acn_identifier m1 x r h in
     record { parts = a ∙ ap (λ z. mark (codes ".") ∷ z) b.0; fits = b.1 })
 
-name_again : (x : List ℕ) (r : List Lexeme) → IsName x → next_name (name_tokens x ++ r) ≡ Some (x, r)
+name_again : (x : List ℕ) (r : List Lexeme) → IsName x → next_name (name_tokens x ++ r) ≡ Ok (x, r)
 unfolding next_name
 name_again x r fits = then_again _ _ _ _ _ (expect_again _ _ _) (word_again _ _ _ fits)
 
 abbrev pub IsPath : AcnPath → Type 0
 IsPath p = is_path p ≡ true
 
-pub path_found : (ts : List Lexeme) (p : AcnPath) (r : List Lexeme) → path ts ≡ Some (p, r) → Takes path_tokens IsPath ts p r
+pub path_found : (ts : List Lexeme) (p : AcnPath) (r : List Lexeme) → path ts ≡ Ok (p, r) → Takes path_tokens IsPath ts p r
 unfolding path path_tokens
 path_found ts p r e =
     then_found (word is_acn_identifier ts) _ _ e (λ first m1 e1 h.
@@ -57,11 +57,11 @@ path_found ts p r e =
 abbrev pub EndsPath : List Lexeme → Type 0
 EndsPath r = has_stop r ≡ false
 
-names_again : (ns : List (List ℕ)) (r : List Lexeme) → AllByRecursion IsName ns → EndsPath r → many has_stop next_name (flat_map name_tokens ns ++ r) ≡ Some (ns, r)
+names_again : (ns : List (List ℕ)) (r : List Lexeme) → AllByRecursion IsName ns → EndsPath r → many has_stop next_name (flat_map name_tokens ns ++ r) ≡ Ok (ns, r)
 names_again ns r fits ends =
     many_again has_stop next_name name_tokens IsName (λ _. Unit {0}) (length (flat_map name_tokens ns ++ r)) (λ x r _ fits _. name_again x r fits) (λ x r _. sees_again _ _ _) (λ _ _ _. tt) (λ x _. omega arith) ns r (omega arith) fits tt ends
 
-path_from : (ns : List (List ℕ)) (r : List Lexeme) → is_path (record { names = ns }) ≡ true → EndsPath r → path (path_tokens (record { names = ns }) ++ r) ≡ Some (record { names = ns }, r)
+path_from : (ns : List (List ℕ)) (r : List Lexeme) → is_path (record { names = ns }) ≡ true → EndsPath r → path (path_tokens (record { names = ns }) ++ r) ≡ Ok (record { names = ns }, r)
 unfolding path path_tokens
 path_from [] r fits ends = absurd cc
 path_from (n ∷ ns) r fits ends =
@@ -69,7 +69,7 @@ path_from (n ∷ ns) r fits ends =
     then_again _ _ _ _ _ (word_again _ _ _ k.0)
     (then_again _ _ _ _ _ (names_again ns r (all_pass is_acn_identifier ns k.1) ends) refl)
 
-pub path_again : (p : AcnPath) (r : List Lexeme) → IsPath p → EndsPath r → path (path_tokens p ++ r) ≡ Some (p, r)
+pub path_again : (p : AcnPath) (r : List Lexeme) → IsPath p → EndsPath r → path (path_tokens p ++ r) ≡ Ok (p, r)
 path_again p r fits ends = path_from p.names r fits ends
 
 -- ---- conditions
@@ -81,7 +81,7 @@ abbrev IsEquals : Option Signed → Type 0
 IsEquals None = Unit {0}
 IsEquals (Some n) = is_signed n ≡ true
 
-equals_if_found : (b : Bool) (ts m : List Lexeme) (o : Option Signed) (r : List Lexeme) → ts ≡ given b (mark (codes "==")) ++ m → equals_if b m ≡ Some (o, r) → Takes equals_tokens IsEquals ts o r
+equals_if_found : (b : Bool) (ts m : List Lexeme) (o : Option Signed) (r : List Lexeme) → ts ≡ given b (mark (codes "==")) ++ m → equals_if b m ≡ Ok (o, r) → Takes equals_tokens IsEquals ts o r
 equals_if_found true ts m o r p e =
     then_found (signed m) _ _ e (λ n m' e1 h.
     let a = signed_found _ _ _ e1 in
@@ -89,7 +89,7 @@ equals_if_found true ts m o r p e =
     done _ _ _ _ h parts (lt-ltb _ _ a.fits))
 equals_if_found false ts m o r p e = done _ _ _ _ e p tt
 
-equals_found : (ts : List Lexeme) (o : Option Signed) (r : List Lexeme) → equals ts ≡ Some (o, r) → Takes equals_tokens IsEquals ts o r
+equals_found : (ts : List Lexeme) (o : Option Signed) (r : List Lexeme) → equals ts ≡ Ok (o, r) → Takes equals_tokens IsEquals ts o r
 unfolding equals
 equals_found ts o r e = then_found (eat Mark (codes "==") ts) _ _ e (λ found m e1 h. equals_if_found found ts m o r (given_found _ _ _ _ _ e1) h)
 
@@ -101,7 +101,7 @@ fits_parts : (p : AcnPath) (o : Option Signed) → IsCondition (record { path = 
 fits_parts p None h = (let k = and_parts (is_path p) true h in (k.0, tt))
 fits_parts p (Some n) h = and_parts (is_path p) (is_signed n) h
 
-pub condition_found : (ts : List Lexeme) (c : Condition) (r : List Lexeme) → condition ts ≡ Some (c, r) → Takes condition_tokens IsCondition ts c r
+pub condition_found : (ts : List Lexeme) (c : Condition) (r : List Lexeme) → condition ts ≡ Ok (c, r) → Takes condition_tokens IsCondition ts c r
 unfolding condition condition_tokens
 condition_found ts c r e =
     then_found (path ts) _ _ e (λ to m1 e1 h.
@@ -121,14 +121,14 @@ unfolding same_kind sees
 equals_stop None r ends = ends.stop
 equals_stop (Some n) r ends = refl
 
-equals_again : (o : Option Signed) (r : List Lexeme) → IsEquals o → EndsCondition r → equals (equals_tokens o ++ r) ≡ Some (o, r)
+equals_again : (o : Option Signed) (r : List Lexeme) → IsEquals o → EndsCondition r → equals (equals_tokens o ++ r) ≡ Ok (o, r)
 unfolding equals
 equals_again None r fits ends = then_again _ _ _ _ _ (eat_nothing _ _ _ ends.equal) refl
 equals_again (Some n) r fits ends =
     then_again _ _ _ _ _ (eat_again _ _ _)
     (then_again _ _ _ _ _ (signed_again n r (ltb-true _ _ fits)) refl)
 
-pub condition_again : (c : Condition) (r : List Lexeme) → IsCondition c → EndsCondition r → condition (condition_tokens c ++ r) ≡ Some (c, r)
+pub condition_again : (c : Condition) (r : List Lexeme) → IsCondition c → EndsCondition r → condition (condition_tokens c ++ r) ≡ Ok (c, r)
 unfolding condition condition_tokens
 condition_again c r fits ends =
     let k = fits_parts c.path c.equals fits in
@@ -171,7 +171,7 @@ condition_some c fits = omega (arith, length-append (path_tokens c.path) (equals
 abbrev AreConditions : List Condition → Type 0
 AreConditions cs = (is_some_of cs && list_all is_condition cs) ≡ true
 
-pub conditions_found : (ts : List Lexeme) (cs : List Condition) (r : List Lexeme) → conditions ts ≡ Some (cs, r) → Takes (flat_map condition_tokens) AreConditions ts cs r
+pub conditions_found : (ts : List Lexeme) (cs : List Condition) (r : List Lexeme) → conditions ts ≡ Ok (cs, r) → Takes (flat_map condition_tokens) AreConditions ts cs r
 unfolding conditions
 conditions_found ts cs r e =
     then_found (condition ts) _ _ e (λ first m1 e1 h.
@@ -186,7 +186,7 @@ pub record EndsConditions (r : List Lexeme) : Type 0 where
   pub last : EndsCondition r
   pub word : has_kind Word r ≡ false
 
-more_again : (cs : List Condition) (r : List Lexeme) → AllByRecursion IsCondition cs → EndsConditions r → many (has_kind Word) condition (flat_map condition_tokens cs ++ r) ≡ Some (cs, r)
+more_again : (cs : List Condition) (r : List Lexeme) → AllByRecursion IsCondition cs → EndsConditions r → many (has_kind Word) condition (flat_map condition_tokens cs ++ r) ≡ Ok (cs, r)
 more_again cs r fits ends =
     many_again (has_kind Word) condition condition_tokens IsCondition EndsCondition (length (flat_map condition_tokens cs ++ r)) (λ c r _ fits ends. condition_again c r fits ends) condition_starts condition_next condition_some cs r (omega arith) fits ends.last ends.word
 
@@ -194,7 +194,7 @@ more_next : (cs : List Condition) (r : List Lexeme) → AllByRecursion IsConditi
 more_next [] r fits ends = ends.last
 more_next (c ∷ cs) r fits ends = subst EndsCondition (sym (append_assoc (condition_tokens c) (flat_map condition_tokens cs) r)) (condition_next c _ fits.0)
 
-pub conditions_again : (cs : List Condition) (r : List Lexeme) → AreConditions cs → EndsConditions r → conditions (flat_map condition_tokens cs ++ r) ≡ Some (cs, r)
+pub conditions_again : (cs : List Condition) (r : List Lexeme) → AreConditions cs → EndsConditions r → conditions (flat_map condition_tokens cs ++ r) ≡ Ok (cs, r)
 unfolding conditions
 conditions_again [] r fits ends = absurd cc
 conditions_again (c ∷ cs) r fits ends =

@@ -1,6 +1,6 @@
 -- What a word that names something is, and that it is read again.
 use Rattle.std.proofs.Common.{◌≡◌, ℕ, Bool, true, false, cond, List, [], ◌∷◌, ◌++◌, Option, Some, None, refl, sym, ap, ◌∙◌, ◌&&◌, ◌||◌, not}
-use Rattle.std.specs.Prelude.{option_and_then, codes, if◌then◌else◌, is_some}
+use Rattle.std.specs.Prelude.{option_and_then, codes, if◌then◌else◌, is_some, Ok}
 use Rattle.std.specs.List.{list_any, list_all, AllByRecursion}
 use Rattle.std.specs.Str.{bytes_eq}
 use Rattle.std.proofs.lemmas.Slice.Eq.{bytes_eq-Decides}
@@ -22,14 +22,14 @@ use Rattle.acn_acn_parse.specs.declared.words.Attribute.TheVariants as name
 use Rattle.std.proofs.lemmas.Bool.{and_parts, not-true}
 
 pub word_as_found : {A : Type 0} (names : List ℕ → Option A) (print : A → List ℕ) → ((text : List ℕ) (a : A) → names text ≡ Some a → text ≡ print a)
-    → (ts : List Lexeme) (a : A) (r : List Lexeme) → word_as names ts ≡ Some (a, r) → ts ≡ token Word (print a) ∷ r
+    → (ts : List Lexeme) (a : A) (r : List Lexeme) → word_as names ts ≡ Ok (a, r) → ts ≡ token Word (print a) ∷ r
 unfolding word_as
 word_as_found names print law ts a r e =
     let t = taken_found (option_and_then names (text_of Word ts)) ts a r e in
     let s = then_some (text_of Word ts) names a t.0 in
     text_of_found Word ts s.0 s.1 ∙ ap2 (λ (x : List ℕ) (b : List Lexeme). token Word x ∷ b) (law s.0 a s.2) t.1
 
-pub word_as_again : {A : Type 0} (names : List ℕ → Option A) (text : List ℕ) (a : A) (r : List Lexeme) → names text ≡ Some a → word_as names (token Word text ∷ r) ≡ Some (a, r)
+pub word_as_again : {A : Type 0} (names : List ℕ → Option A) (text : List ℕ) (a : A) (r : List Lexeme) → names text ≡ Some a → word_as names (token Word text ∷ r) ≡ Ok (a, r)
 unfolding word_as
 word_as_again names text a r e = rw (text_of_again Word text r, e) refl
 

@@ -1,11 +1,11 @@
 -- What the parser of fields, entries and modules answers, step by step. A tree is answered as its plain data.
-use Rattle.std.specs.Prelude.{◌≡◌, ℕ, zero, suc, map, Bool, true, false, not, ◌||◌, if◌then◌else◌, List, [], ◌∷◌, Option, Some, None, Result, Ok, Err, codes}
+use Rattle.std.specs.Prelude.{◌≡◌, ℕ, zero, suc, Bool, true, false, not, ◌||◌, if◌then◌else◌, List, [], ◌∷◌, length, Result, Ok, Err, codes}
 use Rattle.acn_lex.specs.declared.Kind.TheVariants.{Word, Mark}
 use Rattle.acn_lex.specs.Lexeme.{Lexeme}
-use Rattle.acn_cursor.specs.Steps.{Parser, ◌>>=◌, ◌>>◌, pure, refuse, eat, expect, sees, word, many, Fails, is_whole, Refused, token}
+use Rattle.acn_cursor.specs.Steps.{Parser, ◌>>=◌, ◌>>◌, pure, refuse, eat, expect, sees, word, many, Fails, is_whole, token, Outcome}
 use Rattle.acn_lex.specs.Words.{is_reference, acn_left_out_words}
 use Rattle.acn_cursor.specs.Screens.{tokens_of}
-use Rattle.acn_cursor.specs.declared.fault.ParseFault.{ParseFault}
+use Rattle.acn_cursor.specs.declared.stop.Stop.{Stop}
 use Rattle.acn_acn_syntax.specs.Mirror.{Field, Braces, Fields, plain, inserted, number, no_braces, braces, Entry, Module}
 use Rattle.acn_acn_syntax.specs.ModuleTokens.{is_acn_identifier}
 use Rattle.acn_acn_syntax.specs.View.{fields_of}
@@ -19,14 +19,14 @@ use Rattle.acn_acn_parse.specs.AttributeReading.{path, bracket, has_comma}
 use Rattle.acn_acn_parse.specs.MapReading.{signed}
 
 -- what a function that parses ensures of a tree that contracts see as other data
-abbrev pub ReadsAs : {A B : Type 0} → (B → A) → Option (A × List Lexeme) → Result B ParseFault → List Lexeme → Type 0
-ReadsAs view outcome (Ok b) new = outcome ≡ Some (view b, new)
+abbrev pub ReadsAs : {A B : Type 0} → (B → A) → Outcome A → Result B Stop → List Lexeme → Type 0
+ReadsAs view outcome (Ok b) new = outcome ≡ Ok (view b, new)
 ReadsAs view outcome (Err e) new = Fails outcome e
 
 -- the same of a parser that has to take all tokens
-abbrev pub WholeAs : {A B : Type 0} → (B → A) → Option (A × List Lexeme) → Result B ParseFault → Type 0
-WholeAs view outcome (Ok b) = is_whole outcome ≡ Some (view b)
-WholeAs view outcome (Err e) = Refused (is_whole outcome) e
+abbrev pub WholeAs : {A B : Type 0} → (B → A) → Outcome A → Result B Stop → Type 0
+WholeAs view outcome (Ok b) = is_whole outcome ≡ Ok (view b)
+WholeAs view outcome (Err e) = Fails (is_whole outcome) e
 
 -- the words that are left out of ACN files
 unfoldable pub left_out_tokens : List Lexeme
@@ -232,3 +232,7 @@ modules_at depth = do
   first ← module_at depth
   more ← many has_more (module_at depth)
   pure (first ∷ more)
+
+-- the modules of a file, in which braces can't stand deeper in one another than there are tokens
+abbrev pub modules_in_file : Parser (List Module)
+modules_in_file ts = modules_at (length ts) ts

@@ -5,11 +5,12 @@ ghost use Rattle.acn_cursor.specs.Steps.{Reads, many, word, ReadsFreely};
 ghost use Rattle.acn_acn_syntax.specs.ModuleTokens.{is_acn_identifier};
 ghost use Rattle.acn_lex.specs.declared.Kind.TheVariants.{Word, Number, Bits, Hex};
 ghost use Rattle.acn_acn_parse.specs.AttributeReading as spec;
+ghost use Rattle.acn_acn_parse.specs.declared.words.Attribute.TheVariants as words;
 
 use crate::maps::signed;
 use crate::words::{Attribute, acn_identifier, alignment, attribute_name, encoding, endianness};
 use acn_acn_syntax::{AcnPath, Attr, Condition, Literal, Signed, SizeAttr};
-use acn_cursor::{Cursor, ParseFault};
+use acn_cursor::{Cursor, Stop};
 use acn_lex::Kind;
 use acn_num::{Boxed, Name, NoMemory, Row};
 use std::alloc::Global;
@@ -31,14 +32,14 @@ fn has_stop(cursor: &Cursor<'_>) -> bool
 }
 
 #[tactic(auto, unfolding(crate::specs::AttributeReading::next_name))]
-fn next_name(alloc: Global, cursor: &mut Cursor<'_>) -> Result<Name, ParseFault>
+fn next_name(alloc: Global, cursor: &mut Cursor<'_>) -> Result<Name, Stop>
     ensures { Reads (spec.next_name cursor.old) result cursor.new }
 {
     cursor.expect(Kind::Mark, b".")?;
     acn_identifier(alloc, cursor)
 }
 
-fn more_names(alloc: Global, cursor: &mut Cursor<'_>) -> Result<Row<Name>, ParseFault>
+fn more_names(alloc: Global, cursor: &mut Cursor<'_>) -> Result<Row<Name>, Stop>
     ensures { Reads (many spec.has_stop spec.next_name cursor.old) result cursor.new }
 {
     let mut names = Row::new(alloc);
@@ -54,7 +55,7 @@ fn more_names(alloc: Global, cursor: &mut Cursor<'_>) -> Result<Row<Name>, Parse
 
 /// Takes a path.
 #[tactic(auto, unfolding(crate::specs::AttributeReading::path))]
-pub fn path(alloc: Global, cursor: &mut Cursor<'_>) -> Result<AcnPath, ParseFault>
+pub fn path(alloc: Global, cursor: &mut Cursor<'_>) -> Result<AcnPath, Stop>
     ensures { Reads (spec.path cursor.old) result cursor.new }
 {
     let first = acn_identifier(alloc, cursor)?;
@@ -64,7 +65,7 @@ pub fn path(alloc: Global, cursor: &mut Cursor<'_>) -> Result<AcnPath, ParseFaul
 }
 
 #[tactic(auto, unfolding(crate::specs::AttributeReading::equals))]
-fn equals(cursor: &mut Cursor<'_>) -> Result<Option<Signed>, ParseFault>
+fn equals(cursor: &mut Cursor<'_>) -> Result<Option<Signed>, Stop>
     ensures { ReadsFreely (spec.equals cursor.old) result cursor.new }
 {
     if cursor.eat(Kind::Mark, b"==") {
@@ -75,7 +76,7 @@ fn equals(cursor: &mut Cursor<'_>) -> Result<Option<Signed>, ParseFault>
 }
 
 #[tactic(auto, unfolding(crate::specs::AttributeReading::condition))]
-fn condition(alloc: Global, cursor: &mut Cursor<'_>) -> Result<Condition, ParseFault>
+fn condition(alloc: Global, cursor: &mut Cursor<'_>) -> Result<Condition, Stop>
     ensures { Reads (spec.condition cursor.old) result cursor.new }
 {
     let path = path(alloc, cursor)?;
@@ -89,7 +90,7 @@ fn has_word(cursor: &Cursor<'_>) -> bool
     cursor.text_of(Kind::Word).is_some()
 }
 
-fn more_conditions(alloc: Global, cursor: &mut Cursor<'_>) -> Result<Row<Condition>, ParseFault>
+fn more_conditions(alloc: Global, cursor: &mut Cursor<'_>) -> Result<Row<Condition>, Stop>
     ensures { Reads (many (spec.has_kind Word) spec.condition cursor.old) result cursor.new }
 {
     let mut conditions = Row::new(alloc);
@@ -104,7 +105,7 @@ fn more_conditions(alloc: Global, cursor: &mut Cursor<'_>) -> Result<Row<Conditi
 }
 
 #[tactic(auto, unfolding(crate::specs::AttributeReading::conditions))]
-fn conditions(alloc: Global, cursor: &mut Cursor<'_>) -> Result<Row<Condition>, ParseFault>
+fn conditions(alloc: Global, cursor: &mut Cursor<'_>) -> Result<Row<Condition>, Stop>
     ensures { Reads (spec.conditions cursor.old) result cursor.new }
 {
     let first = condition(alloc, cursor)?;
@@ -119,7 +120,7 @@ fn has_number(cursor: &Cursor<'_>) -> bool
 }
 
 #[tactic(auto, unfolding(crate::specs::AttributeReading::word_size))]
-fn word_size(alloc: Global, cursor: &mut Cursor<'_>) -> Result<SizeAttr, ParseFault>
+fn word_size(alloc: Global, cursor: &mut Cursor<'_>) -> Result<SizeAttr, Stop>
     ensures { Reads (spec.word_size cursor.old) result cursor.new }
 {
     if cursor.eat(Kind::Word, b"null-terminated") {
@@ -130,7 +131,7 @@ fn word_size(alloc: Global, cursor: &mut Cursor<'_>) -> Result<SizeAttr, ParseFa
 }
 
 #[tactic(auto, unfolding(crate::specs::AttributeReading::size_of))]
-fn size(alloc: Global, cursor: &mut Cursor<'_>) -> Result<SizeAttr, ParseFault>
+fn size(alloc: Global, cursor: &mut Cursor<'_>) -> Result<SizeAttr, Stop>
     ensures { Reads (spec.size_of cursor.old) result cursor.new }
 {
     if has_number(cursor) {
@@ -141,7 +142,7 @@ fn size(alloc: Global, cursor: &mut Cursor<'_>) -> Result<SizeAttr, ParseFault>
 }
 
 #[tactic(auto, unfolding(crate::specs::AttributeReading::literal_of))]
-fn literal(alloc: Global, cursor: &mut Cursor<'_>) -> Result<Literal, ParseFault>
+fn literal(alloc: Global, cursor: &mut Cursor<'_>) -> Result<Literal, Stop>
     ensures read { Reads (spec.literal_of cursor.old) result cursor.new }
     ensures kept { IfErr result (λ _. cursor.new ≡ cursor.old) }
 {
@@ -162,27 +163,95 @@ fn literal(alloc: Global, cursor: &mut Cursor<'_>) -> Result<Literal, ParseFault
     }
 }
 
-fn attribute_by(alloc: Global, name: Attribute, cursor: &mut Cursor<'_>) -> Result<Attr, ParseFault>
+// What stands behind the word of an attribute.
+
+fn size_attribute(alloc: Global, cursor: &mut Cursor<'_>) -> Result<Attr, Stop>
+    ensures { Reads (spec.attribute_by words.Size cursor.old) result cursor.new }
+{
+    Ok(Attr::Size(size(alloc, cursor)?))
+}
+
+fn encoding_attribute(cursor: &mut Cursor<'_>) -> Result<Attr, Stop>
+    ensures { ReadsFreely (spec.attribute_by words.Encoding cursor.old) result cursor.new }
+{
+    Ok(Attr::Encoding(encoding(cursor)?))
+}
+
+fn endianness_attribute(cursor: &mut Cursor<'_>) -> Result<Attr, Stop>
+    ensures { ReadsFreely (spec.attribute_by words.Endianness cursor.old) result cursor.new }
+{
+    Ok(Attr::Endianness(endianness(cursor)?))
+}
+
+fn alignment_attribute(cursor: &mut Cursor<'_>) -> Result<Attr, Stop>
+    ensures { ReadsFreely (spec.attribute_by words.AlignToNext cursor.old) result cursor.new }
+{
+    Ok(Attr::AlignToNext(alignment(cursor)?))
+}
+
+fn true_value_attribute(alloc: Global, cursor: &mut Cursor<'_>) -> Result<Attr, Stop>
+    ensures { Reads (spec.attribute_by words.TrueValue cursor.old) result cursor.new }
+{
+    Ok(Attr::TrueValue(literal(alloc, cursor)?))
+}
+
+fn false_value_attribute(alloc: Global, cursor: &mut Cursor<'_>) -> Result<Attr, Stop>
+    ensures { Reads (spec.attribute_by words.FalseValue cursor.old) result cursor.new }
+{
+    Ok(Attr::FalseValue(literal(alloc, cursor)?))
+}
+
+fn pattern_attribute(alloc: Global, cursor: &mut Cursor<'_>) -> Result<Attr, Stop>
+    ensures { Reads (spec.attribute_by words.Pattern cursor.old) result cursor.new }
+{
+    Ok(Attr::Pattern(literal(alloc, cursor)?))
+}
+
+fn termination_pattern_attribute(alloc: Global, cursor: &mut Cursor<'_>) -> Result<Attr, Stop>
+    ensures { Reads (spec.attribute_by words.TerminationPattern cursor.old) result cursor.new }
+{
+    Ok(Attr::TerminationPattern(literal(alloc, cursor)?))
+}
+
+fn present_when_attribute(alloc: Global, cursor: &mut Cursor<'_>) -> Result<Attr, Stop>
+    ensures { Reads (spec.attribute_by words.PresentWhen cursor.old) result cursor.new }
+{
+    Ok(Attr::PresentWhen(conditions(alloc, cursor)?))
+}
+
+fn determinant_attribute(alloc: Global, cursor: &mut Cursor<'_>) -> Result<Attr, Stop>
+    ensures { Reads (spec.attribute_by words.Determinant cursor.old) result cursor.new }
+{
+    Ok(Attr::Determinant(path(alloc, cursor)?))
+}
+
+fn mapping_function_attribute(alloc: Global, cursor: &mut Cursor<'_>) -> Result<Attr, Stop>
+    ensures { Reads (spec.attribute_by words.MappingFunction cursor.old) result cursor.new }
+{
+    Ok(Attr::MappingFunction(acn_identifier(alloc, cursor)?))
+}
+
+fn attribute_by(alloc: Global, name: Attribute, cursor: &mut Cursor<'_>) -> Result<Attr, Stop>
     ensures { Reads (spec.attribute_by name cursor.old) result cursor.new }
 {
     match name {
-        Attribute::Size => Ok(Attr::Size(size(alloc, cursor)?)),
-        Attribute::Encoding => Ok(Attr::Encoding(encoding(cursor)?)),
-        Attribute::Endianness => Ok(Attr::Endianness(endianness(cursor)?)),
-        Attribute::AlignToNext => Ok(Attr::AlignToNext(alignment(cursor)?)),
+        Attribute::Size => size_attribute(alloc, cursor),
+        Attribute::Encoding => encoding_attribute(cursor),
+        Attribute::Endianness => endianness_attribute(cursor),
+        Attribute::AlignToNext => alignment_attribute(cursor),
         Attribute::EncodeValues => Ok(Attr::EncodeValues),
-        Attribute::TrueValue => Ok(Attr::TrueValue(literal(alloc, cursor)?)),
-        Attribute::FalseValue => Ok(Attr::FalseValue(literal(alloc, cursor)?)),
-        Attribute::Pattern => Ok(Attr::Pattern(literal(alloc, cursor)?)),
-        Attribute::TerminationPattern => Ok(Attr::TerminationPattern(literal(alloc, cursor)?)),
-        Attribute::PresentWhen => Ok(Attr::PresentWhen(conditions(alloc, cursor)?)),
-        Attribute::Determinant => Ok(Attr::Determinant(path(alloc, cursor)?)),
-        Attribute::MappingFunction => { Ok(Attr::MappingFunction(acn_identifier(alloc, cursor)?)) }
+        Attribute::TrueValue => true_value_attribute(alloc, cursor),
+        Attribute::FalseValue => false_value_attribute(alloc, cursor),
+        Attribute::Pattern => pattern_attribute(alloc, cursor),
+        Attribute::TerminationPattern => termination_pattern_attribute(alloc, cursor),
+        Attribute::PresentWhen => present_when_attribute(alloc, cursor),
+        Attribute::Determinant => determinant_attribute(alloc, cursor),
+        Attribute::MappingFunction => mapping_function_attribute(alloc, cursor),
     }
 }
 
 #[tactic(auto, unfolding(crate::specs::AttributeReading::attribute))]
-fn attribute(alloc: Global, cursor: &mut Cursor<'_>) -> Result<Attr, ParseFault>
+fn attribute(alloc: Global, cursor: &mut Cursor<'_>) -> Result<Attr, Stop>
     ensures { Reads (spec.attribute cursor.old) result cursor.new }
 {
     let name = attribute_name(cursor)?;
@@ -197,14 +266,14 @@ pub fn has_comma(cursor: &Cursor<'_>) -> bool
 }
 
 #[tactic(auto, unfolding(crate::specs::AttributeReading::next_attribute))]
-fn next_attribute(alloc: Global, cursor: &mut Cursor<'_>) -> Result<Attr, ParseFault>
+fn next_attribute(alloc: Global, cursor: &mut Cursor<'_>) -> Result<Attr, Stop>
     ensures { Reads (spec.next_attribute cursor.old) result cursor.new }
 {
     cursor.expect(Kind::Mark, b",")?;
     attribute(alloc, cursor)
 }
 
-fn more_attributes(alloc: Global, cursor: &mut Cursor<'_>) -> Result<Row<Attr>, ParseFault>
+fn more_attributes(alloc: Global, cursor: &mut Cursor<'_>) -> Result<Row<Attr>, Stop>
     ensures { Reads (many spec.has_comma spec.next_attribute cursor.old) result cursor.new }
 {
     let mut attributes = Row::new(alloc);
@@ -219,7 +288,7 @@ fn more_attributes(alloc: Global, cursor: &mut Cursor<'_>) -> Result<Row<Attr>, 
 }
 
 #[tactic(auto, unfolding(crate::specs::AttributeReading::attributes))]
-fn attributes(alloc: Global, cursor: &mut Cursor<'_>) -> Result<Row<Attr>, ParseFault>
+fn attributes(alloc: Global, cursor: &mut Cursor<'_>) -> Result<Row<Attr>, Stop>
     ensures { Reads (spec.attributes cursor.old) result cursor.new }
 {
     if cursor.sees(Kind::Mark, b"]") {
@@ -232,7 +301,7 @@ fn attributes(alloc: Global, cursor: &mut Cursor<'_>) -> Result<Row<Attr>, Parse
 
 /// Takes attributes between brackets.
 #[tactic(auto, unfolding(crate::specs::AttributeReading::bracket))]
-pub fn bracket(alloc: Global, cursor: &mut Cursor<'_>) -> Result<Row<Attr>, ParseFault>
+pub fn bracket(alloc: Global, cursor: &mut Cursor<'_>) -> Result<Row<Attr>, Stop>
     ensures { Reads (spec.bracket cursor.old) result cursor.new }
 {
     cursor.expect(Kind::Mark, b"[")?;

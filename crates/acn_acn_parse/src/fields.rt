@@ -12,20 +12,20 @@ use crate::attributes::{bracket, has_comma, path, with_first};
 use crate::maps::signed;
 use crate::words::acn_identifier;
 use acn_acn_syntax::{AcnField, AcnPath, Attr, FieldKind, Signed};
-use acn_cursor::{Cursor, ParseFault, reference};
+use acn_cursor::{Cursor, Stop, reference};
 use acn_lex::Kind;
 use acn_num::{Name, NoMemory, Row};
 use std::alloc::Global;
 
 #[tactic(auto, unfolding(crate::specs::FieldReading::next_path))]
-fn next_path(alloc: Global, cursor: &mut Cursor<'_>) -> Result<AcnPath, ParseFault>
+fn next_path(alloc: Global, cursor: &mut Cursor<'_>) -> Result<AcnPath, Stop>
     ensures { Reads (spec.next_path cursor.old) result cursor.new }
 {
     cursor.expect(Kind::Mark, b",")?;
     path(alloc, cursor)
 }
 
-fn more_paths(alloc: Global, cursor: &mut Cursor<'_>) -> Result<Row<AcnPath>, ParseFault>
+fn more_paths(alloc: Global, cursor: &mut Cursor<'_>) -> Result<Row<AcnPath>, Stop>
     ensures { Reads (many has_comma_next spec.next_path cursor.old) result cursor.new }
 {
     let mut paths = Row::new(alloc);
@@ -40,7 +40,7 @@ fn more_paths(alloc: Global, cursor: &mut Cursor<'_>) -> Result<Row<AcnPath>, Pa
 }
 
 #[tactic(auto, unfolding(crate::specs::FieldReading::arguments))]
-fn arguments(alloc: Global, cursor: &mut Cursor<'_>) -> Result<Row<AcnPath>, ParseFault>
+fn arguments(alloc: Global, cursor: &mut Cursor<'_>) -> Result<Row<AcnPath>, Stop>
     ensures { Reads (spec.arguments cursor.old) result cursor.new }
 {
     if !cursor.eat(Kind::Mark, b"<") {
@@ -53,7 +53,7 @@ fn arguments(alloc: Global, cursor: &mut Cursor<'_>) -> Result<Row<AcnPath>, Par
 }
 
 #[tactic(auto, unfolding(crate::specs::FieldReading::field_kind))]
-fn field_kind(alloc: Global, cursor: &mut Cursor<'_>) -> Result<FieldKind, ParseFault>
+fn field_kind(alloc: Global, cursor: &mut Cursor<'_>) -> Result<FieldKind, Stop>
     ensures { Reads (spec.field_kind cursor.old) result cursor.new }
 {
     if cursor.eat(Kind::Word, b"INTEGER") {
@@ -101,7 +101,7 @@ fn plain_field(
 }
 
 #[tactic(auto, unfolding(crate::specs::FieldReading::number_rest))]
-fn number_rest(name: Name, cursor: &mut Cursor<'_>) -> Result<AcnField, ParseFault>
+fn number_rest(name: Name, cursor: &mut Cursor<'_>) -> Result<AcnField, Stop>
     ensures { ReadsAs field_of (spec.number_rest name cursor.old) result cursor.new }
 {
     cursor.expect(Kind::Mark, b"(")?;
@@ -111,7 +111,7 @@ fn number_rest(name: Name, cursor: &mut Cursor<'_>) -> Result<AcnField, ParseFau
 }
 
 #[tactic(auto, unfolding(crate::specs::FieldReading::inserted_rest))]
-fn inserted_rest(alloc: Global, name: Name, cursor: &mut Cursor<'_>) -> Result<AcnField, ParseFault>
+fn inserted_rest(alloc: Global, name: Name, cursor: &mut Cursor<'_>) -> Result<AcnField, Stop>
     ensures { ReadsAs field_of (spec.inserted_rest name cursor.old) result cursor.new }
 {
     let kind = field_kind(alloc, cursor)?;
@@ -133,7 +133,7 @@ fn joined(alloc: Global, first: AcnField, more: Row<AcnField>) -> Result<Row<Acn
 }
 
 #[cycle(fields)]
-fn field(alloc: Global, depth: usize, cursor: &mut Cursor<'_>) -> Result<AcnField, ParseFault>
+fn field(alloc: Global, depth: usize, cursor: &mut Cursor<'_>) -> Result<AcnField, Stop>
     ensures { ReadsAs field_of (spec.field_at depth cursor.old) result cursor.new }
 {
     if depth == 0 {
@@ -144,7 +144,7 @@ fn field(alloc: Global, depth: usize, cursor: &mut Cursor<'_>) -> Result<AcnFiel
 
 #[cycle(fields)]
 #[tactic(auto, unfolding(crate::specs::FieldReading::field_in))]
-fn field_in(alloc: Global, depth: usize, cursor: &mut Cursor<'_>) -> Result<AcnField, ParseFault>
+fn field_in(alloc: Global, depth: usize, cursor: &mut Cursor<'_>) -> Result<AcnField, Stop>
     ensures { ReadsAs field_of (spec.field_in (spec.field_at depth) cursor.old) result cursor.new }
 {
     let name = acn_identifier(alloc, cursor)?;
@@ -158,7 +158,7 @@ fn field_rest(
     depth: usize,
     name: Name,
     cursor: &mut Cursor<'_>,
-) -> Result<AcnField, ParseFault>
+) -> Result<AcnField, Stop>
     ensures { ReadsAs field_of (spec.field_rest (spec.field_at depth) name cursor.old) result cursor.new }
 {
     if cursor.sees(Kind::Mark, b"(") {
@@ -177,7 +177,7 @@ fn plain_rest(
     depth: usize,
     name: Name,
     cursor: &mut Cursor<'_>,
-) -> Result<AcnField, ParseFault>
+) -> Result<AcnField, Stop>
     ensures { ReadsAs field_of (spec.plain_rest (spec.field_at depth) name cursor.old) result cursor.new }
 {
     let arguments = arguments(alloc, cursor)?;
@@ -193,7 +193,7 @@ pub fn braces(
     alloc: Global,
     depth: usize,
     cursor: &mut Cursor<'_>,
-) -> Result<Option<Row<AcnField>>, ParseFault>
+) -> Result<Option<Row<AcnField>>, Stop>
     ensures { ReadsAs braces_view (spec.braces_at (spec.field_at depth) cursor.old) result cursor.new }
 {
     if cursor.eat(Kind::Mark, b"{") {
@@ -205,7 +205,7 @@ pub fn braces(
 
 #[cycle(fields)]
 #[tactic(auto, unfolding(crate::specs::FieldReading::fields))]
-fn fields(alloc: Global, depth: usize, cursor: &mut Cursor<'_>) -> Result<Row<AcnField>, ParseFault>
+fn fields(alloc: Global, depth: usize, cursor: &mut Cursor<'_>) -> Result<Row<AcnField>, Stop>
     ensures { ReadsAs (map field_of) (spec.fields (spec.field_at depth) cursor.old) result cursor.new }
 {
     if cursor.eat(Kind::Mark, b"}") {
@@ -218,11 +218,7 @@ fn fields(alloc: Global, depth: usize, cursor: &mut Cursor<'_>) -> Result<Row<Ac
 }
 
 #[cycle(fields)]
-fn more_fields(
-    alloc: Global,
-    depth: usize,
-    cursor: &mut Cursor<'_>,
-) -> Result<Row<AcnField>, ParseFault>
+fn more_fields(alloc: Global, depth: usize, cursor: &mut Cursor<'_>) -> Result<Row<AcnField>, Stop>
     ensures { ReadsAs (map field_of) (many has_comma_next (spec.next_field (spec.field_at depth)) cursor.old) result cursor.new }
 {
     let mut fields = Row::new(alloc);
@@ -238,7 +234,7 @@ fn more_fields(
 
 #[cycle(fields)]
 #[tactic(auto, unfolding(crate::specs::FieldReading::next_field))]
-fn next_field(alloc: Global, depth: usize, cursor: &mut Cursor<'_>) -> Result<AcnField, ParseFault>
+fn next_field(alloc: Global, depth: usize, cursor: &mut Cursor<'_>) -> Result<AcnField, Stop>
     ensures { ReadsAs field_of (spec.next_field (spec.field_at depth) cursor.old) result cursor.new }
 {
     cursor.expect(Kind::Mark, b",")?;

@@ -2,20 +2,20 @@ ghost use Rattle.std.specs.Prelude.{◌≡◌, ◌^◌, ◌<◌, [], ◌∷◌, 
 ghost use Rattle.acn_cursor.specs.Steps.{Reads, ReadsFreely, Whole, many};
 ghost use Rattle.acn_lex.specs.Lexeme.{lexemes};
 ghost use Rattle.acn_acn_syntax.specs.declared.maps.MapTables.{MapTables};
-ghost use Rattle.acn_cursor.specs.Exact.{IsFound, IsOnly, IsLeftOut, IsTooDeep};
+ghost use Rattle.acn_cursor.specs.Exact.{IsFound, IsLeftOut, IsOnly, IsPlaced, IsTooDeep, stops_at};
 ghost use Rattle.acn_acn_parse.specs.MapReading as spec;
 ghost use Rattle.acn_acn_syntax.specs.MapTokens as spelling;
 
 use crate::attributes::with_first;
 use acn_acn_syntax::{MapLine, MapTable, MapTables, Signed};
-use acn_cursor::{Cursor, ParseFault, identifier, screened};
+use acn_cursor::{Cursor, ParseFault, Stop, identifier, in_file, screened};
 use acn_lex::{Kind, Token, Tokens};
 use acn_num::Row;
 use std::alloc::Global;
 
 /// Takes a number with its sign.
 #[tactic(auto, unfolding(crate::specs::MapReading::signed))]
-pub fn signed(cursor: &mut Cursor<'_>) -> Result<Signed, ParseFault>
+pub fn signed(cursor: &mut Cursor<'_>) -> Result<Signed, Stop>
     ensures { ReadsFreely (spec.signed cursor.old) result cursor.new }
 {
     let negative = cursor.eat(Kind::Mark, b"-");
@@ -24,7 +24,7 @@ pub fn signed(cursor: &mut Cursor<'_>) -> Result<Signed, ParseFault>
 }
 
 #[tactic(auto, unfolding(crate::specs::MapReading::last))]
-fn last(cursor: &mut Cursor<'_>) -> Result<Option<Signed>, ParseFault>
+fn last(cursor: &mut Cursor<'_>) -> Result<Option<Signed>, Stop>
     ensures { ReadsFreely (spec.last cursor.old) result cursor.new }
 {
     if cursor.eat(Kind::Mark, b"..") {
@@ -35,7 +35,7 @@ fn last(cursor: &mut Cursor<'_>) -> Result<Option<Signed>, ParseFault>
 }
 
 #[tactic(auto, unfolding(crate::specs::MapReading::line))]
-fn line(cursor: &mut Cursor<'_>) -> Result<MapLine, ParseFault>
+fn line(cursor: &mut Cursor<'_>) -> Result<MapLine, Stop>
     ensures { ReadsFreely (spec.line cursor.old) result cursor.new }
 {
     let first = signed(cursor)?;
@@ -45,7 +45,7 @@ fn line(cursor: &mut Cursor<'_>) -> Result<MapLine, ParseFault>
     Ok(MapLine { first, last, image })
 }
 
-fn lines(alloc: Global, cursor: &mut Cursor<'_>) -> Result<Row<MapLine>, ParseFault>
+fn lines(alloc: Global, cursor: &mut Cursor<'_>) -> Result<Row<MapLine>, Stop>
     ensures { Reads (many spec.has_line spec.line cursor.old) result cursor.new }
 {
     let mut lines = Row::new(alloc);
@@ -60,7 +60,7 @@ fn lines(alloc: Global, cursor: &mut Cursor<'_>) -> Result<Row<MapLine>, ParseFa
 }
 
 #[tactic(auto, unfolding(crate::specs::MapReading::table))]
-fn table(alloc: Global, cursor: &mut Cursor<'_>) -> Result<MapTable, ParseFault>
+fn table(alloc: Global, cursor: &mut Cursor<'_>) -> Result<MapTable, Stop>
     ensures { Reads (spec.table cursor.old) result cursor.new }
 {
     let name = identifier(alloc, cursor)?;
@@ -70,7 +70,7 @@ fn table(alloc: Global, cursor: &mut Cursor<'_>) -> Result<MapTable, ParseFault>
     Ok(MapTable { name, lines })
 }
 
-fn all_tables(alloc: Global, cursor: &mut Cursor<'_>) -> Result<Row<MapTable>, ParseFault>
+fn all_tables(alloc: Global, cursor: &mut Cursor<'_>) -> Result<Row<MapTable>, Stop>
     ensures { Reads (many spec.has_more spec.table cursor.old) result cursor.new }
 {
     let mut tables = Row::new(alloc);
@@ -85,7 +85,7 @@ fn all_tables(alloc: Global, cursor: &mut Cursor<'_>) -> Result<Row<MapTable>, P
 }
 
 #[tactic(auto, unfolding(crate::specs::MapReading::tables))]
-fn tables(alloc: Global, cursor: &mut Cursor<'_>) -> Result<MapTables, ParseFault>
+fn tables(alloc: Global, cursor: &mut Cursor<'_>) -> Result<MapTables, Stop>
     ensures { Reads (spec.tables cursor.old) result cursor.new }
 {
     let first = table(alloc, cursor)?;
@@ -94,8 +94,7 @@ fn tables(alloc: Global, cursor: &mut Cursor<'_>) -> Result<MapTables, ParseFaul
     Ok(MapTables { tables })
 }
 
-fn whole(alloc: Global, tokens: &[Token<'_>]) -> Result<MapTables, ParseFault>
-    requires { length tokens.now < 2 ^ 32 }
+fn whole(alloc: Global, tokens: &[Token<'_>]) -> Result<MapTables, Stop>
     ensures { Whole (spec.tables (lexemes tokens.now)) result }
 {
     let mut cursor = Cursor::new(tokens);
@@ -110,18 +109,23 @@ fn whole(alloc: Global, tokens: &[Token<'_>]) -> Result<MapTables, ParseFault>
 /// The tables of a mapping file, from its tokens, of which there are fewer than `2^32`.
 ///
 /// `Ok` is the one proper tree that has these tokens. `TooDeep` comes exactly where the level of a token is over `MOST_LEVEL`,
-/// and `Syntax` exactly where no level is and no proper tree has these tokens; each keeps its token's number. No word
-/// is left out of mapping files.
+/// and `Syntax` exactly where no level is and no proper tree has these tokens. Each keeps its token's number; that of `Syntax`
+/// is where the productions of `specs/MapReading` stop, read from left to right with the next token in view. No word is left
+/// out of mapping files.
 pub fn parse_map(alloc: Global, tokens: &Tokens<'_>) -> Result<MapTables, ParseFault>
     requires { length tokens.now.list < 2 ^ 32 }
     ensures found { IsFound spelling.tokens_of spelling.IsProper (lexemes tokens.now.list) result }
     ensures only { (t : MapTables) → spelling.IsProper t → lexemes tokens.now.list ≡ spelling.tokens_of t → IsOnly result t }
     ensures left_out { IsLeftOut [] (lexemes tokens.now.list) result }
     ensures too_deep { IsTooDeep [] (lexemes tokens.now.list) result }
+    ensures place { IsPlaced (stops_at spec.tables (lexemes tokens.now.list)) result }
 {
     let list = tokens.list.items();
     match screened(list, &[], &[]) {
-        Ok(()) => whole(alloc, list),
+        Ok(()) => {
+            let answer = whole(alloc, list);
+            in_file(answer, list.len())
+        }
         Err(fault) => Err(fault),
     }
 }

@@ -1,7 +1,6 @@
 //! Parameters, entries and modules.
 
 ghost use Rattle.std.specs.Prelude.{◌≡◌, ◌^◌, ◌<◌, map, ◌∷◌, length, true, IfOk};
-ghost use Rattle.acn_cursor.specs.Exact.{IsLeftOut, IsOnly, IsTooDeep};
 ghost use Rattle.acn_cursor.specs.Steps.{Reads, many, ReadsFreely};
 ghost use Rattle.acn_lex.specs.Lexeme.{lexemes};
 ghost use Rattle.acn_acn_syntax.specs.View.{entry_of, module_of, modules_of};
@@ -13,13 +12,13 @@ use crate::attributes::{bracket, has_comma, with_first};
 use crate::fields::braces;
 use crate::words::acn_identifier;
 use acn_acn_syntax::{AcnEntry, AcnModule, Param, ParamKind};
-use acn_cursor::{Cursor, ParseFault, reference};
+use acn_cursor::{Cursor, Stop, reference};
 use acn_lex::Kind;
 use acn_num::{Boxed, NoMemory, Row};
 use std::alloc::Global;
 
 #[tactic(auto, unfolding(crate::specs::FieldReading::parameter_kind))]
-fn parameter_kind(alloc: Global, cursor: &mut Cursor<'_>) -> Result<ParamKind, ParseFault>
+fn parameter_kind(alloc: Global, cursor: &mut Cursor<'_>) -> Result<ParamKind, Stop>
     ensures { Reads (spec.parameter_kind cursor.old) result cursor.new }
 {
     if cursor.eat(Kind::Word, b"INTEGER") {
@@ -32,7 +31,7 @@ fn parameter_kind(alloc: Global, cursor: &mut Cursor<'_>) -> Result<ParamKind, P
 }
 
 #[tactic(auto, unfolding(crate::specs::FieldReading::one_parameter))]
-fn one_parameter(alloc: Global, cursor: &mut Cursor<'_>) -> Result<Param, ParseFault>
+fn one_parameter(alloc: Global, cursor: &mut Cursor<'_>) -> Result<Param, Stop>
     ensures { Reads (spec.one_parameter cursor.old) result cursor.new }
 {
     let kind = parameter_kind(alloc, cursor)?;
@@ -42,14 +41,14 @@ fn one_parameter(alloc: Global, cursor: &mut Cursor<'_>) -> Result<Param, ParseF
 }
 
 #[tactic(auto, unfolding(crate::specs::FieldReading::next_parameter))]
-fn next_parameter(alloc: Global, cursor: &mut Cursor<'_>) -> Result<Param, ParseFault>
+fn next_parameter(alloc: Global, cursor: &mut Cursor<'_>) -> Result<Param, Stop>
     ensures { Reads (spec.next_parameter cursor.old) result cursor.new }
 {
     cursor.expect(Kind::Mark, b",")?;
     one_parameter(alloc, cursor)
 }
 
-fn more_parameters(alloc: Global, cursor: &mut Cursor<'_>) -> Result<Row<Param>, ParseFault>
+fn more_parameters(alloc: Global, cursor: &mut Cursor<'_>) -> Result<Row<Param>, Stop>
     ensures { Reads (many has_comma_next spec.next_parameter cursor.old) result cursor.new }
 {
     let mut parameters = Row::new(alloc);
@@ -63,21 +62,29 @@ fn more_parameters(alloc: Global, cursor: &mut Cursor<'_>) -> Result<Row<Param>,
     Ok(parameters)
 }
 
-#[tactic(auto, unfolding(crate::specs::FieldReading::parameters))]
-fn parameters(alloc: Global, cursor: &mut Cursor<'_>) -> Result<Row<Param>, ParseFault>
-    ensures { Reads (spec.parameters cursor.old) result cursor.new }
+// Takes parameters, at least one, and the mark that closes them.
+fn some_parameters(alloc: Global, cursor: &mut Cursor<'_>) -> Result<Row<Param>, Stop>
+    ensures { Reads (spec.parameters_if true cursor.old) result cursor.new }
 {
-    if !cursor.eat(Kind::Mark, b"<") {
-        return Ok(Row::new(alloc));
-    }
     let first = Boxed::new(alloc, one_parameter(alloc, cursor)?)?;
     let more = more_parameters(alloc, cursor)?;
     cursor.expect(Kind::Mark, b">")?;
     Ok(with_first(alloc, first.into_inner(), more)?)
 }
 
+#[tactic(auto, unfolding(crate::specs::FieldReading::parameters))]
+fn parameters(alloc: Global, cursor: &mut Cursor<'_>) -> Result<Row<Param>, Stop>
+    ensures { Reads (spec.parameters cursor.old) result cursor.new }
+{
+    if cursor.eat(Kind::Mark, b"<") {
+        some_parameters(alloc, cursor)
+    } else {
+        Ok(Row::new(alloc))
+    }
+}
+
 #[tactic(auto, unfolding(crate::specs::FieldReading::entry_at))]
-fn entry(alloc: Global, depth: usize, cursor: &mut Cursor<'_>) -> Result<AcnEntry, ParseFault>
+fn entry(alloc: Global, depth: usize, cursor: &mut Cursor<'_>) -> Result<AcnEntry, Stop>
     ensures { ReadsAs entry_of (spec.entry_at depth cursor.old) result cursor.new }
 {
     let name = reference(alloc, cursor)?;
@@ -98,11 +105,7 @@ fn has_entry(cursor: &Cursor<'_>) -> bool
     !cursor.sees(Kind::Word, b"END")
 }
 
-fn entries(
-    alloc: Global,
-    depth: usize,
-    cursor: &mut Cursor<'_>,
-) -> Result<Row<AcnEntry>, ParseFault>
+fn entries(alloc: Global, depth: usize, cursor: &mut Cursor<'_>) -> Result<Row<AcnEntry>, Stop>
     ensures { ReadsAs (map entry_of) (many spec.has_entry (spec.entry_at depth) cursor.old) result cursor.new }
 {
     let mut entries = Row::new(alloc);
@@ -117,7 +120,7 @@ fn entries(
 }
 
 #[tactic(auto, unfolding(crate::specs::FieldReading::heading))]
-fn heading(cursor: &mut Cursor<'_>) -> Result<(), ParseFault>
+fn heading(cursor: &mut Cursor<'_>) -> Result<(), Stop>
     ensures { ReadsFreely (spec.heading cursor.old) result cursor.new }
 {
     cursor.expect(Kind::Word, b"DEFINITIONS")?;
@@ -126,7 +129,7 @@ fn heading(cursor: &mut Cursor<'_>) -> Result<(), ParseFault>
 }
 
 #[tactic(auto, unfolding(crate::specs::FieldReading::module_at))]
-fn module_at(alloc: Global, depth: usize, cursor: &mut Cursor<'_>) -> Result<AcnModule, ParseFault>
+fn module_at(alloc: Global, depth: usize, cursor: &mut Cursor<'_>) -> Result<AcnModule, Stop>
     ensures { ReadsAs module_of (spec.module_at depth cursor.old) result cursor.new }
 {
     let name = reference(alloc, cursor)?;
@@ -140,7 +143,7 @@ fn more_modules(
     alloc: Global,
     depth: usize,
     cursor: &mut Cursor<'_>,
-) -> Result<Row<AcnModule>, ParseFault>
+) -> Result<Row<AcnModule>, Stop>
     ensures { ReadsAs (map module_of) (many spec.has_more (spec.module_at depth) cursor.old) result cursor.new }
 {
     let mut modules = Row::new(alloc);
@@ -163,11 +166,7 @@ fn joined(alloc: Global, first: AcnModule, more: Row<AcnModule>) -> Result<Row<A
 
 /// Takes the modules of a file.
 #[tactic(auto, unfolding(crate::specs::FieldReading::modules_at))]
-pub fn modules(
-    alloc: Global,
-    depth: usize,
-    cursor: &mut Cursor<'_>,
-) -> Result<Row<AcnModule>, ParseFault>
+pub fn modules(alloc: Global, depth: usize, cursor: &mut Cursor<'_>) -> Result<Row<AcnModule>, Stop>
     ensures { ReadsAs (map module_of) (spec.modules_at depth cursor.old) result cursor.new }
 {
     let first = module_at(alloc, depth, cursor)?;

@@ -7,7 +7,7 @@ ghost use Rattle.acn_acn_syntax.specs.ModuleTokens as spelling;
 ghost use Rattle.acn_acn_parse.specs.WordReading as spec;
 
 use acn_acn_syntax::{Alignment, Encoding, Endianness};
-use acn_cursor::{Cursor, ParseFault};
+use acn_cursor::{Cursor, Stop};
 use acn_lex::{Kind, is_identifier, is_one_of};
 use acn_num::Name;
 use std::alloc::Global;
@@ -153,7 +153,7 @@ fn alignment_of(text: &[u8]) -> Option<Alignment>
 
 /// Takes the next token, which has to be the name of an attribute.
 #[tactic(auto, unfolding(crate::specs::WordReading::word_as))]
-pub fn attribute_name(cursor: &mut Cursor<'_>) -> Result<Attribute, ParseFault>
+pub fn attribute_name(cursor: &mut Cursor<'_>) -> Result<Attribute, Stop>
     ensures read { ReadsFreely (spec.word_as spec.attribute_of cursor.old) result cursor.new }
     ensures kept { IfErr result (λ _. cursor.new ≡ cursor.old) }
 {
@@ -171,7 +171,7 @@ pub fn attribute_name(cursor: &mut Cursor<'_>) -> Result<Attribute, ParseFault>
 
 /// Takes the next token, which has to be the word of an encoding.
 #[tactic(auto, unfolding(crate::specs::WordReading::word_as))]
-pub fn encoding(cursor: &mut Cursor<'_>) -> Result<Encoding, ParseFault>
+pub fn encoding(cursor: &mut Cursor<'_>) -> Result<Encoding, Stop>
     ensures read { ReadsFreely (spec.word_as spec.encoding_of cursor.old) result cursor.new }
     ensures kept { IfErr result (λ _. cursor.new ≡ cursor.old) }
 {
@@ -189,7 +189,7 @@ pub fn encoding(cursor: &mut Cursor<'_>) -> Result<Encoding, ParseFault>
 
 /// Takes the next token, which has to be the word of an order of octets.
 #[tactic(auto, unfolding(crate::specs::WordReading::word_as))]
-pub fn endianness(cursor: &mut Cursor<'_>) -> Result<Endianness, ParseFault>
+pub fn endianness(cursor: &mut Cursor<'_>) -> Result<Endianness, Stop>
     ensures read { ReadsFreely (spec.word_as spec.endianness_of cursor.old) result cursor.new }
     ensures kept { IfErr result (λ _. cursor.new ≡ cursor.old) }
 {
@@ -207,7 +207,7 @@ pub fn endianness(cursor: &mut Cursor<'_>) -> Result<Endianness, ParseFault>
 
 /// Takes the next token, which has to be the word of an alignment.
 #[tactic(auto, unfolding(crate::specs::WordReading::word_as))]
-pub fn alignment(cursor: &mut Cursor<'_>) -> Result<Alignment, ParseFault>
+pub fn alignment(cursor: &mut Cursor<'_>) -> Result<Alignment, Stop>
     ensures read { ReadsFreely (spec.word_as spec.alignment_of cursor.old) result cursor.new }
     ensures kept { IfErr result (λ _. cursor.new ≡ cursor.old) }
 {
@@ -267,7 +267,7 @@ fn is_acn_identifier(text: &[u8]) -> bool
 
 /// Takes the next token, which has to be an identifier that is no attribute word.
 #[tactic(auto, unfolding(acn_cursor::specs::Steps::word))]
-pub fn acn_identifier(alloc: Global, cursor: &mut Cursor<'_>) -> Result<Name, ParseFault>
+pub fn acn_identifier(alloc: Global, cursor: &mut Cursor<'_>) -> Result<Name, Stop>
     ensures read { Reads (word spelling.is_acn_identifier cursor.old) result cursor.new }
     ensures kept { IfErr result (λ _. cursor.new ≡ cursor.old) }
 {

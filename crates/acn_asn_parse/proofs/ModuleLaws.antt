@@ -1,6 +1,6 @@
 -- The parser of modules takes the tokens of a proper tree, and reads each proper tree from its tokens.
 use Rattle.std.proofs.Common.{◌≡◌, ℕ, ◌+◌, ◌<◌, ◌≤◌, Bool, true, false, not, ◌&&◌, cond, List, [], ◌∷◌, ◌++◌, length, length-append, Option, Some, None, refl, sym, ap, subst, ◌∙◌, append_assoc, arith, rules}
-use Rattle.std.specs.Prelude.{codes, map, nat_le}
+use Rattle.std.specs.Prelude.{codes, map, nat_le, Ok, Err}
 use Rattle.std.specs.List.{flat_map, list_all, AllByRecursion}
 use Rattle.std.specs.Cmp.Derive.{both_true}
 use Rattle.std.specs.Str.{bytes_eq}
@@ -8,7 +8,7 @@ use Rattle.std.proofs.lemmas.Bool.{leb-true, and_parts}
 use Rattle.std.proofs.lemmas.List.{append-nil}
 use Rattle.acn_lex.specs.declared.Kind.TheVariants.{Word, Mark}
 use Rattle.acn_lex.specs.Lexeme.{Lexeme, same_kind}
-use Rattle.acn_cursor.specs.Steps.{Parser, and_then, ◌>>=◌, ◌>>◌, pure, token, sees, text_of, expect, many, with_front}
+use Rattle.acn_cursor.specs.Steps.{Parser, and_then, ◌>>=◌, ◌>>◌, pure, token, sees, text_of, expect, many, with_front, Outcome}
 use Rattle.acn_cursor.specs.Steps as steps
 use Rattle.acn_lex.specs.Words.{is_identifier, is_reference, is_reserved, is_upper, reserved}
 use Rattle.acn_cursor.proofs.Laws.{Takes, done, then_found, then_again, expect_found, expect_again, word_found, word_again, text_of_again, sees_kind, sees_text, sees_again, repeat_found, many_again, outcome}
@@ -87,7 +87,7 @@ assigned_found ts v r e =
     let a = value_found _ _ _ h in
     record { parts = expect_found _ _ _ _ _ e1 ∙ ap (λ z. mark (codes "::=") ∷ z) a.parts; fits = a.fits })
 
-assigned_again : (v : AsnValue) (r : List Lexeme) → value_fits v ≡ true → assigned (mark (codes "::=") ∷ (value_tokens v ++ r)) ≡ Some (v, r)
+assigned_again : (v : AsnValue) (r : List Lexeme) → value_fits v ≡ true → assigned (mark (codes "::=") ∷ (value_tokens v ++ r)) ≡ Ok (v, r)
 unfolding assigned
 assigned_again v r fits = then_again _ _ _ _ _ (expect_again _ _ _) (value_again v r fits)
 
@@ -97,7 +97,7 @@ module _ (inner : Parser AsnType) where
     unfolding assign_at type_assign value_assign type_is value_is assign_tokens type_tokens type_fits
     assign_found ts x r e = by_name (has_identifier ts) e
       where
-        by_name : (b : Bool) → cond b (value_assign inner ts) (type_assign inner ts) ≡ Some (x, r) → Takes assign_text (Passes assign_fine) ts x r
+        by_name : (b : Bool) → cond b (value_assign inner ts) (type_assign inner ts) ≡ Ok (x, r) → Takes assign_text (Passes assign_fine) ts x r
         by_name true e =
             then_found (steps.word is_identifier ts) _ _ e (λ name m1 e1 h.
             then_found (inner m1) _ _ h (λ t m2 e2 h.
@@ -152,22 +152,22 @@ module _ (inner : Parser AsnType) where
         let fits : module_fine made ≡ true = rw (items_fine items) (both_true (both_true (both_true a.fits d.fits) f.fits) g.fits) in
         done made m6 _ _ h parts fits))))))
 
-    pub modules_found : (ts : List Lexeme) (t : AsnModules) (r : List Lexeme) → modules_in inner ts ≡ Some (t, r) → Takes tokens_of IsProper ts t r
+    pub modules_found : (ts : List Lexeme) (t : AsnModules) (r : List Lexeme) → modules_in inner ts ≡ Ok (t, r) → Takes tokens_of IsProper ts t r
     unfolding modules_in more_modules
     modules_found ts t r e =
         then_found (module_at inner ts) _ _ e (λ first m1 e1 h.
         then_found (more_modules inner first m1) _ _ h (λ all m2 e2 h. by_many first m1 (module_found _ _ _ e1) all m2 h (many has_more (module_at inner) m1) refl e2))
       where
         by_many : (first : AsnModule) (m1 : List Lexeme) → Takes module_text (Passes module_fine) ts first m1 → (all : List AsnModule) (m2 : List Lexeme) → outcome (modules_of all) m2 ≡ outcome t r
-            → (o : Option (List AsnModule × List Lexeme)) → many has_more (module_at inner) m1 ≡ o → with_front (first ∷ []) o ≡ Some (all, m2) → Takes tokens_of IsProper ts t r
-        by_many first m1 a all m2 h None q w = absurd cc
-        by_many first m1 a all m2 h (Some p) q w =
+            → (o : Outcome (List AsnModule)) → many has_more (module_at inner) m1 ≡ o → with_front (first ∷ []) o ≡ Ok (all, m2) → Takes tokens_of IsProper ts t r
+        by_many first m1 a all m2 h (Err left) q w = absurd cc
+        by_many first m1 a all m2 h (Ok p) q w =
             let b = repeat_found has_more (module_at inner) module_text (Passes module_fine) module_found (length m1) m1 p.0 p.1 q in
             let spelled : ts ≡ (module_text first ++ flat_map module_text p.0) ++ p.1 = simp append_assoc (cc (a.parts, b.parts)) in
             let one = done {tokens = flat_map module_text} {Fits = λ xs. (is_some xs ≡ true) × (list_all module_fine xs ≡ true)} (first ∷ p.0) p.1 all m2 w spelled (refl, both_true a.fits (all_pass module_fine p.0 b.fits)) in
             done (modules_of all) m2 _ _ h one.parts one.fits
 
-  module _ (limit : ℕ) (again : (t : AsnType) (r : List Lexeme) → length (type_tokens t ++ r) ≤ limit → Passes type_fits t → EndsType r → inner (type_tokens t ++ r) ≡ Some (t, r)) where
+  module _ (limit : ℕ) (again : (t : AsnType) (r : List Lexeme) → length (type_tokens t ++ r) ≤ limit → Passes type_fits t → EndsType r → inner (type_tokens t ++ r) ≡ Ok (t, r)) where
     mark_ends : (r : List Lexeme) → EndsType (mark (codes "::=") ∷ r)
     mark_ends r = record { paren = sees_text _ _ _ _ refl; brace = sees_text _ _ _ _ refl; dot = sees_text _ _ _ _ refl }
 
@@ -175,7 +175,7 @@ module _ (inner : Parser AsnType) where
     unfolding has_identifier
     has_name name b r e = rw (text_of_again Word name r) e
 
-    assign_again : (x : Assign) (r : List Lexeme) → length (assign_text x ++ r) ≤ limit → Passes assign_fine x → EndsType r → assign_at inner (assign_text x ++ r) ≡ Some (x, r)
+    assign_again : (x : Assign) (r : List Lexeme) → length (assign_text x ++ r) ≤ limit → Passes assign_fine x → EndsType r → assign_at inner (assign_text x ++ r) ≡ Ok (x, r)
     unfolding assign_at type_assign value_assign type_is value_is assign_tokens type_tokens type_fits
     assign_again (assign.TypeIs name t) r bound fits ends =
         let f = and_parts (is_reference name) (type_fits t) fits in
@@ -216,7 +216,7 @@ module _ (inner : Parser AsnType) where
     abbrev ended : List Lexeme → List Lexeme
     ended r = word (codes "END") ∷ r
 
-    items_again : (xs : List Assign) (r : List Lexeme) → length (flat_map assign_text xs ++ ended r) ≤ limit → list_all assign_fine xs ≡ true → items_at inner (flat_map assign_text xs ++ ended r) ≡ Some (xs, r)
+    items_again : (xs : List Assign) (r : List Lexeme) → length (flat_map assign_text xs ++ ended r) ≤ limit → list_all assign_fine xs ≡ true → items_at inner (flat_map assign_text xs ++ ended r) ≡ Ok (xs, r)
     unfolding items_at has_item
     items_again xs r bound fits =
         then_again _ _ _ _ _ (many_again has_item (assign_at inner) assign_text (Passes assign_fine) EndsType limit assign_again assign_starts assign_ends assign_some xs (ended r) bound (pass_all assign_fine xs fits) (word_ends _ _) (ap not (sees_again _ _ _)))
@@ -248,7 +248,7 @@ module _ (inner : Parser AsnType) where
     unfolding reserved is_identifier
     no_imports xs r fits = items_word xs (codes "IMPORTS") r fits refl refl refl
 
-    module_again : (x : AsnModule) (r : List Lexeme) → length (module_text x ++ r) ≤ limit → Passes module_fine x → module_at inner (module_text x ++ r) ≡ Some (x, r)
+    module_again : (x : AsnModule) (r : List Lexeme) → length (module_text x ++ r) ≤ limit → Passes module_fine x → module_at inner (module_text x ++ r) ≡ Ok (x, r)
     unfolding module_at module_in with_items module_of
     module_again x r bound fits =
         let rest = flat_map assign_text x.items ++ ended r in
@@ -274,25 +274,25 @@ module _ (inner : Parser AsnType) where
     unfolding module_tokens head_tokens
     module_some x fits = omega arith
 
-    modules_from : (xs : List AsnModule) → length (flat_map module_text xs) ≤ limit → is_some xs ≡ true → list_all module_fine xs ≡ true → modules_in inner (flat_map module_text xs) ≡ Some (record { modules = xs }, [])
+    modules_from : (xs : List AsnModule) → length (flat_map module_text xs) ≤ limit → is_some xs ≡ true → list_all module_fine xs ≡ true → modules_in inner (flat_map module_text xs) ≡ Ok (record { modules = xs }, [])
     unfolding modules_in more_modules
     modules_from [] bound some fits = absurd cc
     modules_from (x ∷ xs) bound some fits =
         let f = and_parts (module_fine x) (list_all module_fine xs) fits in
         let e : flat_map module_text xs ++ [] ≡ flat_map module_text xs = append-nil (flat_map module_text xs) in
         let within : length (flat_map module_text xs ++ []) ≤ limit = omega (arith, ap length e, length-append (module_text x) (flat_map module_text xs)) in
-        let more : many has_more (module_at inner) (flat_map module_text xs ++ []) ≡ Some (xs, []) = many_again has_more (module_at inner) module_text (Passes module_fine) (λ _. Unit {0}) limit (λ x r b f _. module_again x r b f) module_starts (λ _ _ _. tt) module_some xs [] within (pass_all module_fine xs f.1) tt refl in
+        let more : many has_more (module_at inner) (flat_map module_text xs ++ []) ≡ Ok (xs, []) = many_again has_more (module_at inner) module_text (Passes module_fine) (λ _. Unit {0}) limit (λ x r b f _. module_again x r b f) module_starts (λ _ _ _. tt) module_some xs [] within (pass_all module_fine xs f.1) tt refl in
         then_again _ _ _ _ _ (module_again x (flat_map module_text xs) bound f.0)
         (then_again _ _ _ _ _ (ap (with_front (x ∷ [])) (subst (λ (z : List Lexeme). many has_more (module_at inner) z ≡ outcome xs []) e more)) refl)
 
 -- ---- whole files
 
-pub modules_at_found : (ts : List Lexeme) (t : AsnModules) (r : List Lexeme) → modules_at ts ≡ Some (t, r) → Takes tokens_of IsProper ts t r
+pub modules_at_found : (ts : List Lexeme) (t : AsnModules) (r : List Lexeme) → modules_at ts ≡ Ok (t, r) → Takes tokens_of IsProper ts t r
 unfolding modules_at
 modules_at_found ts t r e = modules_found (type_at (length ts)) (type_found (length ts)) ts t r e
 
 -- each proper tree is read from its tokens
-pub modules_at_again : (t : AsnModules) → IsProper t → modules_at (tokens_of t) ≡ Some (t, [])
+pub modules_at_again : (t : AsnModules) → IsProper t → modules_at (tokens_of t) ≡ Ok (t, [])
 unfolding modules_at
 modules_at_again t fits =
     let n = length (tokens_of t) in

@@ -1,5 +1,5 @@
 -- What the parsers of what stands before a module's assignments answer, step by step.
-use Rattle.std.specs.Prelude.{ℕ, Bool, true, false, not, if◌then◌else◌, List, [], ◌∷◌, length, Option, Some, None, codes}
+use Rattle.std.specs.Prelude.{ℕ, Bool, true, false, not, if◌then◌else◌, List, [], ◌∷◌, length, Option, Some, None, codes, Ok}
 use Rattle.acn_lex.specs.declared.Kind.TheVariants.{Word, Mark}
 use Rattle.acn_lex.specs.Lexeme.{Lexeme}
 use Rattle.acn_cursor.specs.Steps.{Parser, ◌>>=◌, ◌>>◌, pure, eat, expect, sees, text_of, word, number, many}
@@ -104,7 +104,7 @@ is_end ts = sees Mark (codes ";") ts
 
 -- names before a semicolon
 unfoldable pub names_at : Parser (List (List ℕ))
-names_at = λ ts. if is_end ts then Some ([], ts) else listed (word is_name) ts
+names_at = λ ts. if is_end ts then Ok ([], ts) else listed (word is_name) ts
 
 unfoldable pub all_exports : Parser (Option Exports)
 all_exports = do

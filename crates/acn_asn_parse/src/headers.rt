@@ -8,7 +8,7 @@ ghost use Rattle.acn_asn_parse.specs.Headers as spec;
 
 use acn_asn_syntax::{Exports, Import, Oid, OidPart, Tagging};
 use acn_asn_types::{has, has_comma, literal, row_of};
-use acn_cursor::{Cursor, ParseFault, reference};
+use acn_cursor::{Cursor, Stop, reference};
 use acn_lex::{Kind, is_identifier, is_reference};
 use acn_num::{Name, Row};
 use std::alloc::Global;
@@ -25,7 +25,7 @@ pub struct ModuleHead {
 }
 
 #[tactic(auto, unfolding(crate::specs::Headers::grouped_part))]
-fn grouped_part(cursor: &mut Cursor<'_>) -> Result<OidPart, ParseFault>
+fn grouped_part(cursor: &mut Cursor<'_>) -> Result<OidPart, Stop>
     ensures { ReadsFreely (spec.grouped_part cursor.old) result cursor.new }
 {
     let n = cursor.number()?;
@@ -34,21 +34,21 @@ fn grouped_part(cursor: &mut Cursor<'_>) -> Result<OidPart, ParseFault>
 }
 
 #[tactic(auto, unfolding(crate::specs::Headers::word_part))]
-fn word_part(alloc: Global, cursor: &mut Cursor<'_>) -> Result<OidPart, ParseFault>
+fn word_part(alloc: Global, cursor: &mut Cursor<'_>) -> Result<OidPart, Stop>
     ensures { Reads (spec.word_part cursor.old) result cursor.new }
 {
     Ok(OidPart::Word(literal(alloc, cursor, Kind::Word)?))
 }
 
 #[tactic(auto, unfolding(crate::specs::Headers::number_part))]
-fn number_part(cursor: &mut Cursor<'_>) -> Result<OidPart, ParseFault>
+fn number_part(cursor: &mut Cursor<'_>) -> Result<OidPart, Stop>
     ensures { ReadsFreely (spec.number_part cursor.old) result cursor.new }
 {
     Ok(OidPart::Number(cursor.number()?))
 }
 
 #[tactic(auto, unfolding(crate::specs::Headers::oid_part))]
-fn oid_part(alloc: Global, cursor: &mut Cursor<'_>) -> Result<OidPart, ParseFault>
+fn oid_part(alloc: Global, cursor: &mut Cursor<'_>) -> Result<OidPart, Stop>
     ensures { Reads (spec.oid_part cursor.old) result cursor.new }
 {
     if cursor.eat(Kind::Mark, b"(") {
@@ -68,7 +68,7 @@ fn has_part(cursor: &Cursor<'_>) -> bool
     !cursor.sees(Kind::Mark, b"}")
 }
 
-fn oid_parts(alloc: Global, cursor: &mut Cursor<'_>) -> Result<Row<OidPart>, ParseFault>
+fn oid_parts(alloc: Global, cursor: &mut Cursor<'_>) -> Result<Row<OidPart>, Stop>
     ensures { Reads (many spec.has_part spec.oid_part cursor.old) result cursor.new }
 {
     let mut row = Row::new(alloc);
@@ -83,7 +83,7 @@ fn oid_parts(alloc: Global, cursor: &mut Cursor<'_>) -> Result<Row<OidPart>, Par
 }
 
 #[tactic(auto, unfolding(crate::specs::Headers::oid_in))]
-fn oid_in(alloc: Global, cursor: &mut Cursor<'_>) -> Result<Option<Oid>, ParseFault>
+fn oid_in(alloc: Global, cursor: &mut Cursor<'_>) -> Result<Option<Oid>, Stop>
     ensures { Reads (spec.oid_in cursor.old) result cursor.new }
 {
     let parts = oid_parts(alloc, cursor)?;
@@ -93,7 +93,7 @@ fn oid_in(alloc: Global, cursor: &mut Cursor<'_>) -> Result<Option<Oid>, ParseFa
 
 /// An object identifier, if one comes next.
 #[tactic(auto, unfolding(crate::specs::Headers::oid_at))]
-fn oid_at(alloc: Global, cursor: &mut Cursor<'_>) -> Result<Option<Oid>, ParseFault>
+fn oid_at(alloc: Global, cursor: &mut Cursor<'_>) -> Result<Option<Oid>, Stop>
     ensures { Reads (spec.oid_at cursor.old) result cursor.new }
 {
     if cursor.eat(Kind::Mark, b"{") {
@@ -104,7 +104,7 @@ fn oid_at(alloc: Global, cursor: &mut Cursor<'_>) -> Result<Option<Oid>, ParseFa
 }
 
 #[tactic(auto, unfolding(crate::specs::Headers::with_tags))]
-fn with_tags(cursor: &mut Cursor<'_>, tagging: Tagging) -> Result<Option<Tagging>, ParseFault>
+fn with_tags(cursor: &mut Cursor<'_>, tagging: Tagging) -> Result<Option<Tagging>, Stop>
     ensures { ReadsFreely (spec.with_tags tagging cursor.old) result cursor.new }
 {
     cursor.expect(Kind::Word, b"TAGS")?;
@@ -112,7 +112,7 @@ fn with_tags(cursor: &mut Cursor<'_>, tagging: Tagging) -> Result<Option<Tagging
 }
 
 #[tactic(auto, unfolding(crate::specs::Headers::tagging_at))]
-fn tagging_at(cursor: &mut Cursor<'_>) -> Result<Option<Tagging>, ParseFault>
+fn tagging_at(cursor: &mut Cursor<'_>) -> Result<Option<Tagging>, Stop>
     ensures { ReadsFreely (spec.tagging_at cursor.old) result cursor.new }
 {
     if cursor.eat(Kind::Word, b"EXPLICIT") {
@@ -128,7 +128,7 @@ fn tagging_at(cursor: &mut Cursor<'_>) -> Result<Option<Tagging>, ParseFault>
 }
 
 #[tactic(auto, unfolding(crate::specs::Headers::head_at))]
-pub fn head_at(alloc: Global, cursor: &mut Cursor<'_>) -> Result<ModuleHead, ParseFault>
+pub fn head_at(alloc: Global, cursor: &mut Cursor<'_>) -> Result<ModuleHead, Stop>
     ensures { Reads (spec.head_at cursor.old) result cursor.new }
 {
     let name = reference(alloc, cursor)?;
@@ -146,7 +146,7 @@ fn is_name(text: &[u8]) -> bool
 
 /// A name that is exported or imported.
 #[tactic(auto, unfolding(acn_cursor::specs::Steps::word))]
-fn name(alloc: Global, cursor: &mut Cursor<'_>) -> Result<Name, ParseFault>
+fn name(alloc: Global, cursor: &mut Cursor<'_>) -> Result<Name, Stop>
     ensures read { Reads (word spelling.is_name cursor.old) result cursor.new }
     ensures kept { IfErr result (λ _. cursor.new ≡ cursor.old) }
 {
@@ -165,7 +165,7 @@ fn name(alloc: Global, cursor: &mut Cursor<'_>) -> Result<Name, ParseFault>
 }
 
 #[tactic(auto, unfolding(acn_asn_types::specs::Lists::next))]
-fn next_name(alloc: Global, cursor: &mut Cursor<'_>) -> Result<Name, ParseFault>
+fn next_name(alloc: Global, cursor: &mut Cursor<'_>) -> Result<Name, Stop>
     ensures { Reads (next (word spelling.is_name) cursor.old) result cursor.new }
 {
     cursor.expect(Kind::Mark, b",")?;
@@ -173,7 +173,7 @@ fn next_name(alloc: Global, cursor: &mut Cursor<'_>) -> Result<Name, ParseFault>
 }
 
 #[tactic(auto, unfolding(acn_asn_types::specs::Lists::more_of))]
-fn more_names(alloc: Global, cursor: &mut Cursor<'_>, first: Name) -> Result<Row<Name>, ParseFault>
+fn more_names(alloc: Global, cursor: &mut Cursor<'_>, first: Name) -> Result<Row<Name>, Stop>
     ensures { Reads (more_of (word spelling.is_name) first cursor.old) result cursor.new }
 {
     let mut row = row_of(alloc, first)?;
@@ -188,7 +188,7 @@ fn more_names(alloc: Global, cursor: &mut Cursor<'_>, first: Name) -> Result<Row
 }
 
 #[tactic(auto, unfolding(acn_asn_types::specs::Lists::listed))]
-fn some_names(alloc: Global, cursor: &mut Cursor<'_>) -> Result<Row<Name>, ParseFault>
+fn some_names(alloc: Global, cursor: &mut Cursor<'_>) -> Result<Row<Name>, Stop>
     ensures { Reads (listed (word spelling.is_name) cursor.old) result cursor.new }
 {
     let first = name(alloc, cursor)?;
@@ -204,7 +204,7 @@ fn is_end(cursor: &Cursor<'_>) -> bool
 
 /// The names before a semicolon.
 #[tactic(auto, unfolding(crate::specs::Headers::names_at))]
-fn names_at(alloc: Global, cursor: &mut Cursor<'_>) -> Result<Row<Name>, ParseFault>
+fn names_at(alloc: Global, cursor: &mut Cursor<'_>) -> Result<Row<Name>, Stop>
     ensures { Reads (spec.names_at cursor.old) result cursor.new }
 {
     if is_end(cursor) {
@@ -215,7 +215,7 @@ fn names_at(alloc: Global, cursor: &mut Cursor<'_>) -> Result<Row<Name>, ParseFa
 }
 
 #[tactic(auto, unfolding(crate::specs::Headers::all_exports))]
-fn all_exports(cursor: &mut Cursor<'_>) -> Result<Option<Exports>, ParseFault>
+fn all_exports(cursor: &mut Cursor<'_>) -> Result<Option<Exports>, Stop>
     ensures { ReadsFreely (spec.all_exports cursor.old) result cursor.new }
 {
     cursor.expect(Kind::Mark, b";")?;
@@ -223,7 +223,7 @@ fn all_exports(cursor: &mut Cursor<'_>) -> Result<Option<Exports>, ParseFault>
 }
 
 #[tactic(auto, unfolding(crate::specs::Headers::some_exports))]
-fn some_exports(alloc: Global, cursor: &mut Cursor<'_>) -> Result<Option<Exports>, ParseFault>
+fn some_exports(alloc: Global, cursor: &mut Cursor<'_>) -> Result<Option<Exports>, Stop>
     ensures { Reads (spec.some_exports cursor.old) result cursor.new }
 {
     let names = names_at(alloc, cursor)?;
@@ -232,7 +232,7 @@ fn some_exports(alloc: Global, cursor: &mut Cursor<'_>) -> Result<Option<Exports
 }
 
 #[tactic(auto, unfolding(crate::specs::Headers::exports_at))]
-pub fn exports_at(alloc: Global, cursor: &mut Cursor<'_>) -> Result<Option<Exports>, ParseFault>
+pub fn exports_at(alloc: Global, cursor: &mut Cursor<'_>) -> Result<Option<Exports>, Stop>
     ensures { Reads (spec.exports_at cursor.old) result cursor.new }
 {
     if !cursor.eat(Kind::Word, b"EXPORTS") {
@@ -246,7 +246,7 @@ pub fn exports_at(alloc: Global, cursor: &mut Cursor<'_>) -> Result<Option<Expor
 }
 
 #[tactic(auto, unfolding(crate::specs::Headers::import_at))]
-fn import_at(alloc: Global, cursor: &mut Cursor<'_>) -> Result<Import, ParseFault>
+fn import_at(alloc: Global, cursor: &mut Cursor<'_>) -> Result<Import, Stop>
     ensures { Reads (spec.import_at cursor.old) result cursor.new }
 {
     let names = some_names(alloc, cursor)?;
@@ -263,7 +263,7 @@ fn has_import(cursor: &Cursor<'_>) -> bool
     !is_end(cursor)
 }
 
-fn import_rows(alloc: Global, cursor: &mut Cursor<'_>) -> Result<Row<Import>, ParseFault>
+fn import_rows(alloc: Global, cursor: &mut Cursor<'_>) -> Result<Row<Import>, Stop>
     ensures { Reads (many spec.has_import spec.import_at cursor.old) result cursor.new }
 {
     let mut row = Row::new(alloc);
@@ -278,7 +278,7 @@ fn import_rows(alloc: Global, cursor: &mut Cursor<'_>) -> Result<Row<Import>, Pa
 }
 
 #[tactic(auto, unfolding(crate::specs::Headers::imports_in))]
-fn imports_in(alloc: Global, cursor: &mut Cursor<'_>) -> Result<Option<Row<Import>>, ParseFault>
+fn imports_in(alloc: Global, cursor: &mut Cursor<'_>) -> Result<Option<Row<Import>>, Stop>
     ensures { Reads (spec.imports_in cursor.old) result cursor.new }
 {
     let found = import_rows(alloc, cursor)?;
@@ -287,7 +287,7 @@ fn imports_in(alloc: Global, cursor: &mut Cursor<'_>) -> Result<Option<Row<Impor
 }
 
 #[tactic(auto, unfolding(crate::specs::Headers::imports_at))]
-pub fn imports_at(alloc: Global, cursor: &mut Cursor<'_>) -> Result<Option<Row<Import>>, ParseFault>
+pub fn imports_at(alloc: Global, cursor: &mut Cursor<'_>) -> Result<Option<Row<Import>>, Stop>
     ensures { Reads (spec.imports_at cursor.old) result cursor.new }
 {
     if cursor.eat(Kind::Word, b"IMPORTS") {

@@ -8,7 +8,7 @@ ghost use Rattle.acn_asn_types.specs.Types as types;
 use crate::headers::{ModuleHead, exports_at, head_at, imports_at};
 use acn_asn_syntax::{AsnModule, AsnModules, AsnType, AsnValue, Assign, Exports, Import};
 use acn_asn_types::{row_of, type_at, value};
-use acn_cursor::{Cursor, ParseFault, identifier, reference};
+use acn_cursor::{Cursor, Stop, identifier, reference};
 use acn_lex::{Kind, is_identifier};
 use acn_num::{Boxed, Name, Row};
 use std::alloc::Global;
@@ -46,7 +46,7 @@ fn value_is(name: Name, of: AsnType, value: AsnValue) -> Assign
 
 /// A type assignment (X.680 clause 16).
 #[tactic(auto, unfolding(crate::specs::Modules::type_assign))]
-fn type_assign(alloc: Global, depth: usize, cursor: &mut Cursor<'_>) -> Result<Assign, ParseFault>
+fn type_assign(alloc: Global, depth: usize, cursor: &mut Cursor<'_>) -> Result<Assign, Stop>
     ensures { Reads (spec.type_assign (types.type_at depth) cursor.old) result cursor.new }
 {
     let name = reference(alloc, cursor)?;
@@ -57,7 +57,7 @@ fn type_assign(alloc: Global, depth: usize, cursor: &mut Cursor<'_>) -> Result<A
 
 /// The value behind the type of a value assignment.
 #[tactic(auto, unfolding(crate::specs::Modules::assigned))]
-fn assigned(alloc: Global, cursor: &mut Cursor<'_>) -> Result<AsnValue, ParseFault>
+fn assigned(alloc: Global, cursor: &mut Cursor<'_>) -> Result<AsnValue, Stop>
     ensures { Reads (spec.assigned cursor.old) result cursor.new }
 {
     cursor.expect(Kind::Mark, b"::=")?;
@@ -66,7 +66,7 @@ fn assigned(alloc: Global, cursor: &mut Cursor<'_>) -> Result<AsnValue, ParseFau
 
 /// A value assignment (X.680 clause 16).
 #[tactic(auto, unfolding(crate::specs::Modules::value_assign))]
-fn value_assign(alloc: Global, depth: usize, cursor: &mut Cursor<'_>) -> Result<Assign, ParseFault>
+fn value_assign(alloc: Global, depth: usize, cursor: &mut Cursor<'_>) -> Result<Assign, Stop>
     ensures { Reads (spec.value_assign (types.type_at depth) cursor.old) result cursor.new }
 {
     let name = identifier(alloc, cursor)?;
@@ -76,7 +76,7 @@ fn value_assign(alloc: Global, depth: usize, cursor: &mut Cursor<'_>) -> Result<
 }
 
 #[tactic(auto, unfolding(crate::specs::Modules::assign_at))]
-fn assign_at(alloc: Global, depth: usize, cursor: &mut Cursor<'_>) -> Result<Assign, ParseFault>
+fn assign_at(alloc: Global, depth: usize, cursor: &mut Cursor<'_>) -> Result<Assign, Stop>
     ensures { Reads (spec.assign_at (types.type_at depth) cursor.old) result cursor.new }
 {
     if has_identifier(cursor) {
@@ -86,11 +86,7 @@ fn assign_at(alloc: Global, depth: usize, cursor: &mut Cursor<'_>) -> Result<Ass
     }
 }
 
-fn item_rows(
-    alloc: Global,
-    depth: usize,
-    cursor: &mut Cursor<'_>,
-) -> Result<Row<Assign>, ParseFault>
+fn item_rows(alloc: Global, depth: usize, cursor: &mut Cursor<'_>) -> Result<Row<Assign>, Stop>
     ensures { Reads (many spec.has_item (spec.assign_at (types.type_at depth)) cursor.old) result cursor.new }
 {
     let mut row = Row::new(alloc);
@@ -106,7 +102,7 @@ fn item_rows(
 
 /// The assignments of a module, and its end.
 #[tactic(auto, unfolding(crate::specs::Modules::items_at))]
-fn items_at(alloc: Global, depth: usize, cursor: &mut Cursor<'_>) -> Result<Row<Assign>, ParseFault>
+fn items_at(alloc: Global, depth: usize, cursor: &mut Cursor<'_>) -> Result<Row<Assign>, Stop>
     ensures { Reads (spec.items_at (types.type_at depth) cursor.old) result cursor.new }
 {
     let items = item_rows(alloc, depth, cursor)?;
@@ -141,7 +137,7 @@ fn with_items(
     head: ModuleHead,
     exports: Option<Exports>,
     imports: Option<Row<Import>>,
-) -> Result<AsnModule, ParseFault>
+) -> Result<AsnModule, Stop>
     ensures { Reads (spec.with_items (types.type_at depth) head exports imports cursor.old) result cursor.new }
 {
     let items = items_at(alloc, depth, cursor)?;
@@ -155,7 +151,7 @@ fn module_in(
     depth: usize,
     cursor: &mut Cursor<'_>,
     head: ModuleHead,
-) -> Result<AsnModule, ParseFault>
+) -> Result<AsnModule, Stop>
     ensures { Reads (spec.module_in (types.type_at depth) head cursor.old) result cursor.new }
 {
     let exports = exports_at(alloc, cursor)?;
@@ -165,7 +161,7 @@ fn module_in(
 
 /// A module (X.680 clause 13).
 #[tactic(auto, unfolding(crate::specs::Modules::module_at))]
-fn module_at(alloc: Global, depth: usize, cursor: &mut Cursor<'_>) -> Result<AsnModule, ParseFault>
+fn module_at(alloc: Global, depth: usize, cursor: &mut Cursor<'_>) -> Result<AsnModule, Stop>
     ensures { Reads (spec.module_at (types.type_at depth) cursor.old) result cursor.new }
 {
     let head = head_at(alloc, cursor)?;
@@ -180,7 +176,7 @@ fn more_modules(
     depth: usize,
     cursor: &mut Cursor<'_>,
     first: AsnModule,
-) -> Result<Row<AsnModule>, ParseFault>
+) -> Result<Row<AsnModule>, Stop>
     ensures { Reads (spec.more_modules (types.type_at depth) first cursor.old) result cursor.new }
 {
     let mut row = row_of(alloc, first)?;
@@ -196,11 +192,7 @@ fn more_modules(
 
 /// The modules of a file.
 #[tactic(auto, unfolding(crate::specs::Modules::modules_in))]
-pub fn modules(
-    alloc: Global,
-    depth: usize,
-    cursor: &mut Cursor<'_>,
-) -> Result<AsnModules, ParseFault>
+pub fn modules(alloc: Global, depth: usize, cursor: &mut Cursor<'_>) -> Result<AsnModules, Stop>
     ensures { Reads (spec.modules_in (types.type_at depth) cursor.old) result cursor.new }
 {
     let first = module_at(alloc, depth, cursor)?;

@@ -1,15 +1,14 @@
 -- Tags, named numbers, items, and what stands behind a component: what their parsers take, and that they read it again.
-use Rattle.std.proofs.Common.{◌≡◌, ℕ, ◌+◌, ◌^◌, ◌<◌, ◌≤◌, Bool, true, false, ◌&&◌, cond, nat_lt, List, [], ◌∷◌, ◌++◌, length, Option, Some, None, refl, sym, ap, subst, ◌∙◌, append_assoc, arith, rules}
-use Rattle.std.specs.Prelude.{codes}
+use Rattle.std.proofs.Common.{◌≡◌, ℕ, ◌^◌, Bool, true, false, List, [], ◌∷◌, ◌++◌, Option, Some, None, refl, ap, ◌∙◌, append_assoc}
+use Rattle.std.specs.Prelude.{codes, Ok}
 use Rattle.std.specs.Cmp.Derive.{both_true}
-use Rattle.std.specs.Fmt.{decimal}
 use Rattle.std.proofs.lemmas.Bool.{lt-ltb, ltb-true, and_parts}
 use Rattle.acn_lex.specs.declared.Kind.TheVariants.{Word, Number, Mark}
 use Rattle.acn_lex.specs.Lexeme.{Lexeme, same_kind}
 use Rattle.acn_cursor.specs.Steps.{Parser, given, and_then, ◌>>=◌, ◌>>◌, pure, token, sees, eat, expect, number}
 use Rattle.acn_cursor.specs.Steps as steps
 use Rattle.acn_lex.specs.Words.{is_identifier}
-use Rattle.acn_cursor.proofs.Laws.{Takes, done, then_found, then_again, given_found, eat_again, eat_nothing, expect_found, expect_again, word_found, word_again, number_found, number_again, sees_kind, sees_text, outcome}
+use Rattle.acn_cursor.proofs.Laws.{Takes, done, then_found, then_again, given_found, eat_again, eat_nothing, expect_found, expect_again, word_found, word_again, number_found, number_again, sees_kind, sees_text}
 use Rattle.acn_asn_syntax.specs.declared.types.TagClass.{TagClass}
 use Rattle.acn_asn_syntax.specs.declared.types.TagClass.TheVariants as class
 use Rattle.acn_asn_syntax.specs.declared.types.TagMode.{TagMode}
@@ -19,8 +18,7 @@ use Rattle.acn_asn_syntax.specs.declared.types.Named.{Named}
 use Rattle.acn_asn_syntax.specs.declared.types.Item.{Item}
 use Rattle.acn_asn_syntax.specs.declared.types.Rest.{Rest}
 use Rattle.acn_asn_syntax.specs.declared.types.Rest.TheVariants as rest
-use Rattle.acn_asn_syntax.specs.Values as spelling
-use Rattle.acn_asn_syntax.specs.Values.{word, mark, number_fits, signed_tokens, value_tokens, value_fits, in_parentheses, option_tokens, option_fits}
+use Rattle.acn_asn_syntax.specs.Values.{word, mark, number_fits, signed_tokens, option_tokens, option_fits}
 use Rattle.acn_asn_syntax.specs.Spelling.{class_tokens, mode_tokens, tag_tokens, tag_fits, grouped_tokens, named_tokens, named_fits, item_tokens, item_fits, rest_tokens, rest_fits}
 use Rattle.acn_asn_types.specs.Values.{signed, value_at}
 use Rattle.acn_asn_types.specs.Bases.{private_if, application_if, universal_if, class_at, explicit_if, implicit_if, mode_at, tag_in, tag_if, tag_at, grouped, named, number_if, item_number, item, default_if, optional_if, rest_at}
@@ -32,15 +30,15 @@ Any x = true
 
 -- ---- tags
 
-private_found : (b : Bool) (ts m : List Lexeme) (o : Option TagClass) (r : List Lexeme) → ts ≡ given b (word (codes "PRIVATE")) ++ m → private_if b m ≡ Some (o, r) → Takes (option_tokens class_tokens) (Passes Any) ts o r
+private_found : (b : Bool) (ts m : List Lexeme) (o : Option TagClass) (r : List Lexeme) → ts ≡ given b (word (codes "PRIVATE")) ++ m → private_if b m ≡ Ok (o, r) → Takes (option_tokens class_tokens) (Passes Any) ts o r
 private_found true ts m o r p e = done (Some class.Private) m _ _ e p refl
 private_found false ts m o r p e = done None m _ _ e p refl
 
-application_found : (b : Bool) (ts m : List Lexeme) (o : Option TagClass) (r : List Lexeme) → ts ≡ given b (word (codes "APPLICATION")) ++ m → application_if b m ≡ Some (o, r) → Takes (option_tokens class_tokens) (Passes Any) ts o r
+application_found : (b : Bool) (ts m : List Lexeme) (o : Option TagClass) (r : List Lexeme) → ts ≡ given b (word (codes "APPLICATION")) ++ m → application_if b m ≡ Ok (o, r) → Takes (option_tokens class_tokens) (Passes Any) ts o r
 application_found true ts m o r p e = done (Some class.Application) m _ _ e p refl
 application_found false ts m o r p e = then_found (eat Word (codes "PRIVATE") m) _ _ e (λ b m' e1 h. rw p (private_found b m m' o r (given_found _ _ _ _ _ e1) h))
 
-universal_found : (b : Bool) (ts m : List Lexeme) (o : Option TagClass) (r : List Lexeme) → ts ≡ given b (word (codes "UNIVERSAL")) ++ m → universal_if b m ≡ Some (o, r) → Takes (option_tokens class_tokens) (Passes Any) ts o r
+universal_found : (b : Bool) (ts m : List Lexeme) (o : Option TagClass) (r : List Lexeme) → ts ≡ given b (word (codes "UNIVERSAL")) ++ m → universal_if b m ≡ Ok (o, r) → Takes (option_tokens class_tokens) (Passes Any) ts o r
 universal_found true ts m o r p e = done (Some class.Universal) m _ _ e p refl
 universal_found false ts m o r p e = then_found (eat Word (codes "APPLICATION") m) _ _ e (λ b m' e1 h. rw p (application_found b m m' o r (given_found _ _ _ _ _ e1) h))
 
@@ -49,7 +47,7 @@ unfolding class_at
 class_found ts o r e = then_found (eat Word (codes "UNIVERSAL") ts) _ _ e (λ b m e1 h. universal_found b ts m o r (given_found _ _ _ _ _ e1) h)
 
 -- before the number
-class_again : (o : Option TagClass) (text : List ℕ) (r : List Lexeme) → class_at (option_tokens class_tokens o ++ token Number text ∷ r) ≡ Some (o, token Number text ∷ r)
+class_again : (o : Option TagClass) (text : List ℕ) (r : List Lexeme) → class_at (option_tokens class_tokens o ++ token Number text ∷ r) ≡ Ok (o, token Number text ∷ r)
 unfolding class_at same_kind
 class_again (Some class.Universal) text r = then_again _ _ _ _ _ (eat_again _ _ _) refl
 class_again (Some class.Application) text r =
@@ -64,11 +62,11 @@ class_again None text r =
     (then_again _ _ _ _ _ (eat_nothing _ _ _ (sees_kind _ _ _ _ _ refl))
     (then_again _ _ _ _ _ (eat_nothing _ _ _ (sees_kind _ _ _ _ _ refl)) refl))
 
-explicit_found : (b : Bool) (ts m : List Lexeme) (o : Option TagMode) (r : List Lexeme) → ts ≡ given b (word (codes "EXPLICIT")) ++ m → explicit_if b m ≡ Some (o, r) → Takes (option_tokens mode_tokens) (Passes Any) ts o r
+explicit_found : (b : Bool) (ts m : List Lexeme) (o : Option TagMode) (r : List Lexeme) → ts ≡ given b (word (codes "EXPLICIT")) ++ m → explicit_if b m ≡ Ok (o, r) → Takes (option_tokens mode_tokens) (Passes Any) ts o r
 explicit_found true ts m o r p e = done (Some mode.Explicit) m _ _ e p refl
 explicit_found false ts m o r p e = done None m _ _ e p refl
 
-implicit_found : (b : Bool) (ts m : List Lexeme) (o : Option TagMode) (r : List Lexeme) → ts ≡ given b (word (codes "IMPLICIT")) ++ m → implicit_if b m ≡ Some (o, r) → Takes (option_tokens mode_tokens) (Passes Any) ts o r
+implicit_found : (b : Bool) (ts m : List Lexeme) (o : Option TagMode) (r : List Lexeme) → ts ≡ given b (word (codes "IMPLICIT")) ++ m → implicit_if b m ≡ Ok (o, r) → Takes (option_tokens mode_tokens) (Passes Any) ts o r
 implicit_found true ts m o r p e = done (Some mode.Implicit) m _ _ e p refl
 implicit_found false ts m o r p e = then_found (eat Word (codes "EXPLICIT") m) _ _ e (λ b m' e1 h. rw p (explicit_found b m m' o r (given_found _ _ _ _ _ e1) h))
 
@@ -82,7 +80,7 @@ pub record BeginsBase (r : List Lexeme) : Type 0 where
   pub explicit : sees Word (codes "EXPLICIT") r ≡ false
   pub bracket : sees Mark (codes "[") r ≡ false
 
-mode_again : (o : Option TagMode) (r : List Lexeme) → BeginsBase r → mode_at (option_tokens mode_tokens o ++ r) ≡ Some (o, r)
+mode_again : (o : Option TagMode) (r : List Lexeme) → BeginsBase r → mode_at (option_tokens mode_tokens o ++ r) ≡ Ok (o, r)
 unfolding mode_at
 mode_again (Some mode.Implicit) r begins = then_again _ _ _ _ _ (eat_again _ _ _) refl
 mode_again (Some mode.Explicit) r begins =
@@ -92,7 +90,7 @@ mode_again None r begins =
     then_again _ _ _ _ _ (eat_nothing _ _ _ begins.implicit)
     (then_again _ _ _ _ _ (eat_nothing _ _ _ begins.explicit) refl)
 
-tag_if_found : (b : Bool) (ts m : List Lexeme) (o : Option Tag) (r : List Lexeme) → ts ≡ given b (mark (codes "[")) ++ m → tag_if b m ≡ Some (o, r) → Takes (option_tokens tag_tokens) (Passes (option_fits tag_fits)) ts o r
+tag_if_found : (b : Bool) (ts m : List Lexeme) (o : Option Tag) (r : List Lexeme) → ts ≡ given b (mark (codes "[")) ++ m → tag_if b m ≡ Ok (o, r) → Takes (option_tokens tag_tokens) (Passes (option_fits tag_fits)) ts o r
 unfolding tag_in tag_tokens
 tag_if_found false ts m o r p e = done None m _ _ e p refl
 tag_if_found true ts m o r p e =
@@ -114,7 +112,7 @@ pub tag_found : Found tag_at (option_tokens tag_tokens) (option_fits tag_fits)
 unfolding tag_at
 tag_found ts o r e = then_found (eat Mark (codes "[") ts) _ _ e (λ b m e1 h. tag_if_found b ts m o r (given_found _ _ _ _ _ e1) h)
 
-pub tag_again : (o : Option Tag) (r : List Lexeme) → option_fits tag_fits o ≡ true → BeginsBase r → tag_at (option_tokens tag_tokens o ++ r) ≡ Some (o, r)
+pub tag_again : (o : Option Tag) (r : List Lexeme) → option_fits tag_fits o ≡ true → BeginsBase r → tag_at (option_tokens tag_tokens o ++ r) ≡ Ok (o, r)
 unfolding tag_at tag_in tag_tokens
 tag_again None r fits begins = then_again _ _ _ _ _ (eat_nothing _ _ _ begins.bracket) refl
 tag_again (Some t) r fits begins =
@@ -141,7 +139,7 @@ grouped_found ts n r e =
     let parts : ts ≡ behind_open n' ++ m2 = simp append_assoc (cc (a.parts, b)) in
     done n' m2 _ _ h parts a.fits))
 
-grouped_again : (b : Bool) (n : ℕ) (r : List Lexeme) → number_fits n ≡ true → grouped (behind_open (b, n) ++ r) ≡ Some ((b, n), r)
+grouped_again : (b : Bool) (n : ℕ) (r : List Lexeme) → number_fits n ≡ true → grouped (behind_open (b, n) ++ r) ≡ Ok ((b, n), r)
 unfolding grouped
 grouped_again b n r fits =
     simp append_assoc
@@ -161,7 +159,7 @@ named_found ts x r e =
     let parts : ts ≡ named_tokens made ++ m3 = cc (a.0, b, c.parts) in
     done made m3 _ _ h parts (both_true a.1 c.fits))))
 
-pub named_again : (x : Named) (r : List Lexeme) → named_fits x ≡ true → named (named_tokens x ++ r) ≡ Some (x, r)
+pub named_again : (x : Named) (r : List Lexeme) → named_fits x ≡ true → named (named_tokens x ++ r) ≡ Ok (x, r)
 unfolding named named_tokens
 named_again x r fits =
     let f = and_parts (is_identifier x.name) (number_fits x.number) fits in
@@ -169,7 +167,7 @@ named_again x r fits =
     (then_again _ _ _ _ _ (expect_again _ _ _)
     (then_again _ _ _ _ _ (grouped_again x.negative x.number r f.1) refl))
 
-number_if_found : (b : Bool) (ts m : List Lexeme) (o : Option (Bool × ℕ)) (r : List Lexeme) → ts ≡ given b (mark (codes "(")) ++ m → number_if b m ≡ Some (o, r) → Takes (option_tokens grouped_tokens) (Passes (option_fits (λ n. number_fits n.1))) ts o r
+number_if_found : (b : Bool) (ts m : List Lexeme) (o : Option (Bool × ℕ)) (r : List Lexeme) → ts ≡ given b (mark (codes "(")) ++ m → number_if b m ≡ Ok (o, r) → Takes (option_tokens grouped_tokens) (Passes (option_fits (λ n. number_fits n.1))) ts o r
 number_if_found true ts m o r p e =
     then_found (grouped m) _ _ e (λ n m' e1 h.
     let a = grouped_found _ _ _ e1 in
@@ -192,14 +190,14 @@ item_found ts x r e =
     let parts : ts ≡ item_tokens made ++ m2 = cc (a.0, b.parts) in
     done made m2 _ _ h parts (both_true a.1 b.fits)))
 
-item_number_again : (o : Option (Bool × ℕ)) (r : List Lexeme) → option_fits (λ n. number_fits n.1) o ≡ true → sees Mark (codes "(") r ≡ false → item_number (option_tokens grouped_tokens o ++ r) ≡ Some (o, r)
+item_number_again : (o : Option (Bool × ℕ)) (r : List Lexeme) → option_fits (λ n. number_fits n.1) o ≡ true → sees Mark (codes "(") r ≡ false → item_number (option_tokens grouped_tokens o ++ r) ≡ Ok (o, r)
 unfolding item_number
 item_number_again None r fits ends = then_again _ _ _ _ _ (eat_nothing _ _ _ ends) refl
 item_number_again (Some n) r fits ends =
     then_again _ _ _ _ _ (eat_again _ _ _)
     (then_again _ _ _ _ _ (grouped_again n.0 n.1 r fits) refl)
 
-pub item_again : (x : Item) (r : List Lexeme) → item_fits x ≡ true → sees Mark (codes "(") r ≡ false → item (item_tokens x ++ r) ≡ Some (x, r)
+pub item_again : (x : Item) (r : List Lexeme) → item_fits x ≡ true → sees Mark (codes "(") r ≡ false → item (item_tokens x ++ r) ≡ Ok (x, r)
 unfolding item item_tokens
 item_again x r fits ends =
     let f = and_parts (is_identifier x.name) (option_fits (λ (n : Bool × ℕ). number_fits n.1) x.number) fits in
@@ -208,7 +206,7 @@ item_again x r fits ends =
 
 -- ---- what stands behind a component
 
-default_found : (b : Bool) (ts m : List Lexeme) (x : Rest) (r : List Lexeme) → ts ≡ given b (word (codes "DEFAULT")) ++ m → default_if b m ≡ Some (x, r) → Takes rest_tokens (Passes rest_fits) ts x r
+default_found : (b : Bool) (ts m : List Lexeme) (x : Rest) (r : List Lexeme) → ts ≡ given b (word (codes "DEFAULT")) ++ m → default_if b m ≡ Ok (x, r) → Takes rest_tokens (Passes rest_fits) ts x r
 unfolding rest_tokens
 default_found true ts m x r p e =
     then_found (value_at m) _ _ e (λ v m' e1 h.
@@ -217,7 +215,7 @@ default_found true ts m x r p e =
     done (rest.Default v) m' _ _ h parts a.fits)
 default_found false ts m x r p e = done rest.Required m _ _ e p refl
 
-optional_found : (b : Bool) (ts m : List Lexeme) (x : Rest) (r : List Lexeme) → ts ≡ given b (word (codes "OPTIONAL")) ++ m → optional_if b m ≡ Some (x, r) → Takes rest_tokens (Passes rest_fits) ts x r
+optional_found : (b : Bool) (ts m : List Lexeme) (x : Rest) (r : List Lexeme) → ts ≡ given b (word (codes "OPTIONAL")) ++ m → optional_if b m ≡ Ok (x, r) → Takes rest_tokens (Passes rest_fits) ts x r
 unfolding rest_tokens
 optional_found true ts m x r p e = done rest.Optional m _ _ e p refl
 optional_found false ts m x r p e = then_found (eat Word (codes "DEFAULT") m) _ _ e (λ b m' e1 h. rw p (default_found b m m' x r (given_found _ _ _ _ _ e1) h))
@@ -231,7 +229,7 @@ pub record EndsRest (r : List Lexeme) : Type 0 where
   pub optional : sees Word (codes "OPTIONAL") r ≡ false
   pub default : sees Word (codes "DEFAULT") r ≡ false
 
-pub rest_again : (x : Rest) (r : List Lexeme) → rest_fits x ≡ true → EndsRest r → rest_at (rest_tokens x ++ r) ≡ Some (x, r)
+pub rest_again : (x : Rest) (r : List Lexeme) → rest_fits x ≡ true → EndsRest r → rest_at (rest_tokens x ++ r) ≡ Ok (x, r)
 unfolding rest_at rest_tokens
 rest_again rest.Required r fits ends =
     then_again _ _ _ _ _ (eat_nothing _ _ _ ends.optional)

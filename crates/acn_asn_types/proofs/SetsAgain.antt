@@ -1,19 +1,14 @@
 -- Each proper set is read from its tokens.
-use Rattle.std.proofs.Common.{◌≡◌, ℕ, zero, suc, ◌+◌, ◌≤◌, length-append, ◌^◌, ◌<◌, Bool, true, false, ◌&&◌, cond, nat_lt, List, [], ◌∷◌, ◌++◌, length, Option, Some, None, refl, sym, ap, subst, ◌∙◌, append_assoc, arith, rules}
-use Rattle.std.specs.Prelude.{codes, is_some, option_map}
+use Rattle.std.proofs.Common.{◌≡◌, ℕ, zero, suc, ◌≤◌, length-append, ◌<◌, Bool, true, false, cond, List, [], ◌∷◌, ◌++◌, length, Option, Some, None, refl, sym, ap, subst, ◌∙◌, append_assoc, arith}
+use Rattle.std.specs.Prelude.{codes, option_map, Ok}
 use Rattle.std.specs.List.{flat_map, list_all, AllByRecursion}
-use Rattle.std.specs.Fmt.{decimal}
-use Rattle.std.specs.Cmp.Derive.{both_true}
-use Rattle.std.proofs.lemmas.Bool.{ltb-true, and_parts}
-use Rattle.std.proofs.lemmas.Slice.Eq.{bytes_eq-Decides}
+use Rattle.std.proofs.lemmas.Bool.{and_parts}
 use Rattle.std.specs.Str.{bytes_eq}
-use Rattle.acn_lex.specs.declared.Kind.TheVariants.{Word, Number, Mark}
+use Rattle.acn_lex.specs.declared.Kind.TheVariants.{Word, Mark}
 use Rattle.acn_lex.specs.Lexeme.{Lexeme, same_kind}
-use Rattle.acn_cursor.specs.Steps.{Parser, given, and_then, ◌>>=◌, ◌>>◌, pure, token, sees, eat, expect, text_of, number, many}
-use Rattle.acn_cursor.specs.Steps as steps
-use Rattle.acn_cursor.proofs.Laws.{then_again, given_again, eat_again, eat_nothing, expect_again, word_again, number_again, many_again, sees_again, sees_kind, sees_text, text_of_again, outcome}
+use Rattle.acn_cursor.specs.Steps.{Parser, sees, many}
+use Rattle.acn_cursor.proofs.Laws.{then_again, given_again, eat_again, eat_nothing, expect_again, many_again, sees_again, sees_kind, sees_text}
 use Rattle.acn_asn_syntax.specs.declared.values.AsnValue.{AsnValue}
-use Rattle.acn_asn_syntax.specs.declared.values.AsnValue.TheVariants as value
 use Rattle.acn_asn_syntax.specs.declared.sets.AsnRange.{AsnRange}
 use Rattle.acn_asn_syntax.specs.declared.sets.Element.{Element}
 use Rattle.acn_asn_syntax.specs.declared.sets.Element.TheVariants as element
@@ -22,17 +17,16 @@ use Rattle.acn_asn_syntax.specs.declared.sets.Set.TheVariants as set
 use Rattle.acn_asn_syntax.specs.declared.sets.Meet.{Meet, roll-Meet}
 use Rattle.acn_asn_syntax.specs.declared.sets.Part.{Part, roll-Part}
 use Rattle.acn_lex.specs.Words.{is_identifier}
-use Rattle.acn_asn_syntax.specs.Values.{word, mark, value_tokens, value_fits, end_tokens, end_fits, range_tokens, range_fits, in_parentheses}
+use Rattle.acn_asn_syntax.specs.Values.{word, mark, value_tokens, value_fits, end_tokens, end_fits, range_tokens, in_parentheses}
 use Rattle.acn_asn_syntax.specs.Trees.{element_tokens, set_tokens, meet_tokens, part_tokens, element_fits, set_fits, meet_fits, part_fits}
 use Rattle.acn_asn_syntax.proofs.SetTokens.{joined_tokens, but_tokens, but_proper}
 use Rattle.acn_asn_syntax.proofs.SetTokens as form
-use Rattle.acn_asn_types.specs.Values.{value_at}
-use Rattle.acn_asn_types.specs.Sets.{end_if, end, range_from, plain_if, plain, mark_if, mark_at, has_mark, part_mark, has_part_mark, meet_mark, has_meet_mark, group, inner_at, from_if, size_if, element_at, but_if, but_at, part, next_part, meet, next_meet, union, all_except, all_if, set_in, set_at}
+use Rattle.acn_asn_types.specs.Sets.{end, range_from, plain, mark_at, has_mark, part_mark, has_part_mark, meet_mark, has_meet_mark, group, inner_at, element_at, but_at, part, next_part, meet, next_meet, union, all_except, set_in, set_at}
 use Rattle.acn_asn_types.proofs.ValueLaws.{Passes, IsOther, value_word, value_mark, value_again}
 
 -- ---- ranges
 
-end_again : (text : List ℕ) (o : Option AsnValue) (r : List Lexeme) → Passes end_fits o → IsOther text → end text (end_tokens text o ++ r) ≡ Some (o, r)
+end_again : (text : List ℕ) (o : Option AsnValue) (r : List Lexeme) → Passes end_fits o → IsOther text → end text (end_tokens text o ++ r) ≡ Ok (o, r)
 unfolding end end_tokens
 end_again text None r fits h = then_again _ _ _ _ _ (eat_again _ _ _) refl
 end_again text (Some v) r fits h =
@@ -57,14 +51,14 @@ is_max : IsOther (codes "MAX")
 unfolding is_identifier
 is_max = record { is_upper = refl; is_not_true = refl; is_not_false = refl; is_not_null = refl }
 
-plain_value : (v : AsnValue) (r : List Lexeme) → Passes value_fits v → EndsElement r → plain (value_tokens v ++ r) ≡ Some (element.Value v, r)
+plain_value : (v : AsnValue) (r : List Lexeme) → Passes value_fits v → EndsElement r → plain (value_tokens v ++ r) ≡ Ok (element.Value v, r)
 unfolding plain end
 plain_value v r fits ends =
     then_again _ _ _ _ _ (then_again _ _ _ _ _ (eat_nothing _ _ _ (value_word v (codes "MIN") r fits is_min)) (then_again _ _ _ _ _ (value_again v r fits) refl))
     (then_again _ _ _ _ _ (eat_nothing _ _ _ ends.less)
     (then_again _ _ _ _ _ (eat_nothing _ _ _ ends.dots) refl))
 
-plain_range : (g : AsnRange) (r : List Lexeme) → Passes end_fits g.low → Passes end_fits g.high → plain (range_tokens g ++ r) ≡ Some (element.Range g, r)
+plain_range : (g : AsnRange) (r : List Lexeme) → Passes end_fits g.low → Passes end_fits g.high → plain (range_tokens g ++ r) ≡ Ok (element.Range g, r)
 unfolding plain range_tokens range_from
 plain_range g r low high =
     simp append_assoc
@@ -133,8 +127,8 @@ is_from : IsOther (codes "FROM")
 unfolding is_identifier
 is_from = record { is_upper = refl; is_not_true = refl; is_not_false = refl; is_not_null = refl }
 
-module _ (inner : Parser Set) (limit : ℕ) (again : (s : Set) (r : List Lexeme) → length (set_tokens s ++ closing r) ≤ limit → Passes set_fits s → inner (set_tokens s ++ closing r) ≡ Some (s, closing r)) where
-  group_again : (s : Set) (r : List Lexeme) → length (in_parentheses (set_tokens s) ++ r) ≤ suc limit → Passes set_fits s → group inner (in_parentheses (set_tokens s) ++ r) ≡ Some (s, r)
+module _ (inner : Parser Set) (limit : ℕ) (again : (s : Set) (r : List Lexeme) → length (set_tokens s ++ closing r) ≤ limit → Passes set_fits s → inner (set_tokens s ++ closing r) ≡ Ok (s, closing r)) where
+  group_again : (s : Set) (r : List Lexeme) → length (in_parentheses (set_tokens s) ++ r) ≤ suc limit → Passes set_fits s → group inner (in_parentheses (set_tokens s) ++ r) ≡ Ok (s, r)
   unfolding group
   group_again s r bound fits =
       let regroup : (set_tokens s ++ mark (codes ")") ∷ []) ++ r ≡ set_tokens s ++ closing r = append_assoc (set_tokens s) (mark (codes ")") ∷ []) r in
@@ -144,9 +138,9 @@ module _ (inner : Parser Set) (limit : ℕ) (again : (s : Set) (r : List Lexeme)
       (then_again _ _ _ _ _ (again s r inside fits)
       (then_again _ _ _ _ _ (expect_again _ _ _) refl)))
 
-  element_again : (x : Element) (r : List Lexeme) → length (element_tokens x ++ r) ≤ suc limit → Passes element_fits x → EndsElement r → element_at inner (element_tokens x ++ r) ≡ Some (x, r)
+  element_again : (x : Element) (r : List Lexeme) → length (element_tokens x ++ r) ≤ suc limit → Passes element_fits x → EndsElement r → element_at inner (element_tokens x ++ r) ≡ Ok (x, r)
   unfolding element_at inner_at same_kind
-  element_again x r = form.by_element (λ x. length (element_tokens x ++ r) ≤ suc limit → Passes element_fits x → EndsElement r → element_at inner (element_tokens x ++ r) ≡ Some (x, r))
+  element_again x r = form.by_element (λ x. length (element_tokens x ++ r) ≤ suc limit → Passes element_fits x → EndsElement r → element_at inner (element_tokens x ++ r) ≡ Ok (x, r))
       (λ v bound fits ends. let fits' = sym (form.fits_Value v) ∙ fits in
       rw form.tokens_Value
       (then_again _ _ _ _ _ (eat_nothing _ _ _ (value_word v _ r fits' is_size))
@@ -175,7 +169,7 @@ module _ (inner : Parser Set) (limit : ℕ) (again : (s : Set) (r : List Lexeme)
       x
 
   but_again : (o : Option Element) (r : List Lexeme) → length (but_tokens (option_map element_tokens o) ++ r) ≤ suc limit → but_proper (option_map element_fits o) ≡ true → EndsPart r
-      → but_at inner (but_tokens (option_map element_tokens o) ++ r) ≡ Some (o, r)
+      → but_at inner (but_tokens (option_map element_tokens o) ++ r) ≡ Ok (o, r)
   unfolding but_at
   but_again None r bound fits ends = then_again _ _ _ _ _ (eat_nothing _ _ _ ends.but) refl
   but_again (Some x) r bound fits ends =
@@ -188,9 +182,9 @@ module _ (inner : Parser Set) (limit : ℕ) (again : (s : Set) (r : List Lexeme)
   element_ends None r ends = ends.element
   element_ends (Some x) r ends = record { less = sees_kind _ _ _ _ _ refl; dots = sees_kind _ _ _ _ _ refl }
 
-  part_again : (x : Part) (r : List Lexeme) → length (part_tokens x ++ r) ≤ suc limit → Passes part_fits x → EndsPart r → part inner (part_tokens x ++ r) ≡ Some (x, r)
+  part_again : (x : Part) (r : List Lexeme) → length (part_tokens x ++ r) ≤ suc limit → Passes part_fits x → EndsPart r → part inner (part_tokens x ++ r) ≡ Ok (x, r)
   unfolding part
-  part_again x r = form.by_part (λ x. length (part_tokens x ++ r) ≤ suc limit → Passes part_fits x → EndsPart r → part inner (part_tokens x ++ r) ≡ Some (x, r))
+  part_again x r = form.by_part (λ x. length (part_tokens x ++ r) ≤ suc limit → Passes part_fits x → EndsPart r → part inner (part_tokens x ++ r) ≡ Ok (x, r))
       (λ e but bound fits ends.
       let t = form.tokens_part e but in
       let whole : part_tokens (roll-Part (record { element = e; but = but })) ++ r ≡ element_tokens e ++ (but_tokens (option_map element_tokens but) ++ r) = rw (t, append_assoc) refl in
@@ -205,14 +199,14 @@ module _ (inner : Parser Set) (limit : ℕ) (again : (s : Set) (r : List Lexeme)
   abbrev next_part_tokens : Bool × Part → List Lexeme
   next_part_tokens p = joined_tokens (codes "^") (codes "INTERSECTION") (p.0, part_tokens p.1)
 
-  mark_again : (sign written : List ℕ) (w : Bool) (r : List Lexeme) → mark_at sign written ((cond w (word written) (mark sign)) ∷ r) ≡ Some (w, r)
+  mark_again : (sign written : List ℕ) (w : Bool) (r : List Lexeme) → mark_at sign written ((cond w (word written) (mark sign)) ∷ r) ≡ Ok (w, r)
   unfolding mark_at same_kind
   mark_again sign written true r = then_again _ _ _ _ _ (eat_again _ _ _) refl
   mark_again sign written false r =
       then_again _ _ _ _ _ (eat_nothing _ _ _ (sees_kind _ _ _ _ _ refl))
       (then_again _ _ _ _ _ (expect_again _ _ _) refl)
 
-  next_part_again : (x : Bool × Part) (r : List Lexeme) → length (next_part_tokens x ++ r) ≤ suc limit → Passes (λ p. part_fits p.1) x → EndsPart r → next_part inner (next_part_tokens x ++ r) ≡ Some (x, r)
+  next_part_again : (x : Bool × Part) (r : List Lexeme) → length (next_part_tokens x ++ r) ≤ suc limit → Passes (λ p. part_fits p.1) x → EndsPart r → next_part inner (next_part_tokens x ++ r) ≡ Ok (x, r)
   unfolding next_part part_mark
   next_part_again x r bound fits ends =
       then_again _ _ _ _ _ (mark_again _ _ x.0 (part_tokens x.1 ++ r))
@@ -238,16 +232,16 @@ module _ (inner : Parser Set) (limit : ℕ) (again : (s : Set) (r : List Lexeme)
   next_part_some x fits = omega arith
 
   parts_again : (xs : List (Bool × Part)) (r : List Lexeme) → length (flat_map next_part_tokens xs ++ r) ≤ suc limit → AllByRecursion (Passes (λ p. part_fits p.1)) xs → EndsMeet r
-      → many has_part_mark (next_part inner) (flat_map next_part_tokens xs ++ r) ≡ Some (xs, r)
+      → many has_part_mark (next_part inner) (flat_map next_part_tokens xs ++ r) ≡ Ok (xs, r)
   parts_again xs r bound fits ends = many_again has_part_mark (next_part inner) next_part_tokens (Passes (λ p. part_fits p.1)) EndsPart (suc limit) next_part_again next_part_starts next_part_ends next_part_some xs r bound fits ends.part ends.mark
 
   parts_end : (xs : List (Bool × Part)) (r : List Lexeme) → AllByRecursion (Passes (λ p. part_fits p.1)) xs → EndsPart r → EndsPart (flat_map next_part_tokens xs ++ r)
   parts_end [] r fits ends = ends
   parts_end (x ∷ xs) r fits ends = subst EndsPart (sym (append_assoc (next_part_tokens x) (flat_map next_part_tokens xs) r)) (next_part_ends x (flat_map next_part_tokens xs ++ r) fits.0)
 
-  meet_again : (x : Meet) (r : List Lexeme) → length (meet_tokens x ++ r) ≤ suc limit → Passes meet_fits x → EndsMeet r → meet inner (meet_tokens x ++ r) ≡ Some (x, r)
+  meet_again : (x : Meet) (r : List Lexeme) → length (meet_tokens x ++ r) ≤ suc limit → Passes meet_fits x → EndsMeet r → meet inner (meet_tokens x ++ r) ≡ Ok (x, r)
   unfolding meet
-  meet_again x r = form.by_meet (λ x. length (meet_tokens x ++ r) ≤ suc limit → Passes meet_fits x → EndsMeet r → meet inner (meet_tokens x ++ r) ≡ Some (x, r))
+  meet_again x r = form.by_meet (λ x. length (meet_tokens x ++ r) ≤ suc limit → Passes meet_fits x → EndsMeet r → meet inner (meet_tokens x ++ r) ≡ Ok (x, r))
       (λ first more bound fits ends.
       let whole : meet_tokens (roll-Meet (record { first = first; more = more })) ++ r ≡ part_tokens first ++ (flat_map next_part_tokens more ++ r) = rw (form.tokens_meet first more, append_assoc) refl in
       let f = and_parts (part_fits first) (list_all (λ (p : Bool × Part). part_fits p.1) more) (sym (form.fits_meet first more) ∙ fits) in
@@ -262,7 +256,7 @@ module _ (inner : Parser Set) (limit : ℕ) (again : (s : Set) (r : List Lexeme)
   abbrev next_meet_tokens : Bool × Meet → List Lexeme
   next_meet_tokens p = joined_tokens (codes "|") (codes "UNION") (p.0, meet_tokens p.1)
 
-  next_meet_again : (x : Bool × Meet) (r : List Lexeme) → length (next_meet_tokens x ++ r) ≤ suc limit → Passes (λ p. meet_fits p.1) x → EndsMeet r → next_meet inner (next_meet_tokens x ++ r) ≡ Some (x, r)
+  next_meet_again : (x : Bool × Meet) (r : List Lexeme) → length (next_meet_tokens x ++ r) ≤ suc limit → Passes (λ p. meet_fits p.1) x → EndsMeet r → next_meet inner (next_meet_tokens x ++ r) ≡ Ok (x, r)
   unfolding next_meet meet_mark
   next_meet_again x r bound fits ends =
       then_again _ _ _ _ _ (mark_again _ _ x.0 (meet_tokens x.1 ++ r))
@@ -306,7 +300,7 @@ module _ (inner : Parser Set) (limit : ℕ) (again : (s : Set) (r : List Lexeme)
   closing_no_meet r = rw (sees_kind Word Mark (codes "UNION") (codes ")") r refl) (sees_text _ _ _ _ refl)
 
   meets_again : (xs : List (Bool × Meet)) (r : List Lexeme) → length (flat_map next_meet_tokens xs ++ closing r) ≤ suc limit → AllByRecursion (Passes (λ p. meet_fits p.1)) xs
-      → many has_meet_mark (next_meet inner) (flat_map next_meet_tokens xs ++ closing r) ≡ Some (xs, closing r)
+      → many has_meet_mark (next_meet inner) (flat_map next_meet_tokens xs ++ closing r) ≡ Ok (xs, closing r)
   meets_again xs r bound fits = many_again has_meet_mark (next_meet inner) next_meet_tokens (Passes (λ p. meet_fits p.1)) EndsMeet (suc limit) next_meet_again next_meet_starts next_meet_ends next_meet_some xs (closing r) bound fits (closing_ends r) (closing_no_meet r)
 
   meets_end : (xs : List (Bool × Meet)) (r : List Lexeme) → AllByRecursion (Passes (λ p. meet_fits p.1)) xs → EndsMeet (flat_map next_meet_tokens xs ++ closing r)
@@ -327,9 +321,9 @@ module _ (inner : Parser Set) (limit : ℕ) (again : (s : Set) (r : List Lexeme)
       (λ first more fits. rw (form.tokens_meet first more, append_assoc) (part_word first _ (and_parts (part_fits first) (list_all (λ (p : Bool × Part). part_fits p.1) more) (sym (form.fits_meet first more) ∙ fits)).0))
       x
 
-  set_in_again : (x : Set) (r : List Lexeme) → length (set_tokens x ++ closing r) ≤ suc limit → Passes set_fits x → set_in inner (set_tokens x ++ closing r) ≡ Some (x, closing r)
+  set_in_again : (x : Set) (r : List Lexeme) → length (set_tokens x ++ closing r) ≤ suc limit → Passes set_fits x → set_in inner (set_tokens x ++ closing r) ≡ Ok (x, closing r)
   unfolding set_in all_except union
-  set_in_again x r = form.by_set (λ x. length (set_tokens x ++ closing r) ≤ suc limit → Passes set_fits x → set_in inner (set_tokens x ++ closing r) ≡ Some (x, closing r))
+  set_in_again x r = form.by_set (λ x. length (set_tokens x ++ closing r) ≤ suc limit → Passes set_fits x → set_in inner (set_tokens x ++ closing r) ≡ Ok (x, closing r))
       (λ e bound fits.
       let t = form.tokens_AllExcept e in
       let in_element : length (element_tokens e ++ closing r) ≤ suc limit = omega (arith, ap (λ (z : List Lexeme). length (z ++ closing r)) t) in
@@ -350,6 +344,6 @@ module _ (inner : Parser Set) (limit : ℕ) (again : (s : Set) (r : List Lexeme)
       x
 
 -- Each proper set is read from its tokens, where as many sets may be in one another as there are tokens.
-pub set_again : (n : ℕ) (s : Set) (r : List Lexeme) → length (set_tokens s ++ closing r) ≤ n → Passes set_fits s → set_at n (set_tokens s ++ closing r) ≡ Some (s, closing r)
+pub set_again : (n : ℕ) (s : Set) (r : List Lexeme) → length (set_tokens s ++ closing r) ≤ n → Passes set_fits s → set_at n (set_tokens s ++ closing r) ≡ Ok (s, closing r)
 set_again zero s r bound fits = absurd (omega (arith, length-append (set_tokens s) (closing r)))
 set_again (suc n) s r bound fits = set_in_again (set_at n) n (set_again n) s r bound fits

@@ -1,17 +1,13 @@
 -- What the parser of sets takes: the tokens of a proper tree.
-use Rattle.std.proofs.Common.{◌≡◌, ℕ, zero, suc, ◌^◌, ◌<◌, Bool, true, false, ◌&&◌, cond, nat_lt, List, [], ◌∷◌, ◌++◌, length, Option, Some, None, refl, sym, ap, subst, ◌∙◌, append_assoc, arith, rules}
-use Rattle.std.specs.Prelude.{codes, is_some, option_map}
-use Rattle.std.specs.List.{flat_map, list_all, AllByRecursion}
-use Rattle.std.specs.Fmt.{decimal}
+use Rattle.std.proofs.Common.{◌≡◌, ℕ, zero, suc, Bool, true, false, cond, List, [], ◌∷◌, ◌++◌, length, Option, Some, None, refl, ◌∙◌, append_assoc}
+use Rattle.std.specs.Prelude.{codes, option_map, Ok}
+use Rattle.std.specs.List.{list_all, AllByRecursion}
 use Rattle.std.specs.Cmp.Derive.{both_true}
-use Rattle.std.proofs.lemmas.Bool.{lt-ltb}
-use Rattle.acn_lex.specs.declared.Kind.TheVariants.{Word, Number, Mark}
+use Rattle.acn_lex.specs.declared.Kind.TheVariants.{Word, Mark}
 use Rattle.acn_lex.specs.Lexeme.{Lexeme}
-use Rattle.acn_cursor.specs.Steps.{Parser, given, and_then, ◌>>=◌, ◌>>◌, pure, token, sees, eat, expect, text_of, number, many}
-use Rattle.acn_cursor.specs.Steps as steps
-use Rattle.acn_cursor.proofs.Laws.{Takes, done, then_found, given_found, expect_found, word_found, number_found, repeat_found, outcome, outcome_is, ap2}
+use Rattle.acn_cursor.specs.Steps.{Parser, given, token, sees, eat, expect, many}
+use Rattle.acn_cursor.proofs.Laws.{Takes, done, then_found, given_found, expect_found, repeat_found, outcome_is, ap2}
 use Rattle.acn_asn_syntax.specs.declared.values.AsnValue.{AsnValue}
-use Rattle.acn_asn_syntax.specs.declared.values.AsnValue.TheVariants as value
 use Rattle.acn_asn_syntax.specs.declared.sets.AsnRange.{AsnRange}
 use Rattle.acn_asn_syntax.specs.declared.sets.Element.{Element}
 use Rattle.acn_asn_syntax.specs.declared.sets.Element.TheVariants as element
@@ -19,13 +15,12 @@ use Rattle.acn_asn_syntax.specs.declared.sets.Set.{Set}
 use Rattle.acn_asn_syntax.specs.declared.sets.Set.TheVariants as set
 use Rattle.acn_asn_syntax.specs.declared.sets.Meet.{Meet, roll-Meet}
 use Rattle.acn_asn_syntax.specs.declared.sets.Part.{Part, roll-Part}
-use Rattle.acn_lex.specs.Words.{is_identifier}
-use Rattle.acn_asn_syntax.specs.Values.{word, mark, value_tokens, value_fits, end_tokens, end_fits, range_tokens, range_fits, in_parentheses}
+use Rattle.acn_asn_syntax.specs.Values.{word, mark, end_tokens, end_fits, range_tokens, in_parentheses}
 use Rattle.acn_asn_syntax.specs.Trees.{element_tokens, set_tokens, meet_tokens, part_tokens, element_fits, set_fits, meet_fits, part_fits}
 use Rattle.acn_asn_syntax.proofs.SetTokens.{joined_tokens, but_tokens, but_proper}
 use Rattle.acn_asn_syntax.proofs.SetTokens as form
 use Rattle.acn_asn_types.specs.Values.{value_at}
-use Rattle.acn_asn_types.specs.Sets.{end_if, end, range_from, plain_if, plain, mark_if, mark_at, has_mark, part_mark, has_part_mark, meet_mark, has_meet_mark, group, inner_at, from_if, size_if, element_at, but_if, but_at, part, next_part, meet, next_meet, union, all_except, all_if, set_in, set_at}
+use Rattle.acn_asn_types.specs.Sets.{end_if, end, range_from, plain_if, plain, mark_if, mark_at, part_mark, has_part_mark, meet_mark, has_meet_mark, group, inner_at, from_if, size_if, element_at, but_if, but_at, part, next_part, meet, next_meet, union, all_except, all_if, set_in, set_at}
 use Rattle.acn_asn_types.proofs.ValueLaws.{Passes, Found, value_found}
 
 -- ---- ranges
@@ -33,7 +28,7 @@ use Rattle.acn_asn_types.proofs.ValueLaws.{Passes, Found, value_found}
 abbrev pub TakesEnd : List ℕ → List Lexeme → Option AsnValue → List Lexeme → Type 0
 TakesEnd text = Takes (end_tokens text) (Passes end_fits)
 
-end_if_found : (text : List ℕ) (b : Bool) (ts m : List Lexeme) (o : Option AsnValue) (r : List Lexeme) → ts ≡ given b (token Word text) ++ m → end_if b m ≡ Some (o, r) → TakesEnd text ts o r
+end_if_found : (text : List ℕ) (b : Bool) (ts m : List Lexeme) (o : Option AsnValue) (r : List Lexeme) → ts ≡ given b (token Word text) ++ m → end_if b m ≡ Ok (o, r) → TakesEnd text ts o r
 unfolding end_tokens
 end_if_found text true ts m o r p e = done _ _ _ _ e p refl
 end_if_found text false ts m o r p e =
@@ -42,7 +37,7 @@ end_if_found text false ts m o r p e =
     let parts : ts ≡ end_tokens text (Some v) ++ m' = cc (p, a.parts) in
     done _ _ _ _ h parts a.fits)
 
-pub end_found : (text : List ℕ) (ts : List Lexeme) (o : Option AsnValue) (r : List Lexeme) → end text ts ≡ Some (o, r) → TakesEnd text ts o r
+pub end_found : (text : List ℕ) (ts : List Lexeme) (o : Option AsnValue) (r : List Lexeme) → end text ts ≡ Ok (o, r) → TakesEnd text ts o r
 unfolding end
 end_found text ts o r e = then_found (eat Word text ts) _ _ e (λ b m e1 h. end_if_found text b ts m o r (given_found _ _ _ _ _ e1) h)
 
@@ -50,7 +45,7 @@ abbrev pub TakesElement : List Lexeme → Element → List Lexeme → Type 0
 TakesElement = Takes element_tokens (Passes element_fits)
 
 plain_if_found : (ts m1 : List Lexeme) (low : Option AsnValue) (low_out : Bool) (m2 : List Lexeme) (dots : Bool) (m3 : List Lexeme) (x : Element) (r : List Lexeme) → TakesEnd (codes "MIN") ts low m1
-    → m1 ≡ given low_out (mark (codes "<")) ++ m2 → m2 ≡ given dots (mark (codes "..")) ++ m3 → plain_if low low_out dots m3 ≡ Some (x, r) → TakesElement ts x r
+    → m1 ≡ given low_out (mark (codes "<")) ++ m2 → m2 ≡ given dots (mark (codes "..")) ++ m3 → plain_if low low_out dots m3 ≡ Ok (x, r) → TakesElement ts x r
 unfolding range_from range_tokens end_tokens
 plain_if_found ts m1 low low_out m2 true m3 x r a p q e =
     then_found (eat Mark (codes "<") m3) _ _ e (λ high_out m4 e1 h.
@@ -67,7 +62,7 @@ plain_if_found ts m1 (Some v) false m2 false m3 x r a p q e =
 plain_if_found ts m1 (Some v) true m2 false m3 x r a p q e = absurd cc
 plain_if_found ts m1 None low_out m2 false m3 x r a p q e = absurd cc
 
-pub plain_found : (ts : List Lexeme) (x : Element) (r : List Lexeme) → plain ts ≡ Some (x, r) → TakesElement ts x r
+pub plain_found : (ts : List Lexeme) (x : Element) (r : List Lexeme) → plain ts ≡ Ok (x, r) → TakesElement ts x r
 unfolding plain
 plain_found ts x r e =
     then_found (end (codes "MIN") ts) _ _ e (λ low m1 e1 h.
@@ -77,14 +72,14 @@ plain_found ts x r e =
 
 -- ---- marks
 
-mark_if_found : (sign written : List ℕ) (b : Bool) (ts m : List Lexeme) (w : Bool) (r : List Lexeme) → ts ≡ given b (token Word written) ++ m → mark_if sign b m ≡ Some (w, r) → ts ≡ (cond w (word written) (mark sign)) ∷ r
+mark_if_found : (sign written : List ℕ) (b : Bool) (ts m : List Lexeme) (w : Bool) (r : List Lexeme) → ts ≡ given b (token Word written) ++ m → mark_if sign b m ≡ Ok (w, r) → ts ≡ (cond w (word written) (mark sign)) ∷ r
 mark_if_found sign written true ts m w r p e = let k = outcome_is (true, m) (w, r) e in p ∙ ap2 (λ (w : Bool) (r : List Lexeme). (cond w (word written) (mark sign)) ∷ r) k.0 k.1
 mark_if_found sign written false ts m w r p e =
     then_found (expect Mark sign m) _ _ e (λ _ m' e1 h.
     let k = outcome_is (false, m') (w, r) h in
     p ∙ expect_found _ _ _ _ _ e1 ∙ ap2 (λ (w : Bool) (r : List Lexeme). (cond w (word written) (mark sign)) ∷ r) k.0 k.1)
 
-mark_found : (sign written : List ℕ) (ts : List Lexeme) (w : Bool) (r : List Lexeme) → mark_at sign written ts ≡ Some (w, r) → ts ≡ (cond w (word written) (mark sign)) ∷ r
+mark_found : (sign written : List ℕ) (ts : List Lexeme) (w : Bool) (r : List Lexeme) → mark_at sign written ts ≡ Ok (w, r) → ts ≡ (cond w (word written) (mark sign)) ∷ r
 unfolding mark_at
 mark_found sign written ts w r e = then_found (eat Word written ts) _ _ e (λ b m e1 h. mark_if_found sign written b ts m w r (given_found _ _ _ _ _ e1) h)
 
@@ -104,7 +99,7 @@ all_pass test [] h = refl
 all_pass test (x ∷ xs) h = both_true h.0 (all_pass test xs h.1)
 
 module _ (inner : Parser Set) (found : Found inner set_tokens set_fits) where
-  group_found : (ts : List Lexeme) (s : Set) (r : List Lexeme) → group inner ts ≡ Some (s, r) → Takes (λ s. in_parentheses (set_tokens s)) (Passes set_fits) ts s r
+  group_found : (ts : List Lexeme) (s : Set) (r : List Lexeme) → group inner ts ≡ Ok (s, r) → Takes (λ s. in_parentheses (set_tokens s)) (Passes set_fits) ts s r
   unfolding group
   group_found ts s r e =
       then_found (expect Mark (codes "(") ts) _ _ e (λ _ m1 e1 h.
@@ -116,7 +111,7 @@ module _ (inner : Parser Set) (found : Found inner set_tokens set_fits) where
       let parts : ts ≡ in_parentheses (set_tokens s') ++ m3 = simp append_assoc (cc (a, b.parts, c)) in
       done _ _ _ _ h parts b.fits)))
 
-  inner_found : (ts : List Lexeme) (x : Element) (r : List Lexeme) → inner_at inner ts ≡ Some (x, r) → TakesElement ts x r
+  inner_found : (ts : List Lexeme) (x : Element) (r : List Lexeme) → inner_at inner ts ≡ Ok (x, r) → TakesElement ts x r
   unfolding inner_at
   inner_found ts x r e =
       then_found (group inner ts) _ _ e (λ s m e1 h.
@@ -124,7 +119,7 @@ module _ (inner : Parser Set) (found : Found inner set_tokens set_fits) where
       let parts : ts ≡ element_tokens (element.Inner s) ++ m = rw form.tokens_Inner a.parts in
       done _ _ _ _ h parts (form.fits_Inner s ∙ a.fits))
 
-  from_found : (b : Bool) (ts m : List Lexeme) (x : Element) (r : List Lexeme) → ts ≡ given b (token Word (codes "FROM")) ++ m → from_if inner b m ≡ Some (x, r) → TakesElement ts x r
+  from_found : (b : Bool) (ts m : List Lexeme) (x : Element) (r : List Lexeme) → ts ≡ given b (token Word (codes "FROM")) ++ m → from_if inner b m ≡ Ok (x, r) → TakesElement ts x r
   from_found true ts m x r p e =
       then_found (group inner m) _ _ e (λ s m' e1 h.
       let a = group_found _ _ _ e1 in
@@ -132,11 +127,11 @@ module _ (inner : Parser Set) (found : Found inner set_tokens set_fits) where
       done _ _ _ _ h parts (form.fits_From s ∙ a.fits))
   from_found false ts m x r p e = rw p (by_mark (sees Mark (codes "(") m) e)
     where
-      by_mark : (b : Bool) → cond b (inner_at inner m) (plain m) ≡ Some (x, r) → TakesElement m x r
+      by_mark : (b : Bool) → cond b (inner_at inner m) (plain m) ≡ Ok (x, r) → TakesElement m x r
       by_mark true e = inner_found m x r e
       by_mark false e = plain_found m x r e
 
-  size_found : (b : Bool) (ts m : List Lexeme) (x : Element) (r : List Lexeme) → ts ≡ given b (token Word (codes "SIZE")) ++ m → size_if inner b m ≡ Some (x, r) → TakesElement ts x r
+  size_found : (b : Bool) (ts m : List Lexeme) (x : Element) (r : List Lexeme) → ts ≡ given b (token Word (codes "SIZE")) ++ m → size_if inner b m ≡ Ok (x, r) → TakesElement ts x r
   size_found true ts m x r p e =
       then_found (group inner m) _ _ e (λ s m' e1 h.
       let a = group_found _ _ _ e1 in
@@ -152,7 +147,7 @@ module _ (inner : Parser Set) (found : Found inner set_tokens set_fits) where
   abbrev TakesBut : List Lexeme → Option Element → List Lexeme → Type 0
   TakesBut = Takes (λ o. but_tokens (option_map element_tokens o)) (λ o. but_proper (option_map element_fits o) ≡ true)
 
-  but_if_found : (b : Bool) (ts m : List Lexeme) (o : Option Element) (r : List Lexeme) → ts ≡ given b (token Word (codes "EXCEPT")) ++ m → but_if inner b m ≡ Some (o, r) → TakesBut ts o r
+  but_if_found : (b : Bool) (ts m : List Lexeme) (o : Option Element) (r : List Lexeme) → ts ≡ given b (token Word (codes "EXCEPT")) ++ m → but_if inner b m ≡ Ok (o, r) → TakesBut ts o r
   but_if_found true ts m o r p e =
       then_found (element_at inner m) _ _ e (λ x m' e1 h.
       let a = element_found _ _ _ e1 in
@@ -160,7 +155,7 @@ module _ (inner : Parser Set) (found : Found inner set_tokens set_fits) where
       done _ _ _ _ h parts a.fits)
   but_if_found false ts m o r p e = done _ _ _ _ e p refl
 
-  but_found : (ts : List Lexeme) (o : Option Element) (r : List Lexeme) → but_at inner ts ≡ Some (o, r) → TakesBut ts o r
+  but_found : (ts : List Lexeme) (o : Option Element) (r : List Lexeme) → but_at inner ts ≡ Ok (o, r) → TakesBut ts o r
   unfolding but_at
   but_found ts o r e = then_found (eat Word (codes "EXCEPT") ts) _ _ e (λ b m e1 h. but_if_found b ts m o r (given_found _ _ _ _ _ e1) h)
 
@@ -214,7 +209,7 @@ module _ (inner : Parser Set) (found : Found inner set_tokens set_fits) where
       let parts : ts ≡ set_tokens (set.Union first more) ++ m2 = rw (form.tokens_Union, append_assoc) (cc (a.parts, b.parts)) in
       done _ _ _ _ h parts (form.fits_Union first more ∙ both_true a.fits (all_pass (λ (p : Bool × Meet). meet_fits p.1) more b.fits))))
 
-  all_found : (b : Bool) (ts m : List Lexeme) (x : Set) (r : List Lexeme) → ts ≡ given b (token Word (codes "ALL")) ++ m → all_if inner b m ≡ Some (x, r) → TakesSet ts x r
+  all_found : (b : Bool) (ts m : List Lexeme) (x : Set) (r : List Lexeme) → ts ≡ given b (token Word (codes "ALL")) ++ m → all_if inner b m ≡ Ok (x, r) → TakesSet ts x r
   unfolding all_except
   all_found true ts m x r p e =
       then_found (expect Word (codes "EXCEPT") m) _ _ e (λ _ m1 e1 h.

@@ -1,15 +1,14 @@
 -- Each proper type is read from its tokens.
-use Rattle.std.proofs.Common.{◌≡◌, ℕ, zero, suc, ◌+◌, ◌<◌, ◌≤◌, Bool, true, false, not, ◌&&◌, cond, List, [], ◌∷◌, ◌++◌, length, length-append, Option, Some, None, refl, sym, ap, subst, ◌∙◌, append_assoc, arith, rules}
-use Rattle.std.specs.Prelude.{codes}
+use Rattle.std.proofs.Common.{◌≡◌, ℕ, zero, suc, ◌<◌, ◌≤◌, true, false, not, ◌&&◌, cond, List, [], ◌∷◌, ◌++◌, length, length-append, Option, Some, None, refl, sym, ap, subst, ◌∙◌, append_assoc, arith}
+use Rattle.std.specs.Prelude.{codes, Ok}
 use Rattle.std.specs.List.{flat_map, list_all}
 use Rattle.std.specs.Str.{bytes_eq}
 use Rattle.std.specs.Cmp.Derive.{both_true}
-use Rattle.std.proofs.lemmas.List.{append-nil}
 use Rattle.acn_lex.specs.declared.Kind.TheVariants.{Word, Mark}
 use Rattle.acn_lex.specs.Lexeme.{Lexeme, same_kind}
-use Rattle.acn_cursor.specs.Steps.{Parser, given, and_then, ◌>>=◌, ◌>>◌, pure, token, sees, eat, expect, many}
+use Rattle.acn_cursor.specs.Steps.{Parser, sees}
 use Rattle.acn_lex.specs.Words.{is_identifier, is_reference, reserved}
-use Rattle.acn_cursor.proofs.Laws.{then_again, eat_again, eat_nothing, expect_again, word_again, many_again, sees_again, sees_kind, sees_text, outcome}
+use Rattle.acn_cursor.proofs.Laws.{then_again, eat_again, eat_nothing, expect_again, word_again, many_again, sees_again, sees_kind, sees_text}
 use Rattle.acn_asn_syntax.specs.declared.types.Tag.{Tag}
 use Rattle.acn_asn_syntax.specs.declared.types.Rest.{Rest}
 use Rattle.acn_asn_syntax.specs.declared.types.Rest.TheVariants as rest
@@ -23,24 +22,22 @@ use Rattle.acn_asn_syntax.specs.declared.types.Alternative.{Alternative}
 use Rattle.acn_asn_syntax.specs.declared.sets.Set.{Set}
 use Rattle.acn_asn_syntax.specs.declared.sets.Meet.{Meet}
 use Rattle.acn_asn_syntax.specs.declared.sets.Part.{Part}
-use Rattle.acn_asn_syntax.specs.declared.sets.Element.{Element}
-use Rattle.acn_asn_syntax.specs.Values.{word, mark, in_parentheses, in_braces, with_commas, option_tokens, option_fits}
-use Rattle.acn_asn_syntax.specs.Spelling.{tag_tokens, tag_fits, rest_tokens, rest_fits, is_some, ref_tokens}
-use Rattle.acn_asn_syntax.specs.Trees.{set_tokens, set_fits, meet_tokens, meet_fits, part_tokens, part_fits, element_tokens, element_fits, type_tokens, base_tokens, constraint_tokens, component_tokens, alternative_tokens, type_fits, base_fits, outer_fits, inner_fits, component_fits, alternative_fits, is_list}
+use Rattle.acn_asn_syntax.specs.Values.{word, mark, in_parentheses, with_commas, option_tokens, option_fits}
+use Rattle.acn_asn_syntax.specs.Spelling.{tag_tokens, tag_fits, rest_tokens, rest_fits, ref_tokens}
+use Rattle.acn_asn_syntax.specs.Trees.{set_tokens, set_fits, meet_tokens, meet_fits, part_tokens, part_fits, element_fits, type_tokens, base_tokens, constraint_tokens, component_tokens, alternative_tokens, type_fits, base_fits, outer_fits, inner_fits, component_fits, alternative_fits, is_list}
 use Rattle.acn_asn_syntax.proofs.SetTokens as sets
 use Rattle.acn_asn_syntax.proofs.SetTokens.{but_proper}
 use Rattle.acn_asn_syntax.proofs.TypeTokens as form
 use Rattle.acn_asn_syntax.proofs.TypeTokens.{is_none, ByBase}
 use Rattle.acn_asn_types.specs.declared.heads.ListHead.{ListHead}
-use Rattle.acn_asn_types.specs.declared.heads.Step.{Step}
 use Rattle.acn_asn_types.specs.declared.heads.Step.TheVariants as step
 use Rattle.acn_asn_types.specs.Lists.{has_comma, listed}
 use Rattle.acn_asn_types.specs.Bases.{simple_base}
 use Rattle.acn_asn_types.specs.Sets.{set_at}
 use Rattle.acn_asn_types.specs.Types.{has_paren, typed, component_of, alternative_of, list_type, containing_at, set_constraint, constraint_at, size_at, some_constraint, of_constraint, list_at, finish, component, components_at, alternative, choice_at, base_at, sequence_at, other_at, step_at, chain, type_in, type_at}
-use Rattle.acn_asn_types.proofs.ValueLaws.{Passes, IsOther}
+use Rattle.acn_asn_types.proofs.ValueLaws.{Passes}
 use Rattle.acn_asn_types.proofs.SetsAgain.{closing, set_again, element_word, IsOtherHere}
-use Rattle.acn_asn_types.proofs.ListLaws.{pass_all, some_fit, listed_again}
+use Rattle.acn_asn_types.proofs.ListLaws.{pass_all, listed_again}
 use Rattle.acn_asn_types.proofs.BaseLaws.{BeginsBase, tag_again, rest_again, EndsRest}
 use Rattle.acn_asn_types.proofs.SimpleLaws.{plain_fits, fits_by, EndsBase, not_reserved, again_Boolean, again_Null, again_Ia5String, again_OctetString, again_BitString, again_Integer, again_Enumerated, again_Ref}
 use Rattle.acn_asn_types.proofs.TypesFound.{head_tokens, list_by, list_is, list_fits_by}
@@ -155,13 +152,13 @@ type_some t = form.by_type (λ t. 0 < length (type_tokens t))
 -- ---- over parsers of what stands in parentheses and braces
 
 module _ (limit : ℕ) (set : Parser Set)
-    (set_again : (s : Set) (r : List Lexeme) → length (set_tokens s ++ closing r) ≤ limit → Passes set_fits s → set (set_tokens s ++ closing r) ≡ Some (s, closing r))
+    (set_again : (s : Set) (r : List Lexeme) → length (set_tokens s ++ closing r) ≤ limit → Passes set_fits s → set (set_tokens s ++ closing r) ≡ Ok (s, closing r))
     (inner : Parser AsnType)
-    (again : (t : AsnType) (r : List Lexeme) → length (type_tokens t ++ r) ≤ limit → Passes type_fits t → EndsType r → inner (type_tokens t ++ r) ≡ Some (t, r)) where
+    (again : (t : AsnType) (r : List Lexeme) → length (type_tokens t ++ r) ≤ limit → Passes type_fits t → EndsType r → inner (type_tokens t ++ r) ≡ Ok (t, r)) where
   set_in : (s : Set) (r : List Lexeme) → length (in_parentheses (set_tokens s) ++ r) ≤ suc limit → length (set_tokens s ++ closing r) ≤ limit
   set_in s r bound = let regroup : (set_tokens s ++ mark (codes ")") ∷ []) ++ r ≡ set_tokens s ++ closing r = append_assoc (set_tokens s) (mark (codes ")") ∷ []) r in omega (arith, ap length regroup)
 
-  set_again_in : (s : Set) (r : List Lexeme) → length (in_parentheses (set_tokens s) ++ r) ≤ suc limit → Passes set_fits s → constraint_at set inner (in_parentheses (set_tokens s) ++ r) ≡ Some (constraint.Set s, r)
+  set_again_in : (s : Set) (r : List Lexeme) → length (in_parentheses (set_tokens s) ++ r) ≤ suc limit → Passes set_fits s → constraint_at set inner (in_parentheses (set_tokens s) ++ r) ≡ Ok (constraint.Set s, r)
   unfolding constraint_at set_constraint
   set_again_in s r bound f =
       simp append_assoc
@@ -170,7 +167,7 @@ module _ (limit : ℕ) (set : Parser Set)
       (then_again _ _ _ _ _ (set_again s r (set_in s r bound) f)
       (then_again _ _ _ _ _ (expect_again _ _ _) refl))))
 
-  containing_again : (t : AsnType) (r : List Lexeme) → length (in_parentheses (word (codes "CONTAINING") ∷ type_tokens t) ++ r) ≤ suc limit → Passes type_fits t → constraint_at set inner (in_parentheses (word (codes "CONTAINING") ∷ type_tokens t) ++ r) ≡ Some (constraint.Containing t, r)
+  containing_again : (t : AsnType) (r : List Lexeme) → length (in_parentheses (word (codes "CONTAINING") ∷ type_tokens t) ++ r) ≤ suc limit → Passes type_fits t → constraint_at set inner (in_parentheses (word (codes "CONTAINING") ∷ type_tokens t) ++ r) ≡ Ok (constraint.Containing t, r)
   unfolding constraint_at containing_at
   containing_again t r bound f =
       let regroup : (type_tokens t ++ mark (codes ")") ∷ []) ++ r ≡ type_tokens t ++ closing r = append_assoc (type_tokens t) (mark (codes ")") ∷ []) r in
@@ -181,8 +178,8 @@ module _ (limit : ℕ) (set : Parser Set)
       (then_again _ _ _ _ _ (again t (closing r) within f (closing_ends r))
       (then_again _ _ _ _ _ (expect_again _ _ _) refl))))
 
-  constraint_again : (c : Constraint) (r : List Lexeme) → length (constraint_tokens c ++ r) ≤ suc limit → Passes outer_fits c → constraint_at set inner (constraint_tokens c ++ r) ≡ Some (c, r)
-  constraint_again c r = form.by_constraint (λ c. length (constraint_tokens c ++ r) ≤ suc limit → Passes outer_fits c → constraint_at set inner (constraint_tokens c ++ r) ≡ Some (c, r))
+  constraint_again : (c : Constraint) (r : List Lexeme) → length (constraint_tokens c ++ r) ≤ suc limit → Passes outer_fits c → constraint_at set inner (constraint_tokens c ++ r) ≡ Ok (c, r)
+  constraint_again c r = form.by_constraint (λ c. length (constraint_tokens c ++ r) ≤ suc limit → Passes outer_fits c → constraint_at set inner (constraint_tokens c ++ r) ≡ Ok (c, r))
       (λ s bound f. rw (form.tokens_Set s) (set_again_in s r (subst (λ z. length (z ++ r) ≤ suc limit) (form.tokens_Set s) bound) (sym (form.fits_Set s).0 ∙ f)))
       (λ s bound f. let z : false ≡ true = sym (form.fits_Size s).0 ∙ f in absurd cc)
       (λ t bound f. rw (form.tokens_Containing t) (containing_again t r (subst (λ z. length (z ++ r) ≤ suc limit) (form.tokens_Containing t) bound) (sym (form.fits_Containing t).0 ∙ f)))
@@ -191,9 +188,9 @@ module _ (limit : ℕ) (set : Parser Set)
   abbrev before_of : List Lexeme → List Lexeme
   before_of r = word (codes "OF") ∷ r
 
-  of_some : (c : Constraint) (r : List Lexeme) → length (constraint_tokens c ++ r) ≤ suc limit → Passes inner_fits c → of_constraint set inner (constraint_tokens c ++ r) ≡ Some (Some c, r)
+  of_some : (c : Constraint) (r : List Lexeme) → length (constraint_tokens c ++ r) ≤ suc limit → Passes inner_fits c → of_constraint set inner (constraint_tokens c ++ r) ≡ Ok (Some c, r)
   unfolding of_constraint size_at some_constraint has_paren same_kind
-  of_some c r = form.by_constraint (λ c. length (constraint_tokens c ++ r) ≤ suc limit → Passes inner_fits c → of_constraint set inner (constraint_tokens c ++ r) ≡ Some (Some c, r))
+  of_some c r = form.by_constraint (λ c. length (constraint_tokens c ++ r) ≤ suc limit → Passes inner_fits c → of_constraint set inner (constraint_tokens c ++ r) ≡ Ok (Some c, r))
       (λ s bound f.
       let one = set_again_in s r (subst (λ z. length (z ++ r) ≤ suc limit) (form.tokens_Set s) bound) (sym (form.fits_Set s).1 ∙ f) in
       rw (form.tokens_Set s)
@@ -214,7 +211,7 @@ module _ (limit : ℕ) (set : Parser Set)
       (rw (sees_again Mark (codes "(") (((word (codes "CONTAINING") ∷ type_tokens t) ++ mark (codes ")") ∷ []) ++ r)) (then_again _ _ _ _ _ one refl))))
       c
 
-  of_again : (o : Option Constraint) (r : List Lexeme) → length (option_tokens constraint_tokens o ++ before_of r) ≤ suc limit → option_fits inner_fits o ≡ true → of_constraint set inner (option_tokens constraint_tokens o ++ before_of r) ≡ Some (o, before_of r)
+  of_again : (o : Option Constraint) (r : List Lexeme) → length (option_tokens constraint_tokens o ++ before_of r) ≤ suc limit → option_fits inner_fits o ≡ true → of_constraint set inner (option_tokens constraint_tokens o ++ before_of r) ≡ Ok (o, before_of r)
   unfolding of_constraint has_paren same_kind
   of_again None r bound f =
       then_again _ _ _ _ _ (eat_nothing _ _ _ (sees_text _ _ _ _ refl))
@@ -226,7 +223,7 @@ module _ (limit : ℕ) (set : Parser Set)
   paren_starts c r f = (constraint_mark c r f).0
 
   finish_again : (tag : Option Tag) (b : AsnBase) (cs : List Constraint) (r : List Lexeme) → length (flat_map constraint_tokens cs ++ r) ≤ suc limit → list_all outer_fits cs ≡ true → EndsType r
-      → finish set inner tag b (flat_map constraint_tokens cs ++ r) ≡ Some (step.Inner (typed tag b cs), r)
+      → finish set inner tag b (flat_map constraint_tokens cs ++ r) ≡ Ok (step.Inner (typed tag b cs), r)
   unfolding finish has_paren
   finish_again tag b cs r bound f ends =
       then_again _ _ _ _ _ (many_again has_paren (constraint_at set inner) constraint_tokens (Passes outer_fits) (λ _. Unit {0}) (suc limit) (λ c r bound f _. constraint_again c r bound f) paren_starts (λ _ _ _. tt) constraint_some cs r bound (pass_all outer_fits cs f) tt ends.paren) refl
@@ -237,12 +234,12 @@ module _ (limit : ℕ) (set : Parser Set)
   -- a step reads a type with this base
   abbrev Steps : AsnBase → Type 0
   Steps b = (tag : Option Tag) (cs : List Constraint) (r : List Lexeme) → length (base_tokens b ++ tail_tokens cs r) ≤ suc limit → option_fits tag_fits tag ≡ true → plain_fits b ≡ true → list_all outer_fits cs ≡ true → EndsType r
-      → step_at set inner (option_tokens tag_tokens tag ++ (base_tokens b ++ tail_tokens cs r)) ≡ Some (step.Inner (typed tag b cs), r)
+      → step_at set inner (option_tokens tag_tokens tag ++ (base_tokens b ++ tail_tokens cs r)) ≡ Ok (step.Inner (typed tag b cs), r)
 
   tail_in : (ts : List Lexeme) (cs : List Constraint) (r : List Lexeme) → length (ts ++ tail_tokens cs r) ≤ suc limit → length (tail_tokens cs r) ≤ suc limit
   tail_in ts cs r bound = omega (arith, length-append ts (tail_tokens cs r))
 
-  simple_step : (b : AsnBase) (w : List ℕ) (more : List Lexeme) → base_tokens b ≡ word w ∷ more → IsBaseWord w → (plain_fits b ≡ true → (m : List Lexeme) → EndsBase m → simple_base (base_tokens b ++ m) ≡ Some (b, m)) → Steps b
+  simple_step : (b : AsnBase) (w : List ℕ) (more : List Lexeme) → base_tokens b ≡ word w ∷ more → IsBaseWord w → (plain_fits b ≡ true → (m : List Lexeme) → EndsBase m → simple_base (base_tokens b ++ m) ≡ Ok (b, m)) → Steps b
   unfolding step_at other_at base_at
   simple_step b w more e k one tag cs r bound f g h ends =
       let m = tail_tokens cs r in
@@ -257,9 +254,9 @@ module _ (limit : ℕ) (set : Parser Set)
 
   -- ---- alternatives and components
 
-  alternative_again : (x : Alternative) (r : List Lexeme) → length (alternative_tokens x ++ r) ≤ limit → Passes alternative_fits x → EndsType r → alternative set inner (alternative_tokens x ++ r) ≡ Some (x, r)
+  alternative_again : (x : Alternative) (r : List Lexeme) → length (alternative_tokens x ++ r) ≤ limit → Passes alternative_fits x → EndsType r → alternative set inner (alternative_tokens x ++ r) ≡ Ok (x, r)
   unfolding alternative alternative_of
-  alternative_again x r = form.by_alternative (λ x. length (alternative_tokens x ++ r) ≤ limit → Passes alternative_fits x → EndsType r → alternative set inner (alternative_tokens x ++ r) ≡ Some (x, r))
+  alternative_again x r = form.by_alternative (λ x. length (alternative_tokens x ++ r) ≤ limit → Passes alternative_fits x → EndsType r → alternative set inner (alternative_tokens x ++ r) ≡ Ok (x, r))
       (λ name t bound fits ends.
       let f = and_parts (is_identifier name) (type_fits t) (sym (form.fits_alternative name t) ∙ fits) in
       let b : length ((word name ∷ type_tokens t) ++ r) ≤ limit = subst (λ z. length (z ++ r) ≤ limit) (form.tokens_alternative name t) bound in
@@ -287,9 +284,9 @@ module _ (limit : ℕ) (set : Parser Set)
   type_before rest.Optional r ends = word_ends _ _
   type_before (rest.Default v) r ends = word_ends _ _
 
-  component_again : (x : Component) (r : List Lexeme) → length (component_tokens x ++ r) ≤ limit → Passes component_fits x → EndsComponent r → component set inner (component_tokens x ++ r) ≡ Some (x, r)
+  component_again : (x : Component) (r : List Lexeme) → length (component_tokens x ++ r) ≤ limit → Passes component_fits x → EndsComponent r → component set inner (component_tokens x ++ r) ≡ Ok (x, r)
   unfolding component component_of
-  component_again x r = form.by_component (λ x. length (component_tokens x ++ r) ≤ limit → Passes component_fits x → EndsComponent r → component set inner (component_tokens x ++ r) ≡ Some (x, r))
+  component_again x r = form.by_component (λ x. length (component_tokens x ++ r) ≤ limit → Passes component_fits x → EndsComponent r → component set inner (component_tokens x ++ r) ≡ Ok (x, r))
       (λ name t z bound fits ends.
       let f = and_parts (is_identifier name && type_fits t) (rest_fits z) (sym (form.fits_component name t z) ∙ fits) in
       let g = and_parts (is_identifier name) (type_fits t) f.0 in
@@ -308,7 +305,7 @@ module _ (limit : ℕ) (set : Parser Set)
   abbrev closed : List Lexeme → List Lexeme
   closed r = mark (codes "}") ∷ r
 
-  components_again : (cs : List Component) (r : List Lexeme) → length (with_commas component_tokens cs ++ closed r) ≤ limit → list_all component_fits cs ≡ true → components_at set inner (with_commas component_tokens cs ++ closed r) ≡ Some (cs, r)
+  components_again : (cs : List Component) (r : List Lexeme) → length (with_commas component_tokens cs ++ closed r) ≤ limit → list_all component_fits cs ≡ true → components_at set inner (with_commas component_tokens cs ++ closed r) ≡ Ok (cs, r)
   unfolding components_at has_comma
   components_again [] r bound f = then_again _ _ _ _ _ (eat_again _ _ _) refl
   components_again (c ∷ cs) r bound f =
@@ -317,7 +314,7 @@ module _ (limit : ℕ) (set : Parser Set)
       (then_again _ _ _ _ _ (listed_again (component set inner) component_tokens component_fits EndsComponent limit component_again component_comma c cs (closed r) bound f (component_brace r) (sees_text _ _ _ _ refl))
       (then_again _ _ _ _ _ (expect_again _ _ _) refl))
 
-  alternatives_again : (more : List Alternative) (r : List Lexeme) → length (with_commas alternative_tokens more ++ closed r) ≤ limit → base_fits (base.Choice more) ≡ true → listed (alternative set inner) (with_commas alternative_tokens more ++ closed r) ≡ Some (more, closed r)
+  alternatives_again : (more : List Alternative) (r : List Lexeme) → length (with_commas alternative_tokens more ++ closed r) ≤ limit → base_fits (base.Choice more) ≡ true → listed (alternative set inner) (with_commas alternative_tokens more ++ closed r) ≡ Ok (more, closed r)
   unfolding has_comma
   alternatives_again [] r bound f = let z : false ≡ true = sym form.fits_no_choice ∙ f in absurd cc
   alternatives_again (a ∷ more) r bound f = listed_again (alternative set inner) alternative_tokens alternative_fits EndsType limit alternative_again comma_ends a more (closed r) bound (sym (form.fits_Choice a more) ∙ f) (brace_ends r) (sees_text _ _ _ _ refl)
@@ -397,7 +394,7 @@ module _ (limit : ℕ) (set : Parser Set)
       c
 
   head_step : (tag : Option Tag) (c : Option Constraint) (m : List Lexeme) → length (head_tokens (record { tag = tag; constraint = c }) ++ m) ≤ suc limit → option_fits tag_fits tag ≡ true → option_fits inner_fits c ≡ true
-      → step_at set inner (head_tokens (record { tag = tag; constraint = c }) ++ m) ≡ Some (step.Head (record { tag = tag; constraint = c }), m)
+      → step_at set inner (head_tokens (record { tag = tag; constraint = c }) ++ m) ≡ Ok (step.Head (record { tag = tag; constraint = c }), m)
   unfolding step_at sequence_at list_at
   head_step tag c m bound f g =
       let regroup : head_tokens (record { tag = tag; constraint = c }) ++ m ≡ option_tokens tag_tokens tag ++ word (codes "SEQUENCE") ∷ (option_tokens constraint_tokens c ++ before_of m) = simp append_assoc refl in
@@ -411,7 +408,7 @@ module _ (limit : ℕ) (set : Parser Set)
       (then_again _ _ _ _ _ (expect_again _ _ _) refl)))))
 
   abbrev Chained : ℕ → AsnType → Type 0
-  Chained n t = (r : List Lexeme) → length (type_tokens t ++ r) ≤ n → length (type_tokens t ++ r) ≤ suc limit → Passes type_fits t → EndsType r → chain set inner n (type_tokens t ++ r) ≡ Some (t, r)
+  Chained n t = (r : List Lexeme) → length (type_tokens t ++ r) ≤ n → length (type_tokens t ++ r) ≤ suc limit → Passes type_fits t → EndsType r → chain set inner n (type_tokens t ++ r) ≡ Ok (t, r)
 
   plain_chain : (n : ℕ) (tag : Option Tag) (b : AsnBase) (cs : List Constraint) → is_list b ≡ false → Chained (suc n) (roll-AsnType (record { tag = tag; base = b; constraints = cs }))
   unfolding typed plain_fits
@@ -470,11 +467,11 @@ module _ (limit : ℕ) (set : Parser Set)
   chain_again zero t = λ r turns bound fits ends. absurd (omega (arith, type_some t, length-append (type_tokens t) r))
   chain_again (suc n) t = form.by_type (Chained (suc n)) (base_chain n (chain_again n)) t
 
-  type_in_again : (t : AsnType) (r : List Lexeme) → length (type_tokens t ++ r) ≤ suc limit → Passes type_fits t → EndsType r → type_in set inner (type_tokens t ++ r) ≡ Some (t, r)
+  type_in_again : (t : AsnType) (r : List Lexeme) → length (type_tokens t ++ r) ≤ suc limit → Passes type_fits t → EndsType r → type_in set inner (type_tokens t ++ r) ≡ Ok (t, r)
   unfolding type_in
   type_in_again t r bound fits ends = chain_again (length (type_tokens t ++ r)) t r (omega arith) bound fits ends
 
 -- Each proper type is read from its tokens, where as many braces and parentheses may be in one another as there are tokens.
-pub type_again : (n : ℕ) (t : AsnType) (r : List Lexeme) → length (type_tokens t ++ r) ≤ n → Passes type_fits t → EndsType r → type_at n (type_tokens t ++ r) ≡ Some (t, r)
+pub type_again : (n : ℕ) (t : AsnType) (r : List Lexeme) → length (type_tokens t ++ r) ≤ n → Passes type_fits t → EndsType r → type_at n (type_tokens t ++ r) ≡ Ok (t, r)
 type_again zero t r bound fits ends = absurd (omega (arith, type_some t, length-append (type_tokens t) r))
 type_again (suc n) t r bound fits ends = type_in_again n (set_at n) (set_again n) (type_at n) (type_again n) t r bound fits ends

@@ -1,6 +1,6 @@
 -- What the parser of types takes: the tokens of a proper tree.
-use Rattle.std.proofs.Common.{◌≡◌, ℕ, zero, suc, Bool, true, false, not, ◌&&◌, cond, List, [], ◌∷◌, ◌++◌, length, Option, Some, None, refl, sym, ap, subst, ◌∙◌, append_assoc, arith, rules}
-use Rattle.std.specs.Prelude.{codes}
+use Rattle.std.proofs.Common.{◌≡◌, ℕ, zero, suc, Bool, true, false, not, ◌&&◌, cond, List, [], ◌∷◌, ◌++◌, length, Option, Some, None, refl, sym, ap, subst, ◌∙◌, append_assoc}
+use Rattle.std.specs.Prelude.{codes, Ok}
 use Rattle.std.specs.List.{flat_map, list_all}
 use Rattle.std.specs.Cmp.Derive.{both_true}
 use Rattle.std.proofs.lemmas.List.{append-nil}
@@ -9,9 +9,8 @@ use Rattle.acn_lex.specs.Lexeme.{Lexeme}
 use Rattle.acn_cursor.specs.Steps.{Parser, given, and_then, ◌>>=◌, ◌>>◌, pure, sees, eat, expect, many}
 use Rattle.acn_cursor.specs.Steps as steps
 use Rattle.acn_lex.specs.Words.{is_identifier}
-use Rattle.acn_cursor.proofs.Laws.{Takes, done, then_found, given_found, expect_found, word_found, repeat_found, outcome}
+use Rattle.acn_cursor.proofs.Laws.{Takes, done, then_found, given_found, expect_found, word_found, repeat_found}
 use Rattle.acn_asn_syntax.specs.declared.types.Tag.{Tag}
-use Rattle.acn_asn_syntax.specs.declared.types.Rest.{Rest}
 use Rattle.acn_asn_syntax.specs.declared.types.AsnBase.{AsnBase}
 use Rattle.acn_asn_syntax.specs.declared.types.AsnBase.TheVariants as base
 use Rattle.acn_asn_syntax.specs.declared.types.AsnType.{AsnType, roll-AsnType}
@@ -21,7 +20,7 @@ use Rattle.acn_asn_syntax.specs.declared.types.Component.{Component}
 use Rattle.acn_asn_syntax.specs.declared.types.Alternative.{Alternative}
 use Rattle.acn_asn_syntax.specs.declared.sets.Set.{Set}
 use Rattle.acn_asn_syntax.specs.Values.{word, mark, in_parentheses, in_braces, with_commas, option_tokens, option_fits}
-use Rattle.acn_asn_syntax.specs.Spelling.{tag_tokens, tag_fits, rest_tokens, rest_fits, is_some}
+use Rattle.acn_asn_syntax.specs.Spelling.{tag_tokens, tag_fits, rest_tokens, is_some}
 use Rattle.acn_asn_syntax.specs.Trees.{set_tokens, set_fits, type_tokens, base_tokens, constraint_tokens, component_tokens, alternative_tokens, type_fits, base_fits, outer_fits, inner_fits, component_fits, alternative_fits, is_list}
 use Rattle.acn_asn_syntax.proofs.TypeTokens as form
 use Rattle.acn_asn_syntax.proofs.TypeTokens.{is_none}
@@ -29,7 +28,7 @@ use Rattle.acn_asn_types.specs.declared.heads.ListHead.{ListHead}
 use Rattle.acn_asn_types.specs.declared.heads.Step.{Step}
 use Rattle.acn_asn_types.specs.declared.heads.Step.TheVariants as step
 use Rattle.acn_asn_types.specs.Lists.{listed}
-use Rattle.acn_asn_types.specs.Bases.{tag_at, rest_at, simple_base}
+use Rattle.acn_asn_types.specs.Bases.{tag_at, rest_at}
 use Rattle.acn_asn_types.specs.Sets.{set_at}
 use Rattle.acn_asn_types.specs.Types.{has_paren, typed, component_of, alternative_of, list_type, containing_at, set_constraint, content_if, constraint_at, size_at, some_constraint, size_if, of_constraint, list_at, finish, component, none_if, components_at, alternative, choice_at, choice_if, base_at, brace_if, sequence_at, other_at, sequence_if, step_at, chain_if, chain, type_in, type_at}
 use Rattle.acn_asn_types.proofs.ValueLaws.{Passes, Found}
@@ -92,7 +91,7 @@ list_fits h t = list_fits_by h.tag h.constraint t
 -- ---- over parsers of what stands in parentheses and braces
 
 module _ (sets : Parser Set) (set_found : Found sets set_tokens set_fits) (inner : Parser AsnType) (found : Found inner type_tokens type_fits) where
-  content_found : (b : Bool) (ts ts' m : List Lexeme) (c : Constraint) (r : List Lexeme) → ts ≡ mark (codes "(") ∷ ts' → ts' ≡ given b (word (codes "CONTAINING")) ++ m → content_if sets inner b m ≡ Some (c, r) → Takes constraint_tokens (Passes outer_fits) ts c r
+  content_found : (b : Bool) (ts ts' m : List Lexeme) (c : Constraint) (r : List Lexeme) → ts ≡ mark (codes "(") ∷ ts' → ts' ≡ given b (word (codes "CONTAINING")) ++ m → content_if sets inner b m ≡ Ok (c, r) → Takes constraint_tokens (Passes outer_fits) ts c r
   unfolding containing_at set_constraint
   content_found true ts ts' m c r p q e =
       then_found (inner m) _ _ e (λ t m1 e1 h.
@@ -121,7 +120,7 @@ module _ (sets : Parser Set) (set_found : Found sets set_tokens set_fits) (inner
   abbrev TakesOf : List Lexeme → Option Constraint → List Lexeme → Type 0
   TakesOf = Takes (option_tokens constraint_tokens) (Passes (option_fits inner_fits))
 
-  size_found : (b : Bool) (ts m : List Lexeme) (o : Option Constraint) (r : List Lexeme) → ts ≡ given b (word (codes "SIZE")) ++ m → size_if sets inner b m ≡ Some (o, r) → TakesOf ts o r
+  size_found : (b : Bool) (ts m : List Lexeme) (o : Option Constraint) (r : List Lexeme) → ts ≡ given b (word (codes "SIZE")) ++ m → size_if sets inner b m ≡ Ok (o, r) → TakesOf ts o r
   unfolding size_at some_constraint
   size_found true ts m o r p e =
       then_found (expect Mark (codes "(") m) _ _ e (λ _ m1 e1 h.
@@ -135,18 +134,18 @@ module _ (sets : Parser Set) (set_found : Found sets set_tokens set_fits) (inner
       done (Some (constraint.Size s)) m3 _ _ h parts ((form.fits_Size s).1 ∙ b.fits))))
   size_found false ts m o r p e = rw p (by_mark (has_paren m) e)
     where
-      by_mark : (b : Bool) → cond b (some_constraint sets inner m) (Some (None, m)) ≡ Some (o, r) → TakesOf m o r
+      by_mark : (b : Bool) → cond b (some_constraint sets inner m) (Ok (None, m)) ≡ Ok (o, r) → TakesOf m o r
       by_mark true e =
           then_found (constraint_at sets inner m) _ _ e (λ c m1 e1 h.
           let a = constraint_found _ _ _ e1 in
           done (Some c) m1 _ _ h a.parts (inner_by c a.fits))
       by_mark false e = done None m _ _ e refl refl
 
-  of_found : (ts : List Lexeme) (o : Option Constraint) (r : List Lexeme) → of_constraint sets inner ts ≡ Some (o, r) → TakesOf ts o r
+  of_found : (ts : List Lexeme) (o : Option Constraint) (r : List Lexeme) → of_constraint sets inner ts ≡ Ok (o, r) → TakesOf ts o r
   unfolding of_constraint
   of_found ts o r e = then_found (eat Word (codes "SIZE") ts) _ _ e (λ b m e1 h. size_found b ts m o r (given_found _ _ _ _ _ e1) h)
 
-  list_found : (tag : Option Tag) (ts ts' m : List Lexeme) (x : Step) (r : List Lexeme) → option_fits tag_fits tag ≡ true → ts ≡ option_tokens tag_tokens tag ++ ts' → ts' ≡ word (codes "SEQUENCE") ∷ m → list_at sets inner tag m ≡ Some (x, r) → TakesStep ts x r
+  list_found : (tag : Option Tag) (ts ts' m : List Lexeme) (x : Step) (r : List Lexeme) → option_fits tag_fits tag ≡ true → ts ≡ option_tokens tag_tokens tag ++ ts' → ts' ≡ word (codes "SEQUENCE") ∷ m → list_at sets inner tag m ≡ Ok (x, r) → TakesStep ts x r
   unfolding list_at
   list_found tag ts ts' m x r f p q e =
       then_found (of_constraint sets inner m) _ _ e (λ c m1 e1 h.
@@ -156,7 +155,7 @@ module _ (sets : Parser Set) (set_found : Found sets set_tokens set_fits) (inner
       let parts : ts ≡ step_tokens (step.Head (record { tag = tag; constraint = c })) ++ m2 = simp append_assoc (cc (p, q, a.parts, b)) in
       done (step.Head (record { tag = tag; constraint = c })) m2 _ _ h parts (both_true f a.fits)))
 
-  finish_found : (tag : Option Tag) (b : AsnBase) (ts ts' m : List Lexeme) (x : Step) (r : List Lexeme) → option_fits tag_fits tag ≡ true → ts ≡ option_tokens tag_tokens tag ++ ts' → TakesBase ts' b m → finish sets inner tag b m ≡ Some (x, r) → TakesStep ts x r
+  finish_found : (tag : Option Tag) (b : AsnBase) (ts ts' m : List Lexeme) (x : Step) (r : List Lexeme) → option_fits tag_fits tag ≡ true → ts ≡ option_tokens tag_tokens tag ++ ts' → TakesBase ts' b m → finish sets inner tag b m ≡ Ok (x, r) → TakesStep ts x r
   unfolding finish typed plain_fits
   finish_found tag b ts ts' m x r f p t e =
       then_found (many has_paren (constraint_at sets inner) m) _ _ e (λ cs m1 e1 h.
@@ -198,7 +197,7 @@ module _ (sets : Parser Set) (set_found : Found sets set_tokens set_fits) (inner
   abbrev behind_brace : List Component → List Lexeme
   behind_brace cs = with_commas component_tokens cs ++ mark (codes "}") ∷ []
 
-  none_found : (b : Bool) (ts m : List Lexeme) (cs : List Component) (r : List Lexeme) → ts ≡ given b (mark (codes "}")) ++ m → none_if sets inner b m ≡ Some (cs, r) → Takes behind_brace (Passes (list_all component_fits)) ts cs r
+  none_found : (b : Bool) (ts m : List Lexeme) (cs : List Component) (r : List Lexeme) → ts ≡ given b (mark (codes "}")) ++ m → none_if sets inner b m ≡ Ok (cs, r) → Takes behind_brace (Passes (list_all component_fits)) ts cs r
   none_found true ts m cs r p e = done [] m _ _ e p refl
   none_found false ts m cs r p e =
       then_found (listed (component sets inner) m) _ _ e (λ cs' m1 e1 h.
@@ -208,7 +207,7 @@ module _ (sets : Parser Set) (set_found : Found sets set_tokens set_fits) (inner
       let parts : ts ≡ behind_brace cs' ++ m2 = simp append_assoc (cc (p, a.parts, b)) in
       done cs' m2 _ _ h parts (and_parts (is_some cs') (list_all component_fits cs') a.fits).1))
 
-  brace_found : (tag : Option Tag) (b : Bool) (ts ts' ts2 m : List Lexeme) (x : Step) (r : List Lexeme) → option_fits tag_fits tag ≡ true → ts ≡ option_tokens tag_tokens tag ++ ts' → ts' ≡ word (codes "SEQUENCE") ∷ ts2 → ts2 ≡ given b (mark (codes "{")) ++ m → brace_if sets inner tag b m ≡ Some (x, r) → TakesStep ts x r
+  brace_found : (tag : Option Tag) (b : Bool) (ts ts' ts2 m : List Lexeme) (x : Step) (r : List Lexeme) → option_fits tag_fits tag ≡ true → ts ≡ option_tokens tag_tokens tag ++ ts' → ts' ≡ word (codes "SEQUENCE") ∷ ts2 → ts2 ≡ given b (mark (codes "{")) ++ m → brace_if sets inner tag b m ≡ Ok (x, r) → TakesStep ts x r
   unfolding components_at
   brace_found tag true ts ts' ts2 m x r f p q s e =
       then_found (components_at sets inner m) _ _ e (λ cs m1 e1 h.
@@ -218,13 +217,13 @@ module _ (sets : Parser Set) (set_found : Found sets set_tokens set_fits) (inner
       let parts : ts' ≡ base_tokens (base.Sequence cs) ++ m1 = rw (form.tokens_Sequence cs) spelled in
       let t : TakesBase ts' (base.Sequence cs) m1 = record { parts = parts; fits = plain_by (base.Sequence cs) (form.fits_Sequence cs ∙ a.fits) (form.list_Sequence cs) } in
       finish_found tag (base.Sequence cs) ts ts' m1 x r f p t h))
-  brace_found tag false ts ts' ts2 m x r f p q s e = list_found tag ts ts' ts2 x r f p q (subst (λ z. list_at sets inner tag z ≡ Some (x, r)) (sym s) e)
+  brace_found tag false ts ts' ts2 m x r f p q s e = list_found tag ts ts' ts2 x r f p q (subst (λ z. list_at sets inner tag z ≡ Ok (x, r)) (sym s) e)
 
   alternatives_fit : (more : List Alternative) → some_fit alternative_fits more ≡ true → base_fits (base.Choice more) ≡ true
   alternatives_fit [] h = absurd cc
   alternatives_fit (a ∷ more) h = form.fits_Choice a more ∙ h
 
-  choice_found : (b : Bool) (ts m : List Lexeme) (x : AsnBase) (r : List Lexeme) → ts ≡ given b (word (codes "CHOICE")) ++ m → choice_if sets inner b m ≡ Some (x, r) → TakesBase ts x r
+  choice_found : (b : Bool) (ts m : List Lexeme) (x : AsnBase) (r : List Lexeme) → ts ≡ given b (word (codes "CHOICE")) ++ m → choice_if sets inner b m ≡ Ok (x, r) → TakesBase ts x r
   unfolding choice_at
   choice_found true ts m x r p e =
       then_found (expect Mark (codes "{") m) _ _ e (λ _ m1 e1 h.
@@ -238,18 +237,18 @@ module _ (sets : Parser Set) (set_found : Found sets set_tokens set_fits) (inner
       done (base.Choice more) m3 _ _ h parts (plain_by (base.Choice more) (alternatives_fit more b.fits) (form.list_Choice more)))))
   choice_found false ts m x r p e = rw p (simple_found m x r e)
 
-  other_found : (tag : Option Tag) (ts ts' : List Lexeme) (x : Step) (r : List Lexeme) → option_fits tag_fits tag ≡ true → ts ≡ option_tokens tag_tokens tag ++ ts' → other_at sets inner tag ts' ≡ Some (x, r) → TakesStep ts x r
+  other_found : (tag : Option Tag) (ts ts' : List Lexeme) (x : Step) (r : List Lexeme) → option_fits tag_fits tag ≡ true → ts ≡ option_tokens tag_tokens tag ++ ts' → other_at sets inner tag ts' ≡ Ok (x, r) → TakesStep ts x r
   unfolding other_at base_at
   other_found tag ts ts' x r f p e =
       then_found (base_at sets inner ts') _ _ e (λ b m e1 h.
       then_found (eat Word (codes "CHOICE") ts') _ _ e1 (λ c m1 e2 h2.
       finish_found tag b ts ts' m x r f p (choice_found c ts' m1 b m (given_found _ _ _ _ _ e2) h2) h))
 
-  sequence_found : (tag : Option Tag) (b : Bool) (ts ts' m : List Lexeme) (x : Step) (r : List Lexeme) → option_fits tag_fits tag ≡ true → ts ≡ option_tokens tag_tokens tag ++ ts' → ts' ≡ given b (word (codes "SEQUENCE")) ++ m → sequence_if sets inner tag b m ≡ Some (x, r) → TakesStep ts x r
+  sequence_found : (tag : Option Tag) (b : Bool) (ts ts' m : List Lexeme) (x : Step) (r : List Lexeme) → option_fits tag_fits tag ≡ true → ts ≡ option_tokens tag_tokens tag ++ ts' → ts' ≡ given b (word (codes "SEQUENCE")) ++ m → sequence_if sets inner tag b m ≡ Ok (x, r) → TakesStep ts x r
   unfolding sequence_at
   sequence_found tag true ts ts' m x r f p q e =
       then_found (eat Mark (codes "{") m) _ _ e (λ b m1 e1 h. brace_found tag b ts ts' m m1 x r f p q (given_found _ _ _ _ _ e1) h)
-  sequence_found tag false ts ts' m x r f p q e = other_found tag ts ts' x r f p (subst (λ z. other_at sets inner tag z ≡ Some (x, r)) (sym q) e)
+  sequence_found tag false ts ts' m x r f p q e = other_found tag ts ts' x r f p (subst (λ z. other_at sets inner tag z ≡ Ok (x, r)) (sym q) e)
 
   step_found : Found (step_at sets inner) step_tokens step_fits
   unfolding step_at
@@ -259,7 +258,7 @@ module _ (sets : Parser Set) (set_found : Found sets set_tokens set_fits) (inner
       let a = tag_found _ _ _ e1 in
       sequence_found tag b ts m1 m2 x r a.fits a.parts (given_found _ _ _ _ _ e2) h))
 
-  chain_by : (n : ℕ) → Found (chain sets inner n) type_tokens type_fits → (ts : List Lexeme) (t : AsnType) (r : List Lexeme) (s : Step) (m : List Lexeme) → TakesStep ts s m → chain_if sets inner (chain sets inner n) s m ≡ Some (t, r) → Takes type_tokens (Passes type_fits) ts t r
+  chain_by : (n : ℕ) → Found (chain sets inner n) type_tokens type_fits → (ts : List Lexeme) (t : AsnType) (r : List Lexeme) (s : Step) (m : List Lexeme) → TakesStep ts s m → chain_if sets inner (chain sets inner n) s m ≡ Ok (t, r) → Takes type_tokens (Passes type_fits) ts t r
   chain_by n more ts t r (step.Inner u) m a h = done u m _ _ h a.parts a.fits
   chain_by n more ts t r (step.Head k) m a h =
       then_found (chain sets inner n m) _ _ h (λ u m1 e1 h.

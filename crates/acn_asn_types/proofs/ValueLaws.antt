@@ -1,6 +1,6 @@
 -- The parser of values takes the tokens of a proper value, and reads each proper value from its tokens.
-use Rattle.std.proofs.Common.{◌≡◌, ℕ, ◌+◌, ◌^◌, ◌<◌, Bool, true, false, ◌&&◌, cond, nat_lt, List, [], ◌∷◌, ◌++◌, length, Option, Some, None, refl, sym, ap, subst, ◌∙◌, append_assoc, arith, rules}
-use Rattle.std.specs.Prelude.{codes, is_some}
+use Rattle.std.proofs.Common.{◌≡◌, ℕ, ◌^◌, Bool, true, false, cond, List, [], ◌∷◌, ◌++◌, Option, Some, None, refl, ap, ◌∙◌, append_assoc}
+use Rattle.std.specs.Prelude.{codes, Ok}
 use Rattle.std.specs.Fmt.{decimal}
 use Rattle.std.specs.Str.{bytes_eq}
 use Rattle.std.proofs.lemmas.Bool.{lt-ltb, ltb-true}
@@ -11,17 +11,17 @@ use Rattle.acn_lex.specs.Lexeme.{Lexeme, same_kind}
 use Rattle.acn_cursor.specs.Steps.{Parser, given, and_then, ◌>>=◌, ◌>>◌, pure, token, sees, behind, eat, expect, text_of, taken_if, number}
 use Rattle.acn_cursor.specs.Steps as steps
 use Rattle.acn_lex.specs.Words.{is_identifier}
-use Rattle.acn_cursor.proofs.Laws.{Takes, done, then_found, then_again, given_found, given_again, eat_again, eat_nothing, word_found, word_again, number_found, number_again, text_of_found, text_of_again, sees_kind, sees_text, outcome, outcome_is, ap2}
+use Rattle.acn_cursor.proofs.Laws.{Takes, done, then_found, then_again, given_found, given_again, eat_again, eat_nothing, word_found, word_again, number_found, number_again, text_of_found, text_of_again, sees_kind, sees_text, outcome_is, ap2}
 use Rattle.acn_asn_syntax.specs.declared.values.AsnValue.{AsnValue}
 use Rattle.acn_asn_syntax.specs.declared.values.AsnValue.TheVariants as value
-use Rattle.acn_asn_syntax.specs.Values.{word, mark, signed_tokens, number_fits, value_tokens, value_fits}
+use Rattle.acn_asn_syntax.specs.Values.{mark, signed_tokens, number_fits, value_tokens, value_fits}
 use Rattle.acn_asn_types.specs.Values.{signed, signed_value, named_value, has, literal, bits_value, hex_value, text_value, other_value, null_if, false_if, true_if, value_at}
 
 abbrev pub Passes : {A : Type 0} → (A → Bool) → A → Type 0
 Passes test x = test x ≡ true
 
 abbrev pub Found : {A : Type 0} → Parser A → (A → List Lexeme) → (A → Bool) → Type 0
-Found {A} p tokens test = (ts : List Lexeme) (x : A) (r : List Lexeme) → p ts ≡ Some (x, r) → Takes tokens (Passes test) ts x r
+Found {A} p tokens test = (ts : List Lexeme) (x : A) (r : List Lexeme) → p ts ≡ Ok (x, r) → Takes tokens (Passes test) ts x r
 
 -- ---- found
 
@@ -50,11 +50,11 @@ named_found ts v r e =
     let parts : ts ≡ value_tokens (value.Ref name) ++ m = a.0 in
     done _ _ _ _ h parts a.1)
 
-pub literal_found : (k : Kind) (ts : List Lexeme) (x : List ℕ) (r : List Lexeme) → literal k ts ≡ Some (x, r) → ts ≡ token k x ∷ r
+pub literal_found : (k : Kind) (ts : List Lexeme) (x : List ℕ) (r : List Lexeme) → literal k ts ≡ Ok (x, r) → ts ≡ token k x ∷ r
 unfolding literal
 literal_found k ts x r e = by_text (text_of k ts) refl e
   where
-    by_text : (o : Option (List ℕ)) → text_of k ts ≡ o → taken_if o ts ≡ Some (x, r) → ts ≡ token k x ∷ r
+    by_text : (o : Option (List ℕ)) → text_of k ts ≡ o → taken_if o ts ≡ Ok (x, r) → ts ≡ token k x ∷ r
     by_text None h e = absurd cc
     by_text (Some a) h e = let k' = outcome_is (a, behind ts) (x, r) e in text_of_found k ts a h ∙ ap2 (λ (a : List ℕ) (b : List Lexeme). token k a ∷ b) k'.0 k'.1
 
@@ -83,33 +83,33 @@ other_found : Found other_value value_tokens value_fits
 unfolding other_value
 other_found ts v r e = by_bits (has Bits ts) e
   where
-    by_text : (b : Bool) → cond b (text_value ts) (signed_value ts) ≡ Some (v, r) → Takes value_tokens (Passes value_fits) ts v r
+    by_text : (b : Bool) → cond b (text_value ts) (signed_value ts) ≡ Ok (v, r) → Takes value_tokens (Passes value_fits) ts v r
     by_text true e = text_found ts v r e
     by_text false e = signed_value_found ts v r e
 
-    by_hex : (b : Bool) → cond b (hex_value ts) (cond (has Text ts) (text_value ts) (signed_value ts)) ≡ Some (v, r) → Takes value_tokens (Passes value_fits) ts v r
+    by_hex : (b : Bool) → cond b (hex_value ts) (cond (has Text ts) (text_value ts) (signed_value ts)) ≡ Ok (v, r) → Takes value_tokens (Passes value_fits) ts v r
     by_hex true e = hex_found ts v r e
     by_hex false e = by_text (has Text ts) e
 
-    by_bits : (b : Bool) → cond b (bits_value ts) (cond (has Hex ts) (hex_value ts) (cond (has Text ts) (text_value ts) (signed_value ts))) ≡ Some (v, r) → Takes value_tokens (Passes value_fits) ts v r
+    by_bits : (b : Bool) → cond b (bits_value ts) (cond (has Hex ts) (hex_value ts) (cond (has Text ts) (text_value ts) (signed_value ts))) ≡ Ok (v, r) → Takes value_tokens (Passes value_fits) ts v r
     by_bits true e = bits_found ts v r e
     by_bits false e = by_hex (has Hex ts) e
 
-null_found : (b : Bool) (ts m : List Lexeme) (v : AsnValue) (r : List Lexeme) → ts ≡ given b (token Word (codes "NULL")) ++ m → null_if b m ≡ Some (v, r) → Takes value_tokens (Passes value_fits) ts v r
+null_found : (b : Bool) (ts m : List Lexeme) (v : AsnValue) (r : List Lexeme) → ts ≡ given b (token Word (codes "NULL")) ++ m → null_if b m ≡ Ok (v, r) → Takes value_tokens (Passes value_fits) ts v r
 unfolding value_tokens
 null_found true ts m v r p e = done _ _ _ _ e p refl
 null_found false ts m v r p e = by_kind (has Word m) e
   where
-    by_kind : (b : Bool) → cond b (named_value m) (other_value m) ≡ Some (v, r) → Takes value_tokens (Passes value_fits) ts v r
+    by_kind : (b : Bool) → cond b (named_value m) (other_value m) ≡ Ok (v, r) → Takes value_tokens (Passes value_fits) ts v r
     by_kind true e = rw p (named_found m v r e)
     by_kind false e = rw p (other_found m v r e)
 
-false_found : (b : Bool) (ts m : List Lexeme) (v : AsnValue) (r : List Lexeme) → ts ≡ given b (token Word (codes "FALSE")) ++ m → false_if b m ≡ Some (v, r) → Takes value_tokens (Passes value_fits) ts v r
+false_found : (b : Bool) (ts m : List Lexeme) (v : AsnValue) (r : List Lexeme) → ts ≡ given b (token Word (codes "FALSE")) ++ m → false_if b m ≡ Ok (v, r) → Takes value_tokens (Passes value_fits) ts v r
 unfolding value_tokens
 false_found true ts m v r p e = done _ _ _ _ e p refl
 false_found false ts m v r p e = then_found (eat Word (codes "NULL") m) _ _ e (λ b m' e1 h. rw p (null_found b m m' v r (given_found _ _ _ _ _ e1) h))
 
-true_found : (b : Bool) (ts m : List Lexeme) (v : AsnValue) (r : List Lexeme) → ts ≡ given b (token Word (codes "TRUE")) ++ m → true_if b m ≡ Some (v, r) → Takes value_tokens (Passes value_fits) ts v r
+true_found : (b : Bool) (ts m : List Lexeme) (v : AsnValue) (r : List Lexeme) → ts ≡ given b (token Word (codes "TRUE")) ++ m → true_if b m ≡ Ok (v, r) → Takes value_tokens (Passes value_fits) ts v r
 unfolding value_tokens
 true_found true ts m v r p e = done _ _ _ _ e p refl
 true_found false ts m v r p e = then_found (eat Word (codes "FALSE") m) _ _ e (λ b m' e1 h. rw p (false_found b m m' v r (given_found _ _ _ _ _ e1) h))
@@ -168,7 +168,7 @@ value_mark (value.Text t) text r h = sees_kind _ _ _ _ _ refl
 
 -- ---- again
 
-pub signed_again : (b : Bool) (n : ℕ) (r : List Lexeme) → number_fits n ≡ true → signed (signed_tokens b n ++ r) ≡ Some ((b, n), r)
+pub signed_again : (b : Bool) (n : ℕ) (r : List Lexeme) → number_fits n ≡ true → signed (signed_tokens b n ++ r) ≡ Ok ((b, n), r)
 unfolding signed signed_tokens same_kind
 signed_again b n r fits =
     simp append_assoc
@@ -180,11 +180,11 @@ unfolding has text_of signed_tokens
 signed_has k true n r p q = rw p refl
 signed_has k false n r p q = rw q refl
 
-pub literal_again : (k : Kind) (text : List ℕ) (r : List Lexeme) → literal k (token k text ∷ r) ≡ Some (text, r)
+pub literal_again : (k : Kind) (text : List ℕ) (r : List Lexeme) → literal k (token k text ∷ r) ≡ Ok (text, r)
 unfolding literal
 literal_again k text r = rw (text_of_again k text r) refl
 
-other_again : (v : AsnValue) (r : List Lexeme) → Passes value_fits v → has Word (value_tokens v ++ r) ≡ false → other_value (value_tokens v ++ r) ≡ Some (v, r)
+other_again : (v : AsnValue) (r : List Lexeme) → Passes value_fits v → has Word (value_tokens v ++ r) ≡ false → other_value (value_tokens v ++ r) ≡ Ok (v, r)
 unfolding other_value value_tokens signed_value bits_value hex_value text_value same_kind has text_of
 other_again (value.Number b n) r fits w =
     rw (signed_has Bits b n r refl refl, signed_has Hex b n r refl refl, signed_has Text b n r refl refl)
@@ -199,7 +199,7 @@ other_again (value.Ref t) r fits w = absurd cc
 
 -- behind the three words
 module _ (v : AsnValue) (r : List Lexeme) (fits : Passes value_fits v) (is_true : sees Word (codes "TRUE") (value_tokens v ++ r) ≡ false) (is_false : sees Word (codes "FALSE") (value_tokens v ++ r) ≡ false) (is_null : sees Word (codes "NULL") (value_tokens v ++ r) ≡ false) where
-  not_word : has Word (value_tokens v ++ r) ≡ false → value_at (value_tokens v ++ r) ≡ Some (v, r)
+  not_word : has Word (value_tokens v ++ r) ≡ false → value_at (value_tokens v ++ r) ≡ Ok (v, r)
   unfolding value_at
   not_word w =
       then_again _ _ _ _ _ (eat_nothing _ _ _ is_true)
@@ -207,7 +207,7 @@ module _ (v : AsnValue) (r : List Lexeme) (fits : Passes value_fits v) (is_true 
       (then_again _ _ _ _ _ (eat_nothing _ _ _ is_null)
       (rw w (other_again v r fits w))))
 
-pub value_again : (v : AsnValue) (r : List Lexeme) → Passes value_fits v → value_at (value_tokens v ++ r) ≡ Some (v, r)
+pub value_again : (v : AsnValue) (r : List Lexeme) → Passes value_fits v → value_at (value_tokens v ++ r) ≡ Ok (v, r)
 unfolding value_at value_tokens signed_tokens named_value same_kind has text_of is_identifier
 value_again (value.Number b n) r fits =
     let first : (text : List ℕ) → sees Word text ((given b (mark (codes "-")) ++ token Number (decimal n) ∷ []) ++ r) ≡ false = λ text. simp append_assoc (signed_first b n text r) in

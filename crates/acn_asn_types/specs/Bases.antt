@@ -1,7 +1,6 @@
 -- What the parsers of tags and of types without types in them answer, step by step.
-use Rattle.std.specs.Prelude.{ℕ, Bool, true, false, List, [], ◌∷◌, Option, Some, None, codes}
+use Rattle.std.specs.Prelude.{ℕ, Bool, true, false, List, Option, Some, None, codes}
 use Rattle.acn_lex.specs.declared.Kind.TheVariants.{Word, Mark}
-use Rattle.acn_lex.specs.Lexeme.{Lexeme}
 use Rattle.acn_cursor.specs.Steps.{Parser, ◌>>=◌, ◌>>◌, pure, eat, expect, word, number}
 use Rattle.acn_lex.specs.Words.{is_identifier, is_reference}
 use Rattle.acn_asn_syntax.specs.declared.types.TagClass.{TagClass}

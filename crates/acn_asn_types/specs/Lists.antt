@@ -1,8 +1,8 @@
 -- Items with commas between them.
-use Rattle.std.specs.Prelude.{Bool, List, [], ◌∷◌, Option, codes}
+use Rattle.std.specs.Prelude.{Bool, List, [], ◌∷◌, codes}
 use Rattle.acn_lex.specs.declared.Kind.TheVariants.{Mark}
 use Rattle.acn_lex.specs.Lexeme.{Lexeme}
-use Rattle.acn_cursor.specs.Steps.{Parser, ◌>>=◌, ◌>>◌, and_then, with_front, expect, sees, many}
+use Rattle.acn_cursor.specs.Steps.{Parser, ◌>>=◌, ◌>>◌, with_front, expect, sees, many}
 
 unfoldable pub has_comma : List Lexeme → Bool
 has_comma ts = sees Mark (codes ",") ts

@@ -1,10 +1,9 @@
 -- What the parser of sets answers, step by step.
-use Rattle.std.specs.Prelude.{ℕ, zero, suc, Bool, true, false, ◌||◌, if◌then◌else◌, List, [], ◌∷◌, Option, Some, None, codes}
+use Rattle.std.specs.Prelude.{ℕ, zero, suc, Bool, true, false, ◌||◌, if◌then◌else◌, List, Option, Some, None, codes}
 use Rattle.acn_lex.specs.declared.Kind.TheVariants.{Word, Mark}
 use Rattle.acn_lex.specs.Lexeme.{Lexeme}
 use Rattle.acn_cursor.specs.Steps.{Parser, ◌>>=◌, ◌>>◌, pure, refuse, eat, expect, sees, many}
 use Rattle.acn_asn_syntax.specs.declared.values.AsnValue.{AsnValue}
-use Rattle.acn_asn_syntax.specs.declared.sets.AsnRange.{AsnRange}
 use Rattle.acn_asn_syntax.specs.declared.sets.Element.{Element}
 use Rattle.acn_asn_syntax.specs.declared.sets.Element.TheVariants as element
 use Rattle.acn_asn_syntax.specs.declared.sets.Set.{Set}

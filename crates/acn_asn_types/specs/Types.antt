@@ -1,5 +1,5 @@
 -- What the parser of types answers, step by step.
-use Rattle.std.specs.Prelude.{ℕ, zero, suc, Bool, true, false, if◌then◌else◌, List, [], ◌∷◌, length, Option, Some, None, codes}
+use Rattle.std.specs.Prelude.{ℕ, zero, suc, Bool, true, false, if◌then◌else◌, List, [], ◌∷◌, length, Option, Some, None, codes, Ok}
 use Rattle.acn_lex.specs.declared.Kind.TheVariants.{Word, Mark}
 use Rattle.acn_lex.specs.Lexeme.{Lexeme}
 use Rattle.acn_cursor.specs.Steps.{Parser, ◌>>=◌, ◌>>◌, pure, refuse, eat, expect, sees, word, many}
@@ -80,7 +80,7 @@ module _ (sets : Parser Set) (inner : Parser AsnType) where
 
   abbrev pub size_if : Bool → Parser (Option Constraint)
   size_if true = size_at
-  size_if false = λ ts. if has_paren ts then some_constraint ts else Some (None, ts)
+  size_if false = λ ts. if has_paren ts then some_constraint ts else Ok (None, ts)
 
   -- between SEQUENCE and OF
   unfoldable pub of_constraint : Parser (Option Constraint)

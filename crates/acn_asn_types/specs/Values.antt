@@ -1,9 +1,9 @@
 -- What the parser of values answers, step by step.
-use Rattle.std.specs.Prelude.{ℕ, Bool, true, false, if◌then◌else◌, List, [], ◌∷◌, Option, Some, None, is_some, codes}
+use Rattle.std.specs.Prelude.{ℕ, Bool, true, false, if◌then◌else◌, List, is_some, codes}
 use Rattle.acn_lex.specs.declared.Kind.{Kind}
 use Rattle.acn_lex.specs.declared.Kind.TheVariants.{Word, Mark, Bits, Hex, Text}
 use Rattle.acn_lex.specs.Lexeme.{Lexeme}
-use Rattle.acn_cursor.specs.Steps.{Parser, ◌>>=◌, ◌>>◌, pure, refuse, eat, expect, sees, text_of, taken_if, word, number, many}
+use Rattle.acn_cursor.specs.Steps.{Parser, ◌>>=◌, pure, eat, text_of, taken_if, word, number}
 use Rattle.acn_lex.specs.Words.{is_identifier}
 use Rattle.acn_asn_syntax.specs.declared.values.AsnValue.{AsnValue}
 use Rattle.acn_asn_syntax.specs.declared.values.AsnValue.TheVariants as value

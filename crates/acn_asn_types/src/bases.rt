@@ -8,7 +8,7 @@ ghost use Rattle.acn_asn_types.specs.Bases as spec;
 use crate::heads::row_of;
 use crate::values::{signed, value};
 use acn_asn_syntax::{AsnBase, Item, Named, Rest, Tag, TagClass, TagMode};
-use acn_cursor::{Cursor, ParseFault, identifier, reference};
+use acn_cursor::{Cursor, Stop, identifier, reference};
 use acn_lex::Kind;
 use acn_num::Row;
 use std::alloc::Global;
@@ -22,7 +22,7 @@ pub fn has_comma(cursor: &Cursor<'_>) -> bool
 }
 
 #[tactic(auto, unfolding(crate::specs::Bases::class_at))]
-fn class_at(cursor: &mut Cursor<'_>) -> Result<Option<TagClass>, ParseFault>
+fn class_at(cursor: &mut Cursor<'_>) -> Result<Option<TagClass>, Stop>
     ensures { ReadsFreely (spec.class_at cursor.old) result cursor.new }
 {
     if cursor.eat(Kind::Word, b"UNIVERSAL") {
@@ -38,7 +38,7 @@ fn class_at(cursor: &mut Cursor<'_>) -> Result<Option<TagClass>, ParseFault>
 }
 
 #[tactic(auto, unfolding(crate::specs::Bases::mode_at))]
-fn mode_at(cursor: &mut Cursor<'_>) -> Result<Option<TagMode>, ParseFault>
+fn mode_at(cursor: &mut Cursor<'_>) -> Result<Option<TagMode>, Stop>
     ensures { ReadsFreely (spec.mode_at cursor.old) result cursor.new }
 {
     if cursor.eat(Kind::Word, b"IMPLICIT") {
@@ -51,7 +51,7 @@ fn mode_at(cursor: &mut Cursor<'_>) -> Result<Option<TagMode>, ParseFault>
 }
 
 #[tactic(auto, unfolding(crate::specs::Bases::tag_in))]
-fn tag_in(cursor: &mut Cursor<'_>) -> Result<Tag, ParseFault>
+fn tag_in(cursor: &mut Cursor<'_>) -> Result<Tag, Stop>
     ensures { ReadsFreely (spec.tag_in cursor.old) result cursor.new }
 {
     let class = class_at(cursor)?;
@@ -67,7 +67,7 @@ fn tag_in(cursor: &mut Cursor<'_>) -> Result<Tag, ParseFault>
 
 /// A tag, if one comes next.
 #[tactic(auto, unfolding(crate::specs::Bases::tag_at))]
-pub fn tag_at(cursor: &mut Cursor<'_>) -> Result<Option<Tag>, ParseFault>
+pub fn tag_at(cursor: &mut Cursor<'_>) -> Result<Option<Tag>, Stop>
     ensures { ReadsFreely (spec.tag_at cursor.old) result cursor.new }
 {
     if !cursor.eat(Kind::Mark, b"[") {
@@ -77,7 +77,7 @@ pub fn tag_at(cursor: &mut Cursor<'_>) -> Result<Option<Tag>, ParseFault>
 }
 
 #[tactic(auto, unfolding(crate::specs::Bases::grouped))]
-fn grouped(cursor: &mut Cursor<'_>) -> Result<(bool, u64), ParseFault>
+fn grouped(cursor: &mut Cursor<'_>) -> Result<(bool, u64), Stop>
     ensures { ReadsFreely (spec.grouped cursor.old) result cursor.new }
 {
     let n = signed(cursor)?;
@@ -86,7 +86,7 @@ fn grouped(cursor: &mut Cursor<'_>) -> Result<(bool, u64), ParseFault>
 }
 
 #[tactic(auto, unfolding(crate::specs::Bases::named))]
-fn named(alloc: Global, cursor: &mut Cursor<'_>) -> Result<Named, ParseFault>
+fn named(alloc: Global, cursor: &mut Cursor<'_>) -> Result<Named, Stop>
     ensures { Reads (spec.named cursor.old) result cursor.new }
 {
     let name = identifier(alloc, cursor)?;
@@ -100,7 +100,7 @@ fn named(alloc: Global, cursor: &mut Cursor<'_>) -> Result<Named, ParseFault>
 }
 
 #[tactic(auto, unfolding(crate::specs::Lists::next))]
-fn next_named(alloc: Global, cursor: &mut Cursor<'_>) -> Result<Named, ParseFault>
+fn next_named(alloc: Global, cursor: &mut Cursor<'_>) -> Result<Named, Stop>
     ensures { Reads (next spec.named cursor.old) result cursor.new }
 {
     cursor.expect(Kind::Mark, b",")?;
@@ -108,11 +108,7 @@ fn next_named(alloc: Global, cursor: &mut Cursor<'_>) -> Result<Named, ParseFaul
 }
 
 #[tactic(auto, unfolding(crate::specs::Lists::more_of))]
-fn more_named(
-    alloc: Global,
-    cursor: &mut Cursor<'_>,
-    first: Named,
-) -> Result<Row<Named>, ParseFault>
+fn more_named(alloc: Global, cursor: &mut Cursor<'_>, first: Named) -> Result<Row<Named>, Stop>
     ensures { Reads (more_of spec.named first cursor.old) result cursor.new }
 {
     let mut row = row_of(alloc, first)?;
@@ -127,7 +123,7 @@ fn more_named(
 }
 
 #[tactic(auto, unfolding(crate::specs::Lists::listed))]
-fn named_numbers(alloc: Global, cursor: &mut Cursor<'_>) -> Result<Row<Named>, ParseFault>
+fn named_numbers(alloc: Global, cursor: &mut Cursor<'_>) -> Result<Row<Named>, Stop>
     ensures { Reads (listed spec.named cursor.old) result cursor.new }
 {
     let first = named(alloc, cursor)?;
@@ -135,7 +131,7 @@ fn named_numbers(alloc: Global, cursor: &mut Cursor<'_>) -> Result<Row<Named>, P
 }
 
 #[tactic(auto, unfolding(crate::specs::Bases::item_number))]
-fn item_number(cursor: &mut Cursor<'_>) -> Result<Option<(bool, u64)>, ParseFault>
+fn item_number(cursor: &mut Cursor<'_>) -> Result<Option<(bool, u64)>, Stop>
     ensures { ReadsFreely (spec.item_number cursor.old) result cursor.new }
 {
     if !cursor.eat(Kind::Mark, b"(") {
@@ -145,7 +141,7 @@ fn item_number(cursor: &mut Cursor<'_>) -> Result<Option<(bool, u64)>, ParseFaul
 }
 
 #[tactic(auto, unfolding(crate::specs::Bases::item))]
-fn item(alloc: Global, cursor: &mut Cursor<'_>) -> Result<Item, ParseFault>
+fn item(alloc: Global, cursor: &mut Cursor<'_>) -> Result<Item, Stop>
     ensures { Reads (spec.item cursor.old) result cursor.new }
 {
     let name = identifier(alloc, cursor)?;
@@ -154,7 +150,7 @@ fn item(alloc: Global, cursor: &mut Cursor<'_>) -> Result<Item, ParseFault>
 }
 
 #[tactic(auto, unfolding(crate::specs::Lists::next))]
-fn next_item(alloc: Global, cursor: &mut Cursor<'_>) -> Result<Item, ParseFault>
+fn next_item(alloc: Global, cursor: &mut Cursor<'_>) -> Result<Item, Stop>
     ensures { Reads (next spec.item cursor.old) result cursor.new }
 {
     cursor.expect(Kind::Mark, b",")?;
@@ -162,7 +158,7 @@ fn next_item(alloc: Global, cursor: &mut Cursor<'_>) -> Result<Item, ParseFault>
 }
 
 #[tactic(auto, unfolding(crate::specs::Lists::more_of))]
-fn more_items(alloc: Global, cursor: &mut Cursor<'_>, first: Item) -> Result<Row<Item>, ParseFault>
+fn more_items(alloc: Global, cursor: &mut Cursor<'_>, first: Item) -> Result<Row<Item>, Stop>
     ensures { Reads (more_of spec.item first cursor.old) result cursor.new }
 {
     let mut row = row_of(alloc, first)?;
@@ -177,7 +173,7 @@ fn more_items(alloc: Global, cursor: &mut Cursor<'_>, first: Item) -> Result<Row
 }
 
 #[tactic(auto, unfolding(crate::specs::Lists::listed))]
-fn items(alloc: Global, cursor: &mut Cursor<'_>) -> Result<Row<Item>, ParseFault>
+fn items(alloc: Global, cursor: &mut Cursor<'_>) -> Result<Row<Item>, Stop>
     ensures { Reads (listed spec.item cursor.old) result cursor.new }
 {
     let first = item(alloc, cursor)?;
@@ -186,7 +182,7 @@ fn items(alloc: Global, cursor: &mut Cursor<'_>) -> Result<Row<Item>, ParseFault
 
 /// What stands behind the type of a component.
 #[tactic(auto, unfolding(crate::specs::Bases::rest_at))]
-pub fn rest_at(alloc: Global, cursor: &mut Cursor<'_>) -> Result<Rest, ParseFault>
+pub fn rest_at(alloc: Global, cursor: &mut Cursor<'_>) -> Result<Rest, Stop>
     ensures { Reads (spec.rest_at cursor.old) result cursor.new }
 {
     if cursor.eat(Kind::Word, b"OPTIONAL") {
@@ -199,7 +195,7 @@ pub fn rest_at(alloc: Global, cursor: &mut Cursor<'_>) -> Result<Rest, ParseFaul
 }
 
 #[tactic(auto, unfolding(crate::specs::Bases::integer_at))]
-fn integer_at(alloc: Global, cursor: &mut Cursor<'_>) -> Result<AsnBase, ParseFault>
+fn integer_at(alloc: Global, cursor: &mut Cursor<'_>) -> Result<AsnBase, Stop>
     ensures { Reads (spec.integer_at cursor.old) result cursor.new }
 {
     if !cursor.eat(Kind::Mark, b"{") {
@@ -211,7 +207,7 @@ fn integer_at(alloc: Global, cursor: &mut Cursor<'_>) -> Result<AsnBase, ParseFa
 }
 
 #[tactic(auto, unfolding(crate::specs::Bases::enumerated_at))]
-fn enumerated_at(alloc: Global, cursor: &mut Cursor<'_>) -> Result<AsnBase, ParseFault>
+fn enumerated_at(alloc: Global, cursor: &mut Cursor<'_>) -> Result<AsnBase, Stop>
     ensures { Reads (spec.enumerated_at cursor.old) result cursor.new }
 {
     cursor.expect(Kind::Mark, b"{")?;
@@ -221,7 +217,7 @@ fn enumerated_at(alloc: Global, cursor: &mut Cursor<'_>) -> Result<AsnBase, Pars
 }
 
 #[tactic(auto, unfolding(crate::specs::Bases::reference_at))]
-fn reference_at(alloc: Global, cursor: &mut Cursor<'_>) -> Result<AsnBase, ParseFault>
+fn reference_at(alloc: Global, cursor: &mut Cursor<'_>) -> Result<AsnBase, Stop>
     ensures { Reads (spec.reference_at cursor.old) result cursor.new }
 {
     let first = reference(alloc, cursor)?;
@@ -233,7 +229,7 @@ fn reference_at(alloc: Global, cursor: &mut Cursor<'_>) -> Result<AsnBase, Parse
 }
 
 #[tactic(auto, unfolding(crate::specs::Bases::number_base))]
-fn number_base(alloc: Global, cursor: &mut Cursor<'_>) -> Result<AsnBase, ParseFault>
+fn number_base(alloc: Global, cursor: &mut Cursor<'_>) -> Result<AsnBase, Stop>
     ensures { Reads (spec.number_base cursor.old) result cursor.new }
 {
     if cursor.eat(Kind::Word, b"INTEGER") {
@@ -246,7 +242,7 @@ fn number_base(alloc: Global, cursor: &mut Cursor<'_>) -> Result<AsnBase, ParseF
 }
 
 #[tactic(auto, unfolding(crate::specs::Bases::string_base))]
-fn string_base(alloc: Global, cursor: &mut Cursor<'_>) -> Result<AsnBase, ParseFault>
+fn string_base(alloc: Global, cursor: &mut Cursor<'_>) -> Result<AsnBase, Stop>
     ensures { Reads (spec.string_base cursor.old) result cursor.new }
 {
     if cursor.eat(Kind::Word, b"OCTET") {
@@ -262,7 +258,7 @@ fn string_base(alloc: Global, cursor: &mut Cursor<'_>) -> Result<AsnBase, ParseF
 
 /// A type without types in it.
 #[tactic(auto, unfolding(crate::specs::Bases::simple_base))]
-pub fn simple_base(alloc: Global, cursor: &mut Cursor<'_>) -> Result<AsnBase, ParseFault>
+pub fn simple_base(alloc: Global, cursor: &mut Cursor<'_>) -> Result<AsnBase, Stop>
     ensures { Reads (spec.simple_base cursor.old) result cursor.new }
 {
     if cursor.eat(Kind::Word, b"BOOLEAN") {

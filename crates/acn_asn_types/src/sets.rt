@@ -6,13 +6,13 @@ ghost use Rattle.acn_asn_types.specs.Sets as spec;
 
 use crate::values::value;
 use acn_asn_syntax::{AsnRange, AsnValue, Element, Meet, Part, Set};
-use acn_cursor::{Cursor, ParseFault};
+use acn_cursor::{Cursor, Stop};
 use acn_lex::Kind;
 use acn_num::{Boxed, Row};
 use std::alloc::Global;
 
 #[tactic(auto, unfolding(crate::specs::Sets::end))]
-fn end(alloc: Global, cursor: &mut Cursor<'_>, none: &[u8]) -> Result<Option<AsnValue>, ParseFault>
+fn end(alloc: Global, cursor: &mut Cursor<'_>, none: &[u8]) -> Result<Option<AsnValue>, Stop>
     ensures { Reads (spec.end none.now cursor.old) result cursor.new }
 {
     if cursor.eat(Kind::Word, none) {
@@ -27,7 +27,7 @@ fn range_from(
     cursor: &mut Cursor<'_>,
     low: Option<AsnValue>,
     low_out: bool,
-) -> Result<Element, ParseFault>
+) -> Result<Element, Stop>
     ensures { Reads (spec.range_from low low_out cursor.old) result cursor.new }
 {
     let high_out = cursor.eat(Kind::Mark, b"<");
@@ -42,7 +42,7 @@ fn range_from(
 
 /// A value or a range.
 #[tactic(auto, unfolding(crate::specs::Sets::plain))]
-fn plain(alloc: Global, cursor: &mut Cursor<'_>) -> Result<Element, ParseFault>
+fn plain(alloc: Global, cursor: &mut Cursor<'_>) -> Result<Element, Stop>
     ensures { Reads (spec.plain cursor.old) result cursor.new }
 {
     let low = end(alloc, cursor, b"MIN")?;
@@ -64,7 +64,7 @@ fn plain(alloc: Global, cursor: &mut Cursor<'_>) -> Result<Element, ParseFault>
 
 /// The mark between two parts, and whether it is a word.
 #[tactic(auto, unfolding(crate::specs::Sets::mark_at))]
-fn mark_at(cursor: &mut Cursor<'_>, sign: &[u8], written: &[u8]) -> Result<bool, ParseFault>
+fn mark_at(cursor: &mut Cursor<'_>, sign: &[u8], written: &[u8]) -> Result<bool, Stop>
     ensures { ReadsFreely (spec.mark_at sign.now written.now cursor.old) result cursor.new }
 {
     if cursor.eat(Kind::Word, written) {
@@ -81,7 +81,7 @@ fn has_mark(cursor: &Cursor<'_>, sign: &[u8], written: &[u8]) -> bool
 }
 
 #[tactic(auto, unfolding(crate::specs::Sets::part_mark))]
-fn part_mark(cursor: &mut Cursor<'_>) -> Result<bool, ParseFault>
+fn part_mark(cursor: &mut Cursor<'_>) -> Result<bool, Stop>
     ensures { ReadsFreely (spec.part_mark cursor.old) result cursor.new }
 {
     mark_at(cursor, b"^", b"INTERSECTION")
@@ -95,7 +95,7 @@ fn has_part_mark(cursor: &Cursor<'_>) -> bool
 }
 
 #[tactic(auto, unfolding(crate::specs::Sets::meet_mark))]
-fn meet_mark(cursor: &mut Cursor<'_>) -> Result<bool, ParseFault>
+fn meet_mark(cursor: &mut Cursor<'_>) -> Result<bool, Stop>
     ensures { ReadsFreely (spec.meet_mark cursor.old) result cursor.new }
 {
     mark_at(cursor, b"|", b"UNION")
@@ -109,7 +109,7 @@ fn has_meet_mark(cursor: &Cursor<'_>) -> bool
 }
 
 #[cycle(sets)]
-pub fn set(alloc: Global, depth: usize, cursor: &mut Cursor<'_>) -> Result<Set, ParseFault>
+pub fn set(alloc: Global, depth: usize, cursor: &mut Cursor<'_>) -> Result<Set, Stop>
     ensures { Reads (spec.set_at depth cursor.old) result cursor.new }
 {
     if depth == 0 {
@@ -120,7 +120,7 @@ pub fn set(alloc: Global, depth: usize, cursor: &mut Cursor<'_>) -> Result<Set, 
 
 #[cycle(sets)]
 #[tactic(auto, unfolding(crate::specs::Sets::set_in))]
-fn set_in(alloc: Global, depth: usize, cursor: &mut Cursor<'_>) -> Result<Set, ParseFault>
+fn set_in(alloc: Global, depth: usize, cursor: &mut Cursor<'_>) -> Result<Set, Stop>
     ensures { Reads (spec.set_in (spec.set_at depth) cursor.old) result cursor.new }
 {
     if cursor.eat(Kind::Word, b"ALL") {
@@ -132,7 +132,7 @@ fn set_in(alloc: Global, depth: usize, cursor: &mut Cursor<'_>) -> Result<Set, P
 
 #[cycle(sets)]
 #[tactic(auto, unfolding(crate::specs::Sets::all_except))]
-fn all_except(alloc: Global, depth: usize, cursor: &mut Cursor<'_>) -> Result<Set, ParseFault>
+fn all_except(alloc: Global, depth: usize, cursor: &mut Cursor<'_>) -> Result<Set, Stop>
     ensures { Reads (spec.all_except (spec.set_at depth) cursor.old) result cursor.new }
 {
     cursor.expect(Kind::Word, b"EXCEPT")?;
@@ -142,7 +142,7 @@ fn all_except(alloc: Global, depth: usize, cursor: &mut Cursor<'_>) -> Result<Se
 
 #[cycle(sets)]
 #[tactic(auto, unfolding(crate::specs::Sets::union))]
-fn union(alloc: Global, depth: usize, cursor: &mut Cursor<'_>) -> Result<Set, ParseFault>
+fn union(alloc: Global, depth: usize, cursor: &mut Cursor<'_>) -> Result<Set, Stop>
     ensures { Reads (spec.union (spec.set_at depth) cursor.old) result cursor.new }
 {
     let first = meet(alloc, depth, cursor)?;
@@ -155,7 +155,7 @@ fn more_meets(
     alloc: Global,
     depth: usize,
     cursor: &mut Cursor<'_>,
-) -> Result<Row<(bool, Meet)>, ParseFault>
+) -> Result<Row<(bool, Meet)>, Stop>
     ensures { Reads (many spec.has_meet_mark (spec.next_meet (spec.set_at depth)) cursor.old) result cursor.new }
 {
     let mut meets = Row::new(alloc);
@@ -171,11 +171,7 @@ fn more_meets(
 
 #[cycle(sets)]
 #[tactic(auto, unfolding(crate::specs::Sets::next_meet))]
-fn next_meet(
-    alloc: Global,
-    depth: usize,
-    cursor: &mut Cursor<'_>,
-) -> Result<(bool, Meet), ParseFault>
+fn next_meet(alloc: Global, depth: usize, cursor: &mut Cursor<'_>) -> Result<(bool, Meet), Stop>
     ensures { Reads (spec.next_meet (spec.set_at depth) cursor.old) result cursor.new }
 {
     let is_word = meet_mark(cursor)?;
@@ -185,7 +181,7 @@ fn next_meet(
 
 #[cycle(sets)]
 #[tactic(auto, unfolding(crate::specs::Sets::meet))]
-fn meet(alloc: Global, depth: usize, cursor: &mut Cursor<'_>) -> Result<Meet, ParseFault>
+fn meet(alloc: Global, depth: usize, cursor: &mut Cursor<'_>) -> Result<Meet, Stop>
     ensures { Reads (spec.meet (spec.set_at depth) cursor.old) result cursor.new }
 {
     let first = part(alloc, depth, cursor)?;
@@ -198,7 +194,7 @@ fn more_parts(
     alloc: Global,
     depth: usize,
     cursor: &mut Cursor<'_>,
-) -> Result<Row<(bool, Part)>, ParseFault>
+) -> Result<Row<(bool, Part)>, Stop>
     ensures { Reads (many spec.has_part_mark (spec.next_part (spec.set_at depth)) cursor.old) result cursor.new }
 {
     let mut parts = Row::new(alloc);
@@ -214,11 +210,7 @@ fn more_parts(
 
 #[cycle(sets)]
 #[tactic(auto, unfolding(crate::specs::Sets::next_part))]
-fn next_part(
-    alloc: Global,
-    depth: usize,
-    cursor: &mut Cursor<'_>,
-) -> Result<(bool, Part), ParseFault>
+fn next_part(alloc: Global, depth: usize, cursor: &mut Cursor<'_>) -> Result<(bool, Part), Stop>
     ensures { Reads (spec.next_part (spec.set_at depth) cursor.old) result cursor.new }
 {
     let is_word = part_mark(cursor)?;
@@ -228,7 +220,7 @@ fn next_part(
 
 #[cycle(sets)]
 #[tactic(auto, unfolding(crate::specs::Sets::part))]
-fn part(alloc: Global, depth: usize, cursor: &mut Cursor<'_>) -> Result<Part, ParseFault>
+fn part(alloc: Global, depth: usize, cursor: &mut Cursor<'_>) -> Result<Part, Stop>
     ensures { Reads (spec.part (spec.set_at depth) cursor.old) result cursor.new }
 {
     let element = element(alloc, depth, cursor)?;
@@ -238,7 +230,7 @@ fn part(alloc: Global, depth: usize, cursor: &mut Cursor<'_>) -> Result<Part, Pa
 
 #[cycle(sets)]
 #[tactic(auto, unfolding(crate::specs::Sets::but_at))]
-fn but(alloc: Global, depth: usize, cursor: &mut Cursor<'_>) -> Result<Option<Element>, ParseFault>
+fn but(alloc: Global, depth: usize, cursor: &mut Cursor<'_>) -> Result<Option<Element>, Stop>
     ensures { Reads (spec.but_at (spec.set_at depth) cursor.old) result cursor.new }
 {
     if !cursor.eat(Kind::Word, b"EXCEPT") {
@@ -250,7 +242,7 @@ fn but(alloc: Global, depth: usize, cursor: &mut Cursor<'_>) -> Result<Option<El
 
 #[cycle(sets)]
 #[tactic(auto, unfolding(crate::specs::Sets::element_at))]
-fn element(alloc: Global, depth: usize, cursor: &mut Cursor<'_>) -> Result<Element, ParseFault>
+fn element(alloc: Global, depth: usize, cursor: &mut Cursor<'_>) -> Result<Element, Stop>
     ensures { Reads (spec.element_at (spec.set_at depth) cursor.old) result cursor.new }
 {
     if cursor.eat(Kind::Word, b"SIZE") {
@@ -268,7 +260,7 @@ fn element(alloc: Global, depth: usize, cursor: &mut Cursor<'_>) -> Result<Eleme
 
 #[cycle(sets)]
 #[tactic(auto, unfolding(crate::specs::Sets::inner_at))]
-fn inner(alloc: Global, depth: usize, cursor: &mut Cursor<'_>) -> Result<Element, ParseFault>
+fn inner(alloc: Global, depth: usize, cursor: &mut Cursor<'_>) -> Result<Element, Stop>
     ensures { Reads (spec.inner_at (spec.set_at depth) cursor.old) result cursor.new }
 {
     Ok(Element::Inner(group(alloc, depth, cursor)?))
@@ -277,7 +269,7 @@ fn inner(alloc: Global, depth: usize, cursor: &mut Cursor<'_>) -> Result<Element
 /// A set in parentheses.
 #[cycle(sets)]
 #[tactic(auto, unfolding(crate::specs::Sets::group))]
-fn group(alloc: Global, depth: usize, cursor: &mut Cursor<'_>) -> Result<Boxed<Set>, ParseFault>
+fn group(alloc: Global, depth: usize, cursor: &mut Cursor<'_>) -> Result<Boxed<Set>, Stop>
     ensures { Reads (spec.group (spec.set_at depth) cursor.old) result cursor.new }
 {
     cursor.expect(Kind::Mark, b"(")?;

@@ -10,7 +10,7 @@ use crate::bases::{has_comma, rest_at, simple_base, tag_at};
 use crate::heads::{ListHead, Step, row_of, typed, wrap};
 use crate::sets::set;
 use acn_asn_syntax::{Alternative, AsnBase, AsnType, Component, Constraint, Rest, Tag};
-use acn_cursor::{Cursor, ParseFault, identifier};
+use acn_cursor::{Cursor, Stop, identifier};
 use acn_lex::Kind;
 use acn_num::{Boxed, Name, Row};
 use std::alloc::Global;
@@ -38,11 +38,7 @@ fn alternative_of(name: Name, of: AsnType) -> Alternative
 
 /// A set and its closing parenthesis.
 #[tactic(auto, unfolding(crate::specs::Types::set_constraint))]
-fn set_constraint(
-    alloc: Global,
-    depth: usize,
-    cursor: &mut Cursor<'_>,
-) -> Result<Constraint, ParseFault>
+fn set_constraint(alloc: Global, depth: usize, cursor: &mut Cursor<'_>) -> Result<Constraint, Stop>
     ensures { Reads (spec.set_constraint (set_at depth) (spec.type_at depth) cursor.old) result cursor.new }
 {
     let set = Boxed::new(alloc, set(alloc, depth, cursor)?)?;
@@ -52,11 +48,7 @@ fn set_constraint(
 
 /// The sizes of a list.
 #[tactic(auto, unfolding(crate::specs::Types::size_at))]
-fn size_at(
-    alloc: Global,
-    depth: usize,
-    cursor: &mut Cursor<'_>,
-) -> Result<Option<Constraint>, ParseFault>
+fn size_at(alloc: Global, depth: usize, cursor: &mut Cursor<'_>) -> Result<Option<Constraint>, Stop>
     ensures { Reads (spec.size_at (set_at depth) (spec.type_at depth) cursor.old) result cursor.new }
 {
     cursor.expect(Kind::Mark, b"(")?;
@@ -67,7 +59,7 @@ fn size_at(
 
 /// A type that has at most so many braces and parentheses in one another.
 #[cycle(types)]
-pub fn type_at(alloc: Global, depth: usize, cursor: &mut Cursor<'_>) -> Result<AsnType, ParseFault>
+pub fn type_at(alloc: Global, depth: usize, cursor: &mut Cursor<'_>) -> Result<AsnType, Stop>
     ensures { Reads (spec.type_at depth cursor.old) result cursor.new }
 {
     if depth == 0 {
@@ -78,7 +70,7 @@ pub fn type_at(alloc: Global, depth: usize, cursor: &mut Cursor<'_>) -> Result<A
 
 #[cycle(types)]
 #[tactic(auto, unfolding(crate::specs::Types::type_in))]
-fn type_in(alloc: Global, depth: usize, cursor: &mut Cursor<'_>) -> Result<AsnType, ParseFault>
+fn type_in(alloc: Global, depth: usize, cursor: &mut Cursor<'_>) -> Result<AsnType, Stop>
     ensures { Reads (spec.type_in (set_at depth) (spec.type_at depth) cursor.old) result cursor.new }
 {
     let mut heads = Row::new(alloc);
@@ -93,7 +85,7 @@ fn type_in(alloc: Global, depth: usize, cursor: &mut Cursor<'_>) -> Result<AsnTy
 
 #[cycle(types)]
 #[tactic(auto, unfolding(crate::specs::Types::step_at))]
-fn step_at(alloc: Global, depth: usize, cursor: &mut Cursor<'_>) -> Result<Step, ParseFault>
+fn step_at(alloc: Global, depth: usize, cursor: &mut Cursor<'_>) -> Result<Step, Stop>
     ensures { Reads (spec.step_at (set_at depth) (spec.type_at depth) cursor.old) result cursor.new }
 {
     let tag = tag_at(cursor)?;
@@ -111,7 +103,7 @@ fn sequence_at(
     depth: usize,
     cursor: &mut Cursor<'_>,
     tag: Option<Tag>,
-) -> Result<Step, ParseFault>
+) -> Result<Step, Stop>
     ensures { Reads (spec.sequence_at (set_at depth) (spec.type_at depth) tag cursor.old) result cursor.new }
 {
     if cursor.eat(Kind::Mark, b"{") {
@@ -129,7 +121,7 @@ fn other_at(
     depth: usize,
     cursor: &mut Cursor<'_>,
     tag: Option<Tag>,
-) -> Result<Step, ParseFault>
+) -> Result<Step, Stop>
     ensures { Reads (spec.other_at (set_at depth) (spec.type_at depth) tag cursor.old) result cursor.new }
 {
     let base = Boxed::new(alloc, base_at(alloc, depth, cursor)?)?;
@@ -145,7 +137,7 @@ fn finish(
     cursor: &mut Cursor<'_>,
     tag: Option<Tag>,
     base: Boxed<AsnBase>,
-) -> Result<Step, ParseFault>
+) -> Result<Step, Stop>
     ensures { Reads (spec.finish (set_at depth) (spec.type_at depth) tag base cursor.old) result cursor.new }
 {
     let constraints = constraints(alloc, depth, cursor)?;
@@ -154,7 +146,7 @@ fn finish(
 
 #[cycle(types)]
 #[tactic(auto, unfolding(crate::specs::Types::base_at))]
-fn base_at(alloc: Global, depth: usize, cursor: &mut Cursor<'_>) -> Result<AsnBase, ParseFault>
+fn base_at(alloc: Global, depth: usize, cursor: &mut Cursor<'_>) -> Result<AsnBase, Stop>
     ensures { Reads (spec.base_at (set_at depth) (spec.type_at depth) cursor.old) result cursor.new }
 {
     if cursor.eat(Kind::Word, b"CHOICE") {
@@ -166,7 +158,7 @@ fn base_at(alloc: Global, depth: usize, cursor: &mut Cursor<'_>) -> Result<AsnBa
 
 #[cycle(types)]
 #[tactic(auto, unfolding(crate::specs::Types::choice_at))]
-fn choice_at(alloc: Global, depth: usize, cursor: &mut Cursor<'_>) -> Result<AsnBase, ParseFault>
+fn choice_at(alloc: Global, depth: usize, cursor: &mut Cursor<'_>) -> Result<AsnBase, Stop>
     ensures { Reads (spec.choice_at (set_at depth) (spec.type_at depth) cursor.old) result cursor.new }
 {
     cursor.expect(Kind::Mark, b"{")?;
@@ -181,7 +173,7 @@ fn alternatives(
     alloc: Global,
     depth: usize,
     cursor: &mut Cursor<'_>,
-) -> Result<Row<Alternative>, ParseFault>
+) -> Result<Row<Alternative>, Stop>
     ensures { Reads (listed (spec.alternative (set_at depth) (spec.type_at depth)) cursor.old) result cursor.new }
 {
     let first = alternative(alloc, depth, cursor)?;
@@ -195,7 +187,7 @@ fn more_alternatives(
     depth: usize,
     cursor: &mut Cursor<'_>,
     first: Alternative,
-) -> Result<Row<Alternative>, ParseFault>
+) -> Result<Row<Alternative>, Stop>
     ensures { Reads (more_of (spec.alternative (set_at depth) (spec.type_at depth)) first cursor.old) result cursor.new }
 {
     let mut row = row_of(alloc, first)?;
@@ -215,7 +207,7 @@ fn next_alternative(
     alloc: Global,
     depth: usize,
     cursor: &mut Cursor<'_>,
-) -> Result<Alternative, ParseFault>
+) -> Result<Alternative, Stop>
     ensures { Reads (next (spec.alternative (set_at depth) (spec.type_at depth)) cursor.old) result cursor.new }
 {
     cursor.expect(Kind::Mark, b",")?;
@@ -224,11 +216,7 @@ fn next_alternative(
 
 #[cycle(types)]
 #[tactic(auto, unfolding(crate::specs::Types::alternative))]
-fn alternative(
-    alloc: Global,
-    depth: usize,
-    cursor: &mut Cursor<'_>,
-) -> Result<Alternative, ParseFault>
+fn alternative(alloc: Global, depth: usize, cursor: &mut Cursor<'_>) -> Result<Alternative, Stop>
     ensures { Reads (spec.alternative (set_at depth) (spec.type_at depth) cursor.old) result cursor.new }
 {
     let name = identifier(alloc, cursor)?;
@@ -243,7 +231,7 @@ fn components_at(
     alloc: Global,
     depth: usize,
     cursor: &mut Cursor<'_>,
-) -> Result<Row<Component>, ParseFault>
+) -> Result<Row<Component>, Stop>
     ensures { Reads (spec.components_at (set_at depth) (spec.type_at depth) cursor.old) result cursor.new }
 {
     if cursor.eat(Kind::Mark, b"}") {
@@ -256,11 +244,7 @@ fn components_at(
 
 #[cycle(types)]
 #[tactic(auto, unfolding(crate::specs::Lists::listed))]
-fn components(
-    alloc: Global,
-    depth: usize,
-    cursor: &mut Cursor<'_>,
-) -> Result<Row<Component>, ParseFault>
+fn components(alloc: Global, depth: usize, cursor: &mut Cursor<'_>) -> Result<Row<Component>, Stop>
     ensures { Reads (listed (spec.component (set_at depth) (spec.type_at depth)) cursor.old) result cursor.new }
 {
     let first = component(alloc, depth, cursor)?;
@@ -274,7 +258,7 @@ fn more_components(
     depth: usize,
     cursor: &mut Cursor<'_>,
     first: Component,
-) -> Result<Row<Component>, ParseFault>
+) -> Result<Row<Component>, Stop>
     ensures { Reads (more_of (spec.component (set_at depth) (spec.type_at depth)) first cursor.old) result cursor.new }
 {
     let mut row = row_of(alloc, first)?;
@@ -290,11 +274,7 @@ fn more_components(
 
 #[cycle(types)]
 #[tactic(auto, unfolding(crate::specs::Lists::next))]
-fn next_component(
-    alloc: Global,
-    depth: usize,
-    cursor: &mut Cursor<'_>,
-) -> Result<Component, ParseFault>
+fn next_component(alloc: Global, depth: usize, cursor: &mut Cursor<'_>) -> Result<Component, Stop>
     ensures { Reads (next (spec.component (set_at depth) (spec.type_at depth)) cursor.old) result cursor.new }
 {
     cursor.expect(Kind::Mark, b",")?;
@@ -303,7 +283,7 @@ fn next_component(
 
 #[cycle(types)]
 #[tactic(auto, unfolding(crate::specs::Types::component))]
-fn component(alloc: Global, depth: usize, cursor: &mut Cursor<'_>) -> Result<Component, ParseFault>
+fn component(alloc: Global, depth: usize, cursor: &mut Cursor<'_>) -> Result<Component, Stop>
     ensures { Reads (spec.component (set_at depth) (spec.type_at depth) cursor.old) result cursor.new }
 {
     let name = identifier(alloc, cursor)?;
@@ -320,7 +300,7 @@ fn list_at(
     depth: usize,
     cursor: &mut Cursor<'_>,
     tag: Option<Tag>,
-) -> Result<Step, ParseFault>
+) -> Result<Step, Stop>
     ensures { Reads (spec.list_at (set_at depth) (spec.type_at depth) tag cursor.old) result cursor.new }
 {
     let constraint = Boxed::new(alloc, of_constraint(alloc, depth, cursor)?)?;
@@ -334,7 +314,7 @@ fn of_constraint(
     alloc: Global,
     depth: usize,
     cursor: &mut Cursor<'_>,
-) -> Result<Option<Constraint>, ParseFault>
+) -> Result<Option<Constraint>, Stop>
     ensures { Reads (spec.of_constraint (set_at depth) (spec.type_at depth) cursor.old) result cursor.new }
 {
     if cursor.eat(Kind::Word, b"SIZE") {
@@ -353,7 +333,7 @@ fn some_constraint(
     alloc: Global,
     depth: usize,
     cursor: &mut Cursor<'_>,
-) -> Result<Option<Constraint>, ParseFault>
+) -> Result<Option<Constraint>, Stop>
     ensures { Reads (spec.some_constraint (set_at depth) (spec.type_at depth) cursor.old) result cursor.new }
 {
     Ok(Some(constraint_at(alloc, depth, cursor)?))
@@ -364,7 +344,7 @@ fn constraints(
     alloc: Global,
     depth: usize,
     cursor: &mut Cursor<'_>,
-) -> Result<Row<Constraint>, ParseFault>
+) -> Result<Row<Constraint>, Stop>
     ensures { Reads (many spec.has_paren (spec.constraint_at (set_at depth) (spec.type_at depth)) cursor.old) result cursor.new }
 {
     let mut row = Row::new(alloc);
@@ -380,11 +360,7 @@ fn constraints(
 
 #[cycle(types)]
 #[tactic(auto, unfolding(crate::specs::Types::constraint_at))]
-fn constraint_at(
-    alloc: Global,
-    depth: usize,
-    cursor: &mut Cursor<'_>,
-) -> Result<Constraint, ParseFault>
+fn constraint_at(alloc: Global, depth: usize, cursor: &mut Cursor<'_>) -> Result<Constraint, Stop>
     ensures { Reads (spec.constraint_at (set_at depth) (spec.type_at depth) cursor.old) result cursor.new }
 {
     cursor.expect(Kind::Mark, b"(")?;
@@ -398,11 +374,7 @@ fn constraint_at(
 /// A contained type and its closing parenthesis.
 #[cycle(types)]
 #[tactic(auto, unfolding(crate::specs::Types::containing_at))]
-fn containing_at(
-    alloc: Global,
-    depth: usize,
-    cursor: &mut Cursor<'_>,
-) -> Result<Constraint, ParseFault>
+fn containing_at(alloc: Global, depth: usize, cursor: &mut Cursor<'_>) -> Result<Constraint, Stop>
     ensures { Reads (spec.containing_at (set_at depth) (spec.type_at depth) cursor.old) result cursor.new }
 {
     let of = Boxed::new(alloc, type_at(alloc, depth, cursor)?)?;

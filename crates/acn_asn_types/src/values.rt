@@ -5,14 +5,14 @@ ghost use Rattle.acn_cursor.specs.Steps.{Reads, ReadsFreely};
 ghost use Rattle.acn_asn_types.specs.Values as spec;
 
 use acn_asn_syntax::AsnValue;
-use acn_cursor::{Cursor, ParseFault, identifier};
+use acn_cursor::{Cursor, Stop, identifier};
 use acn_lex::Kind;
 use acn_num::Name;
 use std::alloc::Global;
 
 /// A number, and whether a minus stands before it.
 #[tactic(auto, unfolding(crate::specs::Values::signed))]
-pub fn signed(cursor: &mut Cursor<'_>) -> Result<(bool, u64), ParseFault>
+pub fn signed(cursor: &mut Cursor<'_>) -> Result<(bool, u64), Stop>
     ensures { ReadsFreely (spec.signed cursor.old) result cursor.new }
 {
     let negative = cursor.eat(Kind::Mark, b"-");
@@ -21,7 +21,7 @@ pub fn signed(cursor: &mut Cursor<'_>) -> Result<(bool, u64), ParseFault>
 }
 
 #[tactic(auto, unfolding(crate::specs::Values::signed_value))]
-fn signed_value(cursor: &mut Cursor<'_>) -> Result<AsnValue, ParseFault>
+fn signed_value(cursor: &mut Cursor<'_>) -> Result<AsnValue, Stop>
     ensures { ReadsFreely (spec.signed_value cursor.old) result cursor.new }
 {
     let (negative, n) = signed(cursor)?;
@@ -29,7 +29,7 @@ fn signed_value(cursor: &mut Cursor<'_>) -> Result<AsnValue, ParseFault>
 }
 
 #[tactic(auto, unfolding(crate::specs::Values::named_value))]
-fn named_value(alloc: Global, cursor: &mut Cursor<'_>) -> Result<AsnValue, ParseFault>
+fn named_value(alloc: Global, cursor: &mut Cursor<'_>) -> Result<AsnValue, Stop>
     ensures { Reads (spec.named_value cursor.old) result cursor.new }
 {
     Ok(AsnValue::Ref(identifier(alloc, cursor)?))
@@ -44,7 +44,7 @@ pub fn has(cursor: &Cursor<'_>, kind: Kind) -> bool
 
 /// The text of the next token, which has to be of this kind.
 #[tactic(auto, unfolding(crate::specs::Values::literal))]
-pub fn literal(alloc: Global, cursor: &mut Cursor<'_>, kind: Kind) -> Result<Name, ParseFault>
+pub fn literal(alloc: Global, cursor: &mut Cursor<'_>, kind: Kind) -> Result<Name, Stop>
     ensures read { Reads (spec.literal kind cursor.old) result cursor.new }
     ensures kept { IfErr result (λ _. cursor.new ≡ cursor.old) }
 {
@@ -59,21 +59,21 @@ pub fn literal(alloc: Global, cursor: &mut Cursor<'_>, kind: Kind) -> Result<Nam
 }
 
 #[tactic(auto, unfolding(crate::specs::Values::bits_value))]
-fn bits_value(alloc: Global, cursor: &mut Cursor<'_>) -> Result<AsnValue, ParseFault>
+fn bits_value(alloc: Global, cursor: &mut Cursor<'_>) -> Result<AsnValue, Stop>
     ensures { Reads (spec.bits_value cursor.old) result cursor.new }
 {
     Ok(AsnValue::Bits(literal(alloc, cursor, Kind::Bits)?))
 }
 
 #[tactic(auto, unfolding(crate::specs::Values::hex_value))]
-fn hex_value(alloc: Global, cursor: &mut Cursor<'_>) -> Result<AsnValue, ParseFault>
+fn hex_value(alloc: Global, cursor: &mut Cursor<'_>) -> Result<AsnValue, Stop>
     ensures { Reads (spec.hex_value cursor.old) result cursor.new }
 {
     Ok(AsnValue::Hex(literal(alloc, cursor, Kind::Hex)?))
 }
 
 #[tactic(auto, unfolding(crate::specs::Values::text_value))]
-fn text_value(alloc: Global, cursor: &mut Cursor<'_>) -> Result<AsnValue, ParseFault>
+fn text_value(alloc: Global, cursor: &mut Cursor<'_>) -> Result<AsnValue, Stop>
     ensures { Reads (spec.text_value cursor.old) result cursor.new }
 {
     Ok(AsnValue::Text(literal(alloc, cursor, Kind::Text)?))
@@ -81,7 +81,7 @@ fn text_value(alloc: Global, cursor: &mut Cursor<'_>) -> Result<AsnValue, ParseF
 
 /// A literal or a number.
 #[tactic(auto, unfolding(crate::specs::Values::other_value))]
-fn other_value(alloc: Global, cursor: &mut Cursor<'_>) -> Result<AsnValue, ParseFault>
+fn other_value(alloc: Global, cursor: &mut Cursor<'_>) -> Result<AsnValue, Stop>
     ensures { Reads (spec.other_value cursor.old) result cursor.new }
 {
     if has(cursor, Kind::Bits) {
@@ -97,7 +97,7 @@ fn other_value(alloc: Global, cursor: &mut Cursor<'_>) -> Result<AsnValue, Parse
 
 /// A value.
 #[tactic(auto, unfolding(crate::specs::Values::value_at))]
-pub fn value(alloc: Global, cursor: &mut Cursor<'_>) -> Result<AsnValue, ParseFault>
+pub fn value(alloc: Global, cursor: &mut Cursor<'_>) -> Result<AsnValue, Stop>
     ensures { Reads (spec.value_at cursor.old) result cursor.new }
 {
     if cursor.eat(Kind::Word, b"TRUE") {

@@ -1,6 +1,6 @@
 -- What each step takes, and that it takes what was written.
-use Rattle.std.proofs.Common.{◌≡◌, ℕ, zero, suc, ◌^◌, ◌<◌, ◌≤◌, Bool, true, false, ◌&&◌, cond, List, [], ◌∷◌, ◌++◌, length, Option, Some, None, refl, sym, ap, subst, ◌∙◌, append_assoc, length-append, arith, rules}
-use Rattle.std.specs.Prelude.{option_and_then}
+use Rattle.std.proofs.Common.{◌≡◌, ℕ, zero, suc, ◌^◌, ◌<◌, ◌≤◌, Bool, true, false, cond, List, [], ◌∷◌, ◌++◌, length, Option, Some, None, refl, sym, ap, subst, ◌∙◌, append_assoc, length-append, arith, rules}
+use Rattle.std.specs.Prelude.{option_and_then, Ok, Err}
 use Rattle.std.specs.List.{flat_map, AllByRecursion}
 use Rattle.std.specs.Str.{bytes_eq}
 use Rattle.std.specs.Fmt.{decimal}
@@ -14,37 +14,40 @@ use Rattle.acn_lex.specs.declared.Kind.TheVariants.{Word, Number}
 use Rattle.acn_lex.specs.Number.{number_in}
 use Rattle.acn_lex.proofs.NumberLemmas as written
 use Rattle.acn_lex.specs.Lexeme.{Lexeme, same_kind}
-use Rattle.acn_cursor.specs.Steps.{Parser, given, and_then, ◌>>=◌, token, sees, behind, after, eat, expect, text_of, taken_if, passing, word, number, repeat, many, pure}
+use Rattle.acn_cursor.specs.Steps.{Parser, Outcome, given, and_then, ◌>>=◌, token, sees, behind, after, eat, expect, text_of, taken_if, passing, word, number, repeat, many, pure}
 use Rattle.std.proofs.lemmas.Bool.{and_parts}
 
 pub ap2 : {A B C : Type 0} (f : A → B → C) {x y : A} {u v : B} → x ≡ y → u ≡ v → f x u ≡ f y v
 ap2 f {x} {y} {u} {v} p q = ap (λ a. f a u) p ∙ ap (f y) q
 
 -- what an outcome is
-pub outcome_is : {A : Type 0} (p q : A × List Lexeme) → Some p ≡ Some q → (p.0 ≡ q.0) × (p.1 ≡ q.1)
+abbrev pub outcome_of : {A : Type 0} → A × List Lexeme → Outcome A
+outcome_of p = Ok p
+
+pub outcome_is : {A : Type 0} (p q : A × List Lexeme) → outcome_of p ≡ outcome_of q → (p.0 ≡ q.0) × (p.1 ≡ q.1)
 outcome_is {A} p q e = let k : p ≡ q = cc in (ap (λ (z : A × List Lexeme). z.0) k, ap (λ (z : A × List Lexeme). z.1) k)
 
 -- ---- one after the other
 
-pub bind_found : {A B : Type 0} (p : Parser A) (f : A → Parser B) (ts : List Lexeme) (y : B × List Lexeme) → (p >>= f) ts ≡ Some y → (x : A) × (m : List Lexeme) × (p ts ≡ Some (x, m)) × (f x m ≡ Some y)
+pub bind_found : {A B : Type 0} (p : Parser A) (f : A → Parser B) (ts : List Lexeme) (y : B × List Lexeme) → (p >>= f) ts ≡ Ok y → (x : A) × (m : List Lexeme) × (p ts ≡ Ok (x, m)) × (f x m ≡ Ok y)
 bind_found {A} {B} p f ts y e = opened (p ts) refl e
   where
-    opened : (o : Option (A × List Lexeme)) → p ts ≡ o → and_then o f ≡ Some y → (x : A) × (m : List Lexeme) × (p ts ≡ Some (x, m)) × (f x m ≡ Some y)
-    opened None e h = absurd cc
-    opened (Some q) e h = (q.0, q.1, e, h)
+    opened : (o : Outcome A) → p ts ≡ o → and_then o f ≡ Ok y → (x : A) × (m : List Lexeme) × (p ts ≡ Ok (x, m)) × (f x m ≡ Ok y)
+    opened (Err left) e h = absurd cc
+    opened (Ok q) e h = (q.0, q.1, e, h)
 
 -- the step that came first in an outcome
-pub first_step : {A B : Type 0} (o : Option (A × List Lexeme)) (f : A → Parser B) (y : B × List Lexeme) → and_then o f ≡ Some y → (x : A) × (m : List Lexeme) × (o ≡ Some (x, m)) × (f x m ≡ Some y)
-first_step None f y h = absurd cc
-first_step (Some q) f y h = (q.0, q.1, refl, h)
+pub first_step : {A B : Type 0} (o : Outcome A) (f : A → Parser B) (y : B × List Lexeme) → and_then o f ≡ Ok y → (x : A) × (m : List Lexeme) × (o ≡ Ok (x, m)) × (f x m ≡ Ok y)
+first_step (Err left) f y h = absurd cc
+first_step (Ok q) f y h = (q.0, q.1, refl, h)
 
 -- what follows from an outcome follows from its first step and the others
-pub then_found : {A B : Type 0} {P : Type 0} (o : Option (A × List Lexeme)) (f : A → Parser B) (y : B × List Lexeme) → and_then o f ≡ Some y
-    → ((x : A) (m : List Lexeme) → o ≡ Some (x, m) → f x m ≡ Some y → P) → P
-then_found None f y h k = absurd cc
-then_found (Some q) f y h k = k q.0 q.1 refl h
+pub then_found : {A B : Type 0} {P : Type 0} (o : Outcome A) (f : A → Parser B) (y : B × List Lexeme) → and_then o f ≡ Ok y
+    → ((x : A) (m : List Lexeme) → o ≡ Ok (x, m) → f x m ≡ Ok y → P) → P
+then_found (Err left) f y h k = absurd cc
+then_found (Ok q) f y h k = k q.0 q.1 refl h
 
-pub then_again : {A B : Type 0} (o : Option (A × List Lexeme)) (f : A → Parser B) (x : A) (m : List Lexeme) (y : Option (B × List Lexeme)) → o ≡ Some (x, m) → f x m ≡ y → and_then o f ≡ y
+pub then_again : {A B : Type 0} (o : Outcome A) (f : A → Parser B) (x : A) (m : List Lexeme) (y : Outcome B) → o ≡ Ok (x, m) → f x m ≡ y → and_then o f ≡ y
 then_again o f x m y e h = ap (λ o. and_then o f) e ∙ h
 
 -- x was taken from the front of ts, and r is left
@@ -52,15 +55,15 @@ pub record Takes {A : Type 0} (tokens : A → List Lexeme) (Fits : A → Type 0)
   pub parts : ts ≡ tokens x ++ r
   pub fits : Fits x
 
-abbrev pub outcome : {A : Type 0} → A → List Lexeme → Option (A × List Lexeme)
-outcome x r = Some (x, r)
+abbrev pub outcome : {A : Type 0} → A → List Lexeme → Outcome A
+outcome x r = Ok (x, r)
 
 pub done : {A : Type 0} {tokens : A → List Lexeme} {Fits : A → Type 0} {ts : List Lexeme} (x : A) (m : List Lexeme) (y : A) (r : List Lexeme) → outcome x m ≡ outcome y r → ts ≡ tokens x ++ m → Fits x → Takes tokens Fits ts y r
 done {A} {tokens} {Fits} {ts} x m y r e parts fits =
     let k = outcome_is (x, m) (y, r) e in
     record { parts = parts ∙ ap2 (λ (a : A) (b : List Lexeme). tokens a ++ b) k.0 k.1; fits = subst Fits k.0 fits }
 
-pub bind_again : {A B : Type 0} (p : Parser A) (f : A → Parser B) (ts : List Lexeme) (x : A) (m : List Lexeme) → p ts ≡ Some (x, m) → (p >>= f) ts ≡ f x m
+pub bind_again : {A B : Type 0} (p : Parser A) (f : A → Parser B) (ts : List Lexeme) (x : A) (m : List Lexeme) → p ts ≡ Ok (x, m) → (p >>= f) ts ≡ f x m
 bind_again p f ts x m e = ap (λ o. and_then o f) e
 
 -- ---- kinds
@@ -86,17 +89,17 @@ pub sees_again : (k : Kind) (text : List ℕ) (ts : List Lexeme) → sees k text
 unfolding sees
 sees_again k text ts = both_true (same_kind_refl k) ((bytes_eq-Decides text text).1 refl)
 
-cond_pair : {A : Type 0} (b : Bool) (x y : A × List Lexeme) → cond b (Some x) None ≡ Some y → (b ≡ true) × (x ≡ y)
-cond_pair true x y e = (refl, cc)
-cond_pair false x y e = absurd cc
+cond_pair : {A : Type 0} (b : Bool) (x y : A × List Lexeme) (left : ℕ) → cond b (outcome_of x) (Err left) ≡ Ok y → (b ≡ true) × (x ≡ y)
+cond_pair true x y left e = (refl, cc)
+cond_pair false x y left e = absurd cc
 
-pub expect_found : (k : Kind) (text : List ℕ) (ts : List Lexeme) (x : Unit {0}) (r : List Lexeme) → expect k text ts ≡ Some (x, r) → ts ≡ token k text ∷ r
+pub expect_found : (k : Kind) (text : List ℕ) (ts : List Lexeme) (x : Unit {0}) (r : List Lexeme) → expect k text ts ≡ Ok (x, r) → ts ≡ token k text ∷ r
 unfolding expect
 expect_found k text ts x r e =
-    let c = cond_pair (sees k text ts) (tt, behind ts) (x, r) e in
+    let c = cond_pair (sees k text ts) (tt, behind ts) (x, r) (length ts) e in
     sees_found k text ts c.0 ∙ ap (λ (p : Unit {0} × List Lexeme). token k text ∷ p.1) c.1
 
-pub expect_again : (k : Kind) (text : List ℕ) (r : List Lexeme) → expect k text (token k text ∷ r) ≡ Some (tt, r)
+pub expect_again : (k : Kind) (text : List ℕ) (r : List Lexeme) → expect k text (token k text ∷ r) ≡ Ok (tt, r)
 unfolding expect
 expect_again k text r = rw (sees_again k text r) refl
 
@@ -113,7 +116,7 @@ abbrev pub Eaten : Kind → List ℕ → List Lexeme → Bool → List Lexeme �
 Eaten k text ts true r = ts ≡ token k text ∷ r
 Eaten k text ts false r = ts ≡ r
 
-pub eat_found : (k : Kind) (text : List ℕ) (ts : List Lexeme) (b : Bool) (r : List Lexeme) → eat k text ts ≡ Some (b, r) → Eaten k text ts b r
+pub eat_found : (k : Kind) (text : List ℕ) (ts : List Lexeme) (b : Bool) (r : List Lexeme) → eat k text ts ≡ Ok (b, r) → Eaten k text ts b r
 unfolding eat after
 eat_found k text ts b r e =
     let o = outcome_is (sees k text ts, after k text ts) (b, r) e in
@@ -123,19 +126,19 @@ eat_found k text ts b r e =
     by_sees true p = rw p (sees_found k text ts p)
     by_sees false p = rw p refl
 
-pub eat_again : (k : Kind) (text : List ℕ) (r : List Lexeme) → eat k text (token k text ∷ r) ≡ Some (true, r)
+pub eat_again : (k : Kind) (text : List ℕ) (r : List Lexeme) → eat k text (token k text ∷ r) ≡ Ok (true, r)
 unfolding eat after
 eat_again k text r = rw (sees_again k text r) refl
 
-pub eat_nothing : (k : Kind) (text : List ℕ) (ts : List Lexeme) → sees k text ts ≡ false → eat k text ts ≡ Some (false, ts)
+pub eat_nothing : (k : Kind) (text : List ℕ) (ts : List Lexeme) → sees k text ts ≡ false → eat k text ts ≡ Ok (false, ts)
 unfolding eat after
 eat_nothing k text ts e = rw e refl
 
-pub given_found : (k : Kind) (text : List ℕ) (ts : List Lexeme) (b : Bool) (r : List Lexeme) → eat k text ts ≡ Some (b, r) → ts ≡ given b (token k text) ++ r
+pub given_found : (k : Kind) (text : List ℕ) (ts : List Lexeme) (b : Bool) (r : List Lexeme) → eat k text ts ≡ Ok (b, r) → ts ≡ given b (token k text) ++ r
 given_found k text ts true r e = eat_found k text ts true r e
 given_found k text ts false r e = eat_found k text ts false r e
 
-pub given_again : (k : Kind) (text : List ℕ) (b : Bool) (r : List Lexeme) → sees k text r ≡ false → eat k text (given b (token k text) ++ r) ≡ Some (b, r)
+pub given_again : (k : Kind) (text : List ℕ) (b : Bool) (r : List Lexeme) → sees k text r ≡ false → eat k text (given b (token k text) ++ r) ≡ Ok (b, r)
 given_again k text true r e = eat_again k text r
 given_again k text false r e = eat_nothing k text r e
 
@@ -156,11 +159,11 @@ pub then_some : {A B : Type 0} (o : Option A) (f : A → Option B) (y : B) → o
 then_some None f y e = absurd cc
 then_some (Some x) f y e = (x, refl, e)
 
-pub taken_found : {A : Type 0} (o : Option A) (ts : List Lexeme) (x : A) (r : List Lexeme) → taken_if o ts ≡ Some (x, r) → (o ≡ Some x) × (behind ts ≡ r)
+pub taken_found : {A : Type 0} (o : Option A) (ts : List Lexeme) (x : A) (r : List Lexeme) → taken_if o ts ≡ Ok (x, r) → (o ≡ Some x) × (behind ts ≡ r)
 taken_found None ts x r e = absurd cc
 taken_found (Some a) ts x r e = let k = outcome_is (a, behind ts) (x, r) e in (ap Some k.0, k.1)
 
-pub word_found : (test : List ℕ → Bool) (ts : List Lexeme) (x : List ℕ) (r : List Lexeme) → word test ts ≡ Some (x, r) → (ts ≡ token Word x ∷ r) × (test x ≡ true)
+pub word_found : (test : List ℕ → Bool) (ts : List Lexeme) (x : List ℕ) (r : List Lexeme) → word test ts ≡ Ok (x, r) → (ts ≡ token Word x ∷ r) × (test x ≡ true)
 unfolding word
 word_found test ts x r e =
     let t = taken_found (option_and_then (passing test) (text_of Word ts)) ts x r e in
@@ -168,11 +171,11 @@ word_found test ts x r e =
     let c = cond_some (test s.0) s.0 x s.2 in
     (text_of_found Word ts s.0 s.1 ∙ ap2 (λ (a : List ℕ) (b : List Lexeme). token Word a ∷ b) c.1 t.1, subst (λ (a : List ℕ). test a ≡ true) c.1 c.0)
 
-pub word_again : (test : List ℕ → Bool) (x : List ℕ) (r : List Lexeme) → test x ≡ true → word test (token Word x ∷ r) ≡ Some (x, r)
+pub word_again : (test : List ℕ → Bool) (x : List ℕ) (r : List Lexeme) → test x ≡ true → word test (token Word x ∷ r) ≡ Ok (x, r)
 unfolding word
 word_again test x r e = rw (text_of_again Word x r, e) refl
 
-pub number_found : (ts : List Lexeme) (n : ℕ) (r : List Lexeme) → number ts ≡ Some (n, r) → (ts ≡ token Number (decimal n) ∷ r) × (n < 2 ^ 64)
+pub number_found : (ts : List Lexeme) (n : ℕ) (r : List Lexeme) → number ts ≡ Ok (n, r) → (ts ≡ token Number (decimal n) ∷ r) × (n < 2 ^ 64)
 unfolding number
 number_found ts n r e =
     let t = taken_found (option_and_then number_in (text_of Number ts)) ts n r e in
@@ -180,7 +183,7 @@ number_found ts n r e =
     let w = written.number_found s.0 n s.2 in
     (text_of_found Number ts s.0 s.1 ∙ ap2 (λ (a : List ℕ) (b : List Lexeme). token Number a ∷ b) w.0 t.1, w.1)
 
-pub number_again : (n : ℕ) (r : List Lexeme) → n < 2 ^ 64 → number (token Number (decimal n) ∷ r) ≡ Some (n, r)
+pub number_again : (n : ℕ) (r : List Lexeme) → n < 2 ^ 64 → number (token Number (decimal n) ∷ r) ≡ Ok (n, r)
 unfolding number
 number_again n r h = rw (text_of_again Number (decimal n) r, written.number_again n h) refl
 
@@ -194,12 +197,12 @@ module _ {A : Type 0} (goes : List Lexeme → Bool) (item : Parser A) (tokens : 
   nothing_taken ts xs r e = done [] ts xs r e refl tt
 
   abbrev pub Found : Type 0
-  Found = (ts : List Lexeme) (x : A) (r : List Lexeme) → item ts ≡ Some (x, r) → Takes tokens Fits ts x r
+  Found = (ts : List Lexeme) (x : A) (r : List Lexeme) → item ts ≡ Ok (x, r) → Takes tokens Fits ts x r
 
-  abbrev turn : ℕ → Bool → List Lexeme → Option (List A × List Lexeme)
+  abbrev turn : ℕ → Bool → List Lexeme → Outcome (List A)
   turn n b ts = cond b (and_then (item ts) (λ x. repeat goes item n >>= (λ xs. pure (x ∷ xs)))) (outcome [] ts)
 
-  turn_taken : Found → (n : ℕ) → ((ts : List Lexeme) (xs : List A) (r : List Lexeme) → repeat goes item n ts ≡ Some (xs, r) → Taken ts xs r)
+  turn_taken : Found → (n : ℕ) → ((ts : List Lexeme) (xs : List A) (r : List Lexeme) → repeat goes item n ts ≡ Ok (xs, r) → Taken ts xs r)
       → (b : Bool) (ts : List Lexeme) (xs : List A) (r : List Lexeme) → turn n b ts ≡ outcome xs r → Taken ts xs r
   turn_taken found n more false ts xs r h = nothing_taken ts xs r h
   turn_taken found n more true ts xs r h =
@@ -210,12 +213,12 @@ module _ {A : Type 0} (goes : List Lexeme → Bool) (item : Parser A) (tokens : 
       let whole : ts ≡ flat_map tokens (a.0 ∷ b.0) ++ b.1 = first.parts ∙ ap (λ (z : List Lexeme). tokens a.0 ++ z) others.parts ∙ sym (append_assoc (tokens a.0) (flat_map tokens b.0) b.1) in
       done (a.0 ∷ b.0) b.1 xs r b.3 whole (first.fits, others.fits)
 
-  pub repeat_found : Found → (n : ℕ) (ts : List Lexeme) (xs : List A) (r : List Lexeme) → repeat goes item n ts ≡ Some (xs, r) → Taken ts xs r
+  pub repeat_found : Found → (n : ℕ) (ts : List Lexeme) (xs : List A) (r : List Lexeme) → repeat goes item n ts ≡ Ok (xs, r) → Taken ts xs r
   repeat_found found zero ts xs r e = nothing_taken ts xs r e
   repeat_found found (suc n) ts xs r e = turn_taken found n (repeat_found found n) (goes ts) ts xs r e
 
   module _ (Follows : List Lexeme → Type 0) (limit : ℕ)
-      (again : (x : A) (r : List Lexeme) → length (tokens x ++ r) ≤ limit → Fits x → Follows r → item (tokens x ++ r) ≡ Some (x, r))
+      (again : (x : A) (r : List Lexeme) → length (tokens x ++ r) ≤ limit → Fits x → Follows r → item (tokens x ++ r) ≡ Ok (x, r))
       (starts : (x : A) (r : List Lexeme) → Fits x → goes (tokens x ++ r) ≡ true)
       (next : (x : A) (r : List Lexeme) → Fits x → Follows (tokens x ++ r))
       (some : (x : A) → Fits x → 0 < length (tokens x)) where
@@ -224,7 +227,7 @@ module _ {A : Type 0} (goes : List Lexeme → Bool) (item : Parser A) (tokens : 
     may_follow (x ∷ xs) r fits follows = subst Follows (sym (append_assoc (tokens x) (flat_map tokens xs) r)) (next x (flat_map tokens xs ++ r) fits.0)
 
     pub repeat_again : (xs : List A) (n : ℕ) (r : List Lexeme) → length xs ≤ n → length (flat_map tokens xs ++ r) ≤ limit → AllByRecursion Fits xs → Follows r → goes r ≡ false
-        → repeat goes item n (flat_map tokens xs ++ r) ≡ Some (xs, r)
+        → repeat goes item n (flat_map tokens xs ++ r) ≡ Ok (xs, r)
     repeat_again [] zero r le bound fits follows ends = refl
     repeat_again [] (suc n) r le bound fits follows ends = rw ends refl
     repeat_again (x ∷ xs) zero r le bound fits follows ends = absurd (omega arith)
@@ -243,6 +246,6 @@ module _ {A : Type 0} (goes : List Lexeme → Bool) (item : Parser A) (tokens : 
     length-flat_map-le (x ∷ xs) fits = omega (arith, some x fits.0, length-flat_map-le xs fits.1, length-append (tokens x) (flat_map tokens xs))
 
     pub many_again : (xs : List A) (r : List Lexeme) → length (flat_map tokens xs ++ r) ≤ limit → AllByRecursion Fits xs → Follows r → goes r ≡ false
-        → many goes item (flat_map tokens xs ++ r) ≡ Some (xs, r)
+        → many goes item (flat_map tokens xs ++ r) ≡ Ok (xs, r)
     many_again xs r bound fits follows ends =
         repeat_again xs (length (flat_map tokens xs ++ r)) r (omega (arith, length-flat_map-le xs fits, length-append (flat_map tokens xs) r)) bound fits follows ends

@@ -5,15 +5,19 @@ use Rattle.acn_lex.specs.declared.Kind.{Kind}
 use Rattle.acn_lex.specs.declared.Kind.TheVariants.{Word, Number}
 use Rattle.acn_lex.specs.Number.{number_in}
 use Rattle.acn_lex.specs.Lexeme.{Lexeme, same_kind}
-use Rattle.acn_cursor.specs.declared.fault.ParseFault.{ParseFault}
-use Rattle.acn_cursor.specs.declared.fault.ParseFault.TheVariants.{Syntax, TooDeep, LeftOut, NoMemory}
+use Rattle.acn_cursor.specs.declared.stop.Stop.{Stop}
+use Rattle.acn_cursor.specs.declared.stop.Stop.TheVariants.{Refused, NoMemory}
+
+-- what was read and the tokens that are left, or how many tokens were left where reading stopped
+abbrev pub Outcome : Type 0 → Type 0
+Outcome A = Result (A × List Lexeme) ℕ
 
 abbrev pub Parser : Type 0 → Type 0
-Parser A = List Lexeme → Option (A × List Lexeme)
+Parser A = List Lexeme → Outcome A
 
-abbrev pub and_then : {A B : Type 0} → Option (A × List Lexeme) → (A → Parser B) → Option (B × List Lexeme)
-and_then None f = None
-and_then (Some p) f = f p.0 p.1
+abbrev pub and_then : {A B : Type 0} → Outcome A → (A → Parser B) → Outcome B
+and_then (Err left) f = Err left
+and_then (Ok p) f = f p.0 p.1
 
 infixl 10 ◌>>=◌
 abbrev pub ◌>>=◌ : {A B : Type 0} → Parser A → (A → Parser B) → Parser B
@@ -24,10 +28,10 @@ abbrev pub ◌>>◌ : {A B : Type 0} → Parser A → Parser B → Parser B
 p >> q = p >>= (λ _. q)
 
 abbrev pub pure : {A : Type 0} → A → Parser A
-pure a = λ ts. Some (a, ts)
+pure a = λ ts. Ok (a, ts)
 
 abbrev pub refuse : {A : Type 0} → Parser A
-refuse = λ _. None
+refuse = λ ts. Err (length ts)
 
 abbrev pub token : Kind → List ℕ → Lexeme
 token k text = record { kind = k; text = text }
@@ -52,10 +56,10 @@ after k text ts = if sees k text ts then behind ts else ts
 
 -- takes that token, if it comes next
 unfoldable pub eat : Kind → List ℕ → Parser Bool
-eat k text = λ ts. Some (sees k text ts, after k text ts)
+eat k text = λ ts. Ok (sees k text ts, after k text ts)
 
 unfoldable pub expect : Kind → List ℕ → Parser (Unit {0})
-expect k text = λ ts. if sees k text ts then Some (tt, behind ts) else None
+expect k text = λ ts. if sees k text ts then Ok (tt, behind ts) else Err (length ts)
 
 -- the text of the next token, if it is of this kind
 unfoldable pub text_of : Kind → List Lexeme → Option (List ℕ)
@@ -65,7 +69,7 @@ text_of k (t ∷ ts) = if same_kind t.kind k then Some t.text else None
 -- takes a word with a text that passes
 abbrev pub taken_if : {A : Type 0} → Option A → Parser A
 taken_if None = refuse
-taken_if (Some a) = λ ts. Some (a, behind ts)
+taken_if (Some a) = λ ts. Ok (a, behind ts)
 
 abbrev pub passing : (List ℕ → Bool) → List ℕ → Option (List ℕ)
 passing test text = if test text then Some text else None
@@ -78,58 +82,42 @@ number = λ ts. taken_if (option_and_then number_in (text_of Number ts)) ts
 
 -- Items while a test of what is left says so. The number bounds the turns.
 abbrev pub repeat : {A : Type 0} → (List Lexeme → Bool) → Parser A → ℕ → Parser (List A)
-repeat goes item zero ts = Some ([], ts)
-repeat goes item (suc n) ts = if goes ts then and_then (item ts) (λ x. repeat goes item n >>= (λ xs. pure (x ∷ xs))) else Some ([], ts)
+repeat goes item zero ts = Ok ([], ts)
+repeat goes item (suc n) ts = if goes ts then and_then (item ts) (λ x. repeat goes item n >>= (λ xs. pure (x ∷ xs))) else Ok ([], ts)
 
 -- what was read before, and then this
-abbrev pub with_front : {A : Type 0} → List A → Option (List A × List Lexeme) → Option (List A × List Lexeme)
-with_front front None = None
-with_front front (Some p) = Some (front ++ p.0, p.1)
+abbrev pub with_front : {A : Type 0} → List A → Outcome (List A) → Outcome (List A)
+with_front front (Err left) = Err left
+with_front front (Ok p) = Ok (front ++ p.0, p.1)
 
 -- each turn takes a token, so that the count of tokens is enough
 abbrev pub many : {A : Type 0} → (List Lexeme → Bool) → Parser A → Parser (List A)
 many goes item = λ ts. repeat goes item (length ts) ts
 
-abbrev pub IsSyntax : ParseFault → Type 0
-IsSyntax (Syntax _) = Unit {0}
-IsSyntax (TooDeep _) = ⊥
-IsSyntax (LeftOut _) = ⊥
-IsSyntax NoMemory = ⊥
-
 -- What a function that parses ensures: the parser's outcome, unless memory fails. Of the tokens that are left after a failure it says nothing.
-abbrev pub Fails : {A : Type 0} → Option (A × List Lexeme) → ParseFault → Type 0
-Fails outcome (Syntax _) = outcome ≡ None
-Fails outcome (TooDeep _) = ⊥
-Fails outcome (LeftOut _) = ⊥
+abbrev pub Fails : {A : Type 0} → Result A ℕ → Stop → Type 0
+Fails outcome (Refused left) = outcome ≡ Err left
 Fails outcome NoMemory = Unit {0}
 
-abbrev pub Reads : {A : Type 0} → Option (A × List Lexeme) → Result A ParseFault → List Lexeme → Type 0
-Reads outcome (Ok a) new = outcome ≡ Some (a, new)
+abbrev pub Reads : {A : Type 0} → Outcome A → Result A Stop → List Lexeme → Type 0
+Reads outcome (Ok a) new = outcome ≡ Ok (a, new)
 Reads outcome (Err e) new = Fails outcome e
 
 -- What a function that parses and takes no memory ensures: the parser's outcome.
-abbrev pub FailsFreely : {A : Type 0} → Option (A × List Lexeme) → ParseFault → Type 0
-FailsFreely outcome (Syntax _) = outcome ≡ None
-FailsFreely outcome (TooDeep _) = ⊥
-FailsFreely outcome (LeftOut _) = ⊥
+abbrev pub FailsFreely : {A : Type 0} → Result A ℕ → Stop → Type 0
+FailsFreely outcome (Refused left) = outcome ≡ Err left
 FailsFreely outcome NoMemory = ⊥
 
-abbrev pub ReadsFreely : {A : Type 0} → Option (A × List Lexeme) → Result A ParseFault → List Lexeme → Type 0
-ReadsFreely outcome (Ok a) new = outcome ≡ Some (a, new)
+abbrev pub ReadsFreely : {A : Type 0} → Outcome A → Result A Stop → List Lexeme → Type 0
+ReadsFreely outcome (Ok a) new = outcome ≡ Ok (a, new)
 ReadsFreely outcome (Err e) new = FailsFreely outcome e
 
 -- the answer of a parser that has to take all tokens
-abbrev pub is_whole : {A : Type 0} → Option (A × List Lexeme) → Option A
-is_whole None = None
-is_whole (Some (a, [])) = Some a
-is_whole (Some (a, t ∷ ts)) = None
+abbrev pub is_whole : {A : Type 0} → Outcome A → Result A ℕ
+is_whole (Err left) = Err left
+is_whole (Ok (a, [])) = Ok a
+is_whole (Ok (a, t ∷ ts)) = Err (length (t ∷ ts))
 
-abbrev pub Refused : {A : Type 0} → Option A → ParseFault → Type 0
-Refused outcome (Syntax _) = outcome ≡ None
-Refused outcome (TooDeep _) = ⊥
-Refused outcome (LeftOut _) = ⊥
-Refused outcome NoMemory = Unit {0}
-
-abbrev pub Whole : {A : Type 0} → Option (A × List Lexeme) → Result A ParseFault → Type 0
-Whole outcome (Ok a) = is_whole outcome ≡ Some a
-Whole outcome (Err e) = Refused (is_whole outcome) e
+abbrev pub Whole : {A : Type 0} → Outcome A → Result A Stop → Type 0
+Whole outcome (Ok a) = is_whole outcome ≡ Ok a
+Whole outcome (Err e) = Fails (is_whole outcome) e

@@ -4,49 +4,49 @@
 mod fault;
 mod level;
 mod screens;
+mod stop;
 mod words;
 
-ghost use Rattle.std.specs.Prelude.{◌≡◌, ◌^◌, ◌<◌, [], ◌∷◌, length, MatchOption, Some, IfErr};
+ghost use Rattle.std.specs.Prelude.{◌≡◌, [], ◌∷◌, length, MatchOption, Ok, IfErr};
 ghost use Rattle.std.specs.Option.{option_copied};
 ghost use Rattle.acn_lex.specs.Lexeme.{lexemes, lexeme};
 ghost use Rattle.acn_cursor.specs.Steps as spec;
-ghost use Rattle.acn_cursor.specs.Steps.{ReadsFreely, IsSyntax};
+ghost use Rattle.acn_cursor.specs.Steps.{ReadsFreely};
+ghost use Rattle.acn_cursor.specs.declared.stop.Stop.TheVariants.{Refused};
 
 use acn_lex::{Kind, Token, number_of, same_kind};
 pub use fault::ParseFault;
 pub use level::MOST_LEVEL;
 pub use screens::{left_out, screened, too_deep};
 use std::marker::Model;
+pub use stop::{Stop, in_file};
 pub use words::{identifier, reference};
 
-/// The tokens that are left to read, and the number of the next one.
+/// The tokens that are left to read.
 ///
 /// A step that takes one token or none leaves the cursor as it was where it fails. After an `Err` of a parser that is made
-/// of several steps nothing is said of the tokens that are left: the cursor is then to be let go.
+/// of several steps nothing is said of the tokens that are left: the cursor is then to be let go. A refusal keeps how many
+/// tokens were left where a step failed.
 #[derive(Drop)]
 pub struct Cursor<'a> {
     tokens: &'a [Token<'a>],
-    at: u32,
 }
 
 impl<'a> Model for Cursor<'a> {
-    ghost use Rattle.std.specs.Prelude.{List, ◌+◌, ◌^◌, ◌<◌, length};
+    ghost use Rattle.std.specs.Prelude.{List};
     ghost use Rattle.acn_lex.specs.Lexeme.{Lexeme, lexemes};
 
     ghost Value = { List Lexeme };
 
     ghost view = { λ c. lexemes c.tokens.now };
-
-    ghost invariant = { λ c. c.at + length c.tokens.now < 2 ^ 32 };
 }
 
 impl<'a> Cursor<'a> {
     /// A cursor before the first of these tokens.
     pub fn new(tokens: &'a [Token<'a>]) -> Cursor<'a>
-        requires { length tokens.now < 2 ^ 32 }
         ensures { result ≡ lexemes tokens.now }
     {
-        Cursor { tokens, at: 0 }
+        Cursor { tokens }
     }
 
     /// Takes the next token, if there is one.
@@ -57,7 +57,6 @@ impl<'a> Cursor<'a> {
             [] => None,
             [first, rest @ ..] => {
                 self.tokens = rest;
-                self.at += 1;
                 Some(*first)
             }
         }
@@ -77,7 +76,7 @@ impl<'a> Cursor<'a> {
     /// Takes the next token, if it is of this kind and text.
     #[tactic(auto, unfolding(crate::specs::Steps::eat, crate::specs::Steps::after))]
     pub fn eat(&mut self, kind: Kind, text: &[u8]) -> bool
-        ensures { spec.eat kind text.now self.old ≡ Some (result, self.new) }
+        ensures { spec.eat kind text.now self.old ≡ Ok (result, self.new) }
     {
         let found = self.sees(kind, text);
         if found {
@@ -88,7 +87,7 @@ impl<'a> Cursor<'a> {
 
     /// Takes the next token, which has to be of this kind and text.
     #[tactic(auto, unfolding(crate::specs::Steps::expect))]
-    pub fn expect(&mut self, kind: Kind, text: &[u8]) -> Result<(), ParseFault>
+    pub fn expect(&mut self, kind: Kind, text: &[u8]) -> Result<(), Stop>
         ensures read { ReadsFreely (spec.expect kind text.now self.old) result self.new }
         ensures kept { IfErr result (λ _. self.new ≡ self.old) }
     {
@@ -133,7 +132,7 @@ impl<'a> Cursor<'a> {
 
     /// Takes the next token, which has to be a number.
     #[tactic(auto, unfolding(crate::specs::Steps::number))]
-    pub fn number(&mut self) -> Result<u64, ParseFault>
+    pub fn number(&mut self) -> Result<u64, Stop>
         ensures read { ReadsFreely (spec.number self.old) result self.new }
         ensures kept { IfErr result (λ _. self.new ≡ self.old) }
     {
@@ -149,10 +148,10 @@ impl<'a> Cursor<'a> {
         }
     }
 
-    /// That no rule reads the next token. It keeps the token's number, which behind the last is the count of tokens.
-    pub fn refuse(&self) -> ParseFault
-        ensures { IsSyntax result }
+    /// That no rule reads the tokens that are left.
+    pub fn refuse(&self) -> Stop
+        ensures { result ≡ Refused (length self.now) }
     {
-        ParseFault::Syntax { at: self.at }
+        Stop::Refused { left: self.left() }
     }
 }

@@ -8,8 +8,8 @@ use Rattle.acn_lex.specs.Lexeme.{Lexeme, Placed}
 use Rattle.acn_lex.specs.Lexes.{Lexes}
 use Rattle.acn_lex.specs.declared.lexing.TheConstants.{MOST_TOKENS}
 use Rattle.acn_cursor.specs.Steps.{token}
-use Rattle.acn_cursor.specs.declared.fault.ParseFault.{ParseFault}
-use Rattle.acn_cursor.specs.declared.fault.ParseFault.TheVariants as parse
+use Rattle.acn_cursor.specs.declared.stop.Stop.{Stop}
+use Rattle.acn_cursor.specs.declared.stop.Stop.TheVariants as stop
 use Rattle.acn_lex.specs.declared.fault.LexFault.{LexFault}
 use Rattle.acn_lex.specs.declared.fault.LexFault.TheVariants as lex
 use Rattle.acn_run.specs.declared.form.FormFault.{FormFault}
@@ -122,6 +122,6 @@ abbrev pub lex_fault_of : LexFault → FormFault
 lex_fault_of lex.NoMemory = NoMemory
 lex_fault_of fault = OtherForm
 
-abbrev pub parse_fault_of : ParseFault → FormFault
-parse_fault_of parse.NoMemory = NoMemory
-parse_fault_of fault = OtherForm
+abbrev pub stop_fault_of : Stop → FormFault
+stop_fault_of (stop.Refused _) = OtherForm
+stop_fault_of stop.NoMemory = NoMemory

@@ -31,17 +31,24 @@ next = do
 abbrev pub has_next : List Lexeme → Bool
 has_next ts = sees Mark (codes ",") ts
 
-unfoldable pub heading : (owner name : List ℕ) → Parser (Unit {0})
-heading owner name = do
+unfoldable pub opening : (owner : List ℕ) → Parser (Unit {0})
+opening owner = do
   expect Word owner
   expect Word (codes "DEFINITIONS")
   expect Mark (codes "::=")
   expect Word (codes "BEGIN")
+
+unfoldable pub assigned : (name : List ℕ) → Parser (Unit {0})
+assigned name = do
   expect Word name
   expect Mark (codes "::=")
   expect Word (codes "SEQUENCE")
   expect Mark (codes "{")
-  pure tt
+
+unfoldable pub heading : (owner name : List ℕ) → Parser (Unit {0})
+heading owner name = do
+  opening owner
+  assigned name
 
 unfoldable pub form : (owner name : List ℕ) → Parser (List Component)
 form owner name = do

@@ -1,13 +1,12 @@
-ghost use Rattle.std.specs.Prelude.{◌≡◌, ◌≤◌, ◌∷◌, length, IfOk};
+ghost use Rattle.std.specs.Prelude.{◌≡◌, ◌∷◌, IfOk};
 ghost use Rattle.acn_lex.specs.Lexeme.{lexemes};
-ghost use Rattle.acn_lex.specs.declared.lexing.TheConstants.{MOST_TOKENS};
-ghost use Rattle.acn_cursor.specs.Steps.{Reads, Whole, many, word};
+ghost use Rattle.acn_cursor.specs.Steps.{Reads, ReadsFreely, Whole, many, word};
 ghost use Rattle.acn_run.specs.Form.{least_width};
 ghost use Rattle.acn_run.specs.Parsing as spec;
 ghost use Rattle.acn_run.specs.Words as words;
 
 use crate::words::is_identifier;
-use acn_cursor::{Cursor, ParseFault};
+use acn_cursor::{Cursor, Stop};
 use acn_lex::{Kind, Token};
 use acn_num::{Name, NoMemory, Row, bits_for};
 use std::alloc::Global;
@@ -29,7 +28,7 @@ fn width_of(span: u64) -> u32
 }
 
 #[tactic(auto, unfolding(acn_cursor::specs::Steps::word))]
-fn identifier(alloc: Global, cursor: &mut Cursor<'_>) -> Result<Name, ParseFault>
+fn identifier(alloc: Global, cursor: &mut Cursor<'_>) -> Result<Name, Stop>
     ensures { Reads (word words.is_identifier cursor.old) result cursor.new }
 {
     match cursor.text_of(Kind::Word) {
@@ -46,12 +45,7 @@ fn identifier(alloc: Global, cursor: &mut Cursor<'_>) -> Result<Name, ParseFault
 }
 
 #[tactic(auto, unfolding(crate::specs::Parsing::ordered))]
-fn ordered(
-    cursor: &mut Cursor<'_>,
-    name: Name,
-    low: u64,
-    high: u64,
-) -> Result<Component, ParseFault>
+fn ordered(cursor: &mut Cursor<'_>, name: Name, low: u64, high: u64) -> Result<Component, Stop>
     ensures { Reads (spec.ordered name low high cursor.old) result cursor.new }
 {
     if low <= high {
@@ -68,7 +62,7 @@ fn ordered(
 }
 
 #[tactic(auto, unfolding(crate::specs::Parsing::component))]
-fn read_component(alloc: Global, cursor: &mut Cursor<'_>) -> Result<Component, ParseFault>
+fn read_component(alloc: Global, cursor: &mut Cursor<'_>) -> Result<Component, Stop>
     ensures { Reads (spec.component cursor.old) result cursor.new }
 {
     let name = identifier(alloc, cursor)?;
@@ -82,7 +76,7 @@ fn read_component(alloc: Global, cursor: &mut Cursor<'_>) -> Result<Component, P
 }
 
 #[tactic(auto, unfolding(crate::specs::Parsing::next))]
-fn next(alloc: Global, cursor: &mut Cursor<'_>) -> Result<Component, ParseFault>
+fn next(alloc: Global, cursor: &mut Cursor<'_>) -> Result<Component, Stop>
     ensures { Reads (spec.next cursor.old) result cursor.new }
 {
     cursor.expect(Kind::Mark, b",")?;
@@ -90,7 +84,7 @@ fn next(alloc: Global, cursor: &mut Cursor<'_>) -> Result<Component, ParseFault>
 }
 
 // The components behind the first, each with a comma before it. They are added to the first.
-fn others(alloc: Global, cursor: &mut Cursor<'_>) -> Result<Row<Component>, ParseFault>
+fn others(alloc: Global, cursor: &mut Cursor<'_>) -> Result<Row<Component>, Stop>
     ensures { Reads (many spec.has_next spec.next cursor.old) result cursor.new }
 {
     let mut components = Row::new(alloc);
@@ -104,19 +98,32 @@ fn others(alloc: Global, cursor: &mut Cursor<'_>) -> Result<Row<Component>, Pars
     Ok(components)
 }
 
-#[tactic(auto, unfolding(crate::specs::Parsing::heading))]
-fn heading(cursor: &mut Cursor<'_>, owner: &[u8], name: &[u8]) -> Result<(), ParseFault>
-    ensures { Reads (spec.heading owner.now name.now cursor.old) result cursor.new }
+#[tactic(auto, unfolding(crate::specs::Parsing::opening))]
+fn opening(cursor: &mut Cursor<'_>, owner: &[u8]) -> Result<(), Stop>
+    ensures { ReadsFreely (spec.opening owner.now cursor.old) result cursor.new }
 {
     cursor.expect(Kind::Word, owner)?;
     cursor.expect(Kind::Word, b"DEFINITIONS")?;
     cursor.expect(Kind::Mark, b"::=")?;
-    cursor.expect(Kind::Word, b"BEGIN")?;
+    cursor.expect(Kind::Word, b"BEGIN")
+}
+
+#[tactic(auto, unfolding(crate::specs::Parsing::assigned))]
+fn assigned(cursor: &mut Cursor<'_>, name: &[u8]) -> Result<(), Stop>
+    ensures { ReadsFreely (spec.assigned name.now cursor.old) result cursor.new }
+{
     cursor.expect(Kind::Word, name)?;
     cursor.expect(Kind::Mark, b"::=")?;
     cursor.expect(Kind::Word, b"SEQUENCE")?;
-    cursor.expect(Kind::Mark, b"{")?;
-    Ok(())
+    cursor.expect(Kind::Mark, b"{")
+}
+
+#[tactic(auto, unfolding(crate::specs::Parsing::heading))]
+fn heading(cursor: &mut Cursor<'_>, owner: &[u8], name: &[u8]) -> Result<(), Stop>
+    ensures { ReadsFreely (spec.heading owner.now name.now cursor.old) result cursor.new }
+{
+    opening(cursor, owner)?;
+    assigned(cursor, name)
 }
 
 fn joined(
@@ -139,7 +146,7 @@ fn form(
     cursor: &mut Cursor<'_>,
     owner: &[u8],
     name: &[u8],
-) -> Result<Row<Component>, ParseFault>
+) -> Result<Row<Component>, Stop>
     ensures { Reads (spec.form owner.now name.now cursor.old) result cursor.new }
 {
     heading(cursor, owner, name)?;
@@ -156,8 +163,7 @@ pub fn read_components(
     tokens: &[Token<'_>],
     owner: &[u8],
     name: &[u8],
-) -> Result<Row<Component>, ParseFault>
-    requires { length tokens.now ≤ MOST_TOKENS }
+) -> Result<Row<Component>, Stop>
     ensures { Whole (spec.form owner.now name.now (lexemes tokens.now)) result }
 {
     let mut cursor = Cursor::new(tokens);

@@ -5,7 +5,7 @@ ghost use Rattle.acn_run.specs.declared.components.Component.{Component};
 ghost use Rattle.acn_num.specs.declared.limits.TheConstants.{MOST_FILE_BYTES};
 
 use crate::components::{Component, read_components};
-use acn_cursor::ParseFault;
+use acn_cursor::Stop;
 use acn_lex::{LexFault, lex};
 use acn_num::{NoMemory, Row};
 use std::alloc::Global;
@@ -100,14 +100,12 @@ fn lex_fault(fault: LexFault) -> FormFault
     }
 }
 
-fn parse_fault(fault: ParseFault) -> FormFault
-    ensures { result ≡ spec.parse_fault_of fault }
+fn stop_fault(stop: Stop) -> FormFault
+    ensures { result ≡ spec.stop_fault_of stop }
 {
-    match fault {
-        ParseFault::Syntax { .. } => FormFault::OtherForm,
-        ParseFault::TooDeep { .. } => FormFault::OtherForm,
-        ParseFault::LeftOut { .. } => FormFault::OtherForm,
-        ParseFault::NoMemory => FormFault::NoMemory,
+    match stop {
+        Stop::Refused { .. } => FormFault::OtherForm,
+        Stop::NoMemory => FormFault::NoMemory,
     }
 }
 
@@ -129,7 +127,7 @@ fn written(
     };
     match read_components(alloc, tokens.list.items(), owner, name) {
         Ok(components) => Ok(components),
-        Err(fault) => Err(parse_fault(fault)),
+        Err(stop) => Err(stop_fault(stop)),
     }
 }
 

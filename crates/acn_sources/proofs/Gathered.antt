@@ -11,7 +11,7 @@ use Rattle.acn_acn_syntax.specs.declared.maps.MapTables.{MapTables}
 use Rattle.acn_world.specs.declared.sources.Sources.{Sources}
 use Rattle.acn_sources.specs.Kinds.{IsAsn, IsAsnFault, IsAcn, IsAcnFault, IsMap, IsMapFault}
 use Rattle.acn_sources.specs.Files.{asn_of, acn_of, map_of, asn_bytes, acn_bytes, map_bytes, AreTrees, IsOnlyTree, AreSources, HasTree, HasFault, IsAdded, IsFirstFault, AnswersSources, AnswersFirst}
-use Rattle.acn_sources.specs.Reading.{AnswersFault, IsSameFault}
+use Rattle.acn_sources.specs.Reading.{AnswersFault}
 use Rattle.acn_sources.specs.declared.fault.FileFault.{FileFault}
 use Rattle.acn_sources.specs.declared.fault.FileFault.TheVariants.{NoMemory}
 use Rattle.acn_sources.specs.declared.fault.SourcesFault.{SourcesFault}
@@ -201,9 +201,12 @@ first_fault files n f e before at h = record { file = f; stands = at; fault = h;
 pub no_fault : (files : List File) (n : ℕ) (e : SourcesFault) → AreSound files n → length files ≤ n → IsFirstFault files e → ⊥
 no_fault files n e before le h = (before e.file h.file (omega (arith, slice_get_within files e.file h.file h.stands, le)) h.stands).sound e.fault h.fault
 
+abbrev fault_at : ℕ → FileFault → SourcesFault
+fault_at n g = record { file = n; fault = g }
+
 -- the fault that is answered is the first
 pub is_first : (files : List File) (n : ℕ) (f : File) (g : FileFault) (e : SourcesFault) → AreSound files n → slice_get files n ≡ Some f
-    → (HasTree f → g ≡ NoMemory) → ((x : FileFault) → HasFault f x → IsSameFault x g ⊎ (g ≡ NoMemory)) → IsFirstFault files e → AnswersFirst e (Err (record { file = n; fault = g }))
+    → (HasTree f → g ≡ NoMemory) → ((x : FileFault) → HasFault f x → (x ≡ g) ⊎ (g ≡ NoMemory)) → IsFirstFault files e → AnswersFirst e (Err (record { file = n; fault = g }))
 is_first files n f g e before at each first h = by_place (cases_lt e.file n) (cases_lt n e.file)
   where
     by_place : (e.file < n) ⊎ (n ≤ e.file) → (n < e.file) ⊎ (e.file ≤ n) → AnswersFirst e (Err (record { file = n; fault = g }))
@@ -214,8 +217,8 @@ is_first files n f g e before at each first h = by_place (cases_lt e.file n) (ca
         let same : Some h.file ≡ Some f = sym h.stands ∙ ap (slice_get files) is ∙ at in
         by_answer is (first e.fault (subst (λ x. HasFault x e.fault) (let k : h.file ≡ f = cc same in k) h.fault))
       where
-        by_answer : e.file ≡ n → IsSameFault e.fault g ⊎ (g ≡ NoMemory) → AnswersFirst e (Err (record { file = n; fault = g }))
-        by_answer is (inl k) = inl (sym is, k)
+        by_answer : e.file ≡ n → (e.fault ≡ g) ⊎ (g ≡ NoMemory) → AnswersFirst e (Err (record { file = n; fault = g }))
+        by_answer is (inl k) = inl (ap (λ x. fault_at x e.fault) is ∙ ap (fault_at n) k)
         by_answer is (inr k) = inr k
 
 -- what stands where no file is

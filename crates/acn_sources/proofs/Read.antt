@@ -9,9 +9,9 @@ use Rattle.acn_lex.specs.Lexeme.{Lexeme, Placed, placed, lexemes}
 use Rattle.acn_lex.specs.Lexes.{Lexes, Faults}
 use Rattle.acn_cursor.specs.declared.fault.ParseFault.{ParseFault}
 use Rattle.acn_cursor.specs.declared.fault.ParseFault.TheVariants as parse
-use Rattle.acn_cursor.specs.Exact.{IsFound, IsOnly, IsLeftOut, IsTooDeep}
+use Rattle.acn_cursor.specs.Exact.{IsFound, IsOnly, IsLeftOut, IsTooDeep, IsPlaced}
 use Rattle.acn_cursor.specs.Screens.{first_left_out, first_too_deep}
-use Rattle.acn_sources.specs.Reading.{Grammar, AreTokens, AreFit, unplaced, place_of, length_of, lexical, located, IsTree, IsFault, AnswersTree, AnswersFault, IsSameFault}
+use Rattle.acn_sources.specs.Reading.{Grammar, AreTokens, AreFit, unplaced, place_of, length_of, lexical, located, IsTree, IsFault, AnswersTree, AnswersFault}
 use Rattle.acn_sources.specs.declared.fault.FileFault.{FileFault}
 use Rattle.acn_sources.specs.declared.fault.FileFault.TheVariants.{BadByte, Unclosed, TooManyTokens, TooWide, LeftOut, TooDeep, Syntax, NoMemory}
 
@@ -86,6 +86,7 @@ module _ {T : Type 0} (g : Grammar T) (bytes : List ℕ) (ts : List Placed) (are
     pub only : (t : T) → g.IsProper t → unplaced ts ≡ g.tokens_of t → IsOnly r t
     pub left_out : IsLeftOut g.left_out (unplaced ts) r
     pub too_deep : IsTooDeep g.left_out (unplaced ts) r
+    pub place : IsPlaced (g.stops_at (unplaced ts)) r
 
   nothing_left_out : (r : Result T ParseFault) → IsParsed r → ((n : ℕ) → r ≢ Err (parse.LeftOut n)) → first_left_out g.left_out (unplaced ts) ≡ None
   nothing_left_out r p other = by_first (first_left_out g.left_out (unplaced ts)) refl
@@ -131,6 +132,13 @@ module _ {T : Type 0} (g : Grammar T) (bytes : List ℕ) (ts : List Placed) (are
     these (λ us. at ≡ place_of (length bytes) us h.1) h.0 h.2 h.5,
   )
 
+  stop_of : (at : ℕ) → IsFault g bytes (Syntax at) → (k : ℕ) × (g.stops_at (unplaced ts) ≡ Some k) × (at ≡ place_of (length bytes) ts k)
+  stop_of at h = (
+    h.1,
+    these (λ us. g.stops_at (unplaced us) ≡ Some h.1) h.0 h.2 h.5,
+    these (λ us. at ≡ place_of (length bytes) us h.1) h.0 h.2 h.6,
+  )
+
   tree_answer : (t : T) → IsParsed (Ok t) → IsAnswer g bytes (Ok t)
   tree_answer t p = record {
     tree = (p.found.0, ts, are, fit (Ok t) p (λ n k. absurd cc) (λ n k. absurd cc), p.found.1);
@@ -153,7 +161,7 @@ module _ {T : Type 0} (g : Grammar T) (bytes : List ℕ) (ts : List Placed) (are
   syntax_answer n p = record {
     tree = tt;
     each = λ u h. absurd (only_of (Err (parse.Syntax n)) p u h);
-    fault = λ _. (ts, n, are, fit (Err (parse.Syntax n)) p (λ n k. absurd cc) (λ n k. absurd cc), (λ t proper e. p.only t proper e), refl);
+    fault = λ _. (ts, n, are, fit (Err (parse.Syntax n)) p (λ n k. absurd cc) (λ n k. absurd cc), (λ t proper e. p.only t proper e), p.place, refl);
     first = by_fault;
   }
     where
@@ -164,7 +172,10 @@ module _ {T : Type 0} (g : Grammar T) (bytes : List ℕ) (ts : List Placed) (are
       by_fault (TooWide at) h = absurd (sound (lex.TooWide at) h)
       by_fault (LeftOut at m) h = let q = left_of at m h in let k : Err (parse.Syntax n) ≡ Err (parse.LeftOut q.0) = (p.left_out q.0).1 q.1 in absurd cc
       by_fault (TooDeep at) h = let q = deep_of at h in let k : Err (parse.Syntax n) ≡ Err (parse.TooDeep q.0) = (p.too_deep q.0).1 (q.1, q.2) in absurd cc
-      by_fault (Syntax at) h = inl tt
+      by_fault (Syntax at) h =
+          let q = stop_of at h in
+          let k : q.0 ≡ n = (let s : Some q.0 ≡ Some n = sym q.1 ∙ p.place in cc) in
+          inl (cc (q.2 ∙ ap (λ j. place_of (length bytes) ts j) k))
       by_fault NoMemory h = absurd h
 
   left_answer : (n : ℕ) → IsParsed (Err (parse.LeftOut n)) → IsAnswer g bytes (Err (LeftOut (place_of (length bytes) ts n) (length_of ts n)))
@@ -227,11 +238,12 @@ pub token_answer : {T : Type 0} (g : Grammar T) (bytes : List ℕ) (list : List 
     → Lexes 0 bytes (map placed list) → length list ≤ MOST_TOKENS
     → ((ts : List Placed) → Lexes 0 bytes ts → length ts ≤ MOST_TOKENS → map placed list ≡ ts) → ((f : LexFault) → Faults bytes f → ⊥)
     → IsFound g.tokens_of g.IsProper (lexemes list) r → ((t : T) → g.IsProper t → lexemes list ≡ g.tokens_of t → IsOnly r t)
-    → IsLeftOut g.left_out (lexemes list) r → IsTooDeep g.left_out (lexemes list) r → IsAnswer g bytes (finished (length bytes) (map placed list) r)
-token_answer g bytes list r tokens few each first found only left_out too_deep =
+    → IsLeftOut g.left_out (lexemes list) r → IsTooDeep g.left_out (lexemes list) r → IsPlaced (g.stops_at (lexemes list)) r → IsAnswer g bytes (finished (length bytes) (map placed list) r)
+token_answer g bytes list r tokens few each first found only left_out too_deep place =
     parsed_answer g bytes (map placed list) (tokens, omega (arith, few, placed_length list)) (λ us h. each us h.0 h.1) first r ((record {
       found = rw (unplaced_is list) found;
       only = rw (unplaced_is list) only;
       left_out = rw (unplaced_is list) left_out;
       too_deep = rw (unplaced_is list) too_deep;
+      place = rw (unplaced_is list) place;
     }))

@@ -4,7 +4,6 @@ use Rattle.std.specs.List.{flat_map}
 use Rattle.acn_num.specs.declared.limits.TheConstants.{MOST_FILE_BYTES}
 use Rattle.acn_world.specs.declared.sources.Sources.{Sources}
 use Rattle.acn_sources.specs.Kinds.{IsAsn, IsAsnFault, IsAcn, IsAcnFault, IsMap, IsMapFault}
-use Rattle.acn_sources.specs.Reading.{IsSameFault}
 use Rattle.acn_sources.specs.declared.fault.FileFault.{FileFault}
 use Rattle.acn_sources.specs.declared.fault.FileFault.TheVariants.{NoMemory}
 use Rattle.acn_sources.specs.declared.fault.SourcesFault.{SourcesFault}
@@ -79,7 +78,7 @@ AnswersSources s (Err e) = e.fault ≡ NoMemory
 -- the answer is this fault, unless memory ran out
 abbrev pub AnswersFirst : SourcesFault → Result Sources SourcesFault → Type 0
 AnswersFirst e (Ok x) = ⊥
-AnswersFirst e (Err f) = ((f.file ≡ e.file) × IsSameFault e.fault f.fault) ⊎ (f.fault ≡ NoMemory)
+AnswersFirst e (Err f) = (e ≡ f) ⊎ (f.fault ≡ NoMemory)
 
 -- files are as long as they may be
 abbrev pub AreShort : List File → Type 0

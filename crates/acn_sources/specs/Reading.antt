@@ -41,11 +41,12 @@ located end ts (parse.TooDeep n) = TooDeep (place_of end ts n)
 located end ts (parse.LeftOut n) = LeftOut (place_of end ts n) (length_of ts n)
 located end ts parse.NoMemory = NoMemory
 
--- A kind of file: the tokens of its trees, which of them are proper, and what is left out of it.
+-- A kind of file: the tokens of its trees, which of them are proper, what is left out of it, and the number of the token where its productions stop.
 pub record Grammar (T : Type 0) : Type 1 where
   pub tokens_of : T → List Lexeme
   pub IsProper : T → Type 0
   pub left_out : List Lexeme
+  pub stops_at : List Lexeme → Option ℕ
 
 module _ {T : Type 0} (g : Grammar T) where
   -- nothing is left out of these tokens, and none is too deep
@@ -57,7 +58,7 @@ module _ {T : Type 0} (g : Grammar T) where
   abbrev pub IsTree : List ℕ → T → Type 0
   IsTree bytes t = g.IsProper t × (ts : List Placed) × AreTokens bytes ts × AreFit ts × (unplaced ts ≡ g.tokens_of t)
 
-  -- The first fault of a file. A syntactical one may keep the place of any token.
+  -- the first fault of a file
   abbrev pub IsFault : List ℕ → FileFault → Type 0
   IsFault bytes (BadByte at) = Faults bytes (lex.BadByte at)
   IsFault bytes (Unclosed at) = Faults bytes (lex.Unclosed at)
@@ -68,7 +69,7 @@ module _ {T : Type 0} (g : Grammar T) where
   IsFault bytes (TooDeep at) = (ts : List Placed) × (k : ℕ) × AreTokens bytes ts × (first_left_out g.left_out (unplaced ts) ≡ None)
       × (first_too_deep (unplaced ts) ≡ Some k) × (at ≡ place_of (length bytes) ts k)
   IsFault bytes (Syntax at) = (ts : List Placed) × (k : ℕ) × AreTokens bytes ts × AreFit ts
-      × ((t : T) → g.IsProper t → unplaced ts ≡ g.tokens_of t → ⊥) × (at ≡ place_of (length bytes) ts k)
+      × ((t : T) → g.IsProper t → unplaced ts ≡ g.tokens_of t → ⊥) × (g.stops_at (unplaced ts) ≡ Some k) × (at ≡ place_of (length bytes) ts k)
   IsFault bytes NoMemory = ⊥
 
 -- the answer is this tree, unless memory ran out
@@ -76,12 +77,7 @@ abbrev pub AnswersTree : {T : Type 0} → T → Result T FileFault → Type 0
 AnswersTree t (Ok x) = x ≡ t
 AnswersTree t (Err e) = e ≡ NoMemory
 
--- one fault, but for the place of a syntactical one
-abbrev pub IsSameFault : FileFault → FileFault → Type 0
-IsSameFault (Syntax _) (Syntax _) = Unit {0}
-IsSameFault e f = e ≡ f
-
 -- the answer is this fault, unless memory ran out
 abbrev pub AnswersFault : {T : Type 0} → FileFault → Result T FileFault → Type 0
 AnswersFault e (Ok x) = ⊥
-AnswersFault e (Err f) = IsSameFault e f ⊎ (f ≡ NoMemory)
+AnswersFault e (Err f) = (e ≡ f) ⊎ (f ≡ NoMemory)

@@ -80,7 +80,8 @@ fn located(fault: ParseFault, tokens: &[Token<'_>], end: u32) -> FileFault
 /// - `BadByte`, `Unclosed`, `TooManyTokens` or `TooWide` exactly where the file has this fault instead of tokens.
 /// - `LeftOut` exactly where one of the tokens is a word or mark that this profile leaves out, with the first.
 /// - `TooDeep` exactly where none is and the level of a token is too great, with the first.
-/// - `Syntax` exactly where neither is and no proper tree has these tokens.
+/// - `Syntax` exactly where neither is and no proper tree has these tokens, with the token where the productions stop, or the
+///   end of the file.
 /// - `NoMemory` where memory ran out.
 pub fn read_asn(alloc: Global, bytes: &[u8]) -> Result<AsnModules, FileFault>
     requires { length bytes.now ≤ MOST_FILE_BYTES }

@@ -1,21 +1,25 @@
-use Rattle.std.proofs.Common.{◌≡◌, [], List, subst}
+use Rattle.std.proofs.Common.{◌≡◌, [], List, subst, length}
 use Rattle.std.specs.Prelude.{Err}
 use Rattle.acn_lex.specs.declared.Token.{Token}
-use Rattle.acn_lex.specs.Lexeme.{lexemes}
+use Rattle.std.proofs.lemmas.List.{length-map}
+use Rattle.acn_lex.specs.Lexeme.{lexeme, lexemes}
+use Rattle.acn_cursor.specs.Exact.{in_file, stops_at}
 use Rattle.acn_cursor.proofs.Wholes.{IsExact, screened_exact, whole_exact}
 use Rattle.acn_acn_syntax.specs.MapTokens.{tokens_of, IsProper}
 use Rattle.acn_acn_parse.specs.MapReading.{tables}
 use Rattle.acn_acn_parse.proofs.MapLaws.{tables_found, tables_again}
 use Rattle.acn_acn_parse.proofs.maps.parse_map.Goals as goal
 
-read : (c : goal.After-whole) → IsExact tokens_of IsProper [] (lexemes c.args.tokens.now.list) c.whole.result
+read : (c : goal.After-in_file) → IsExact tokens_of IsProper [] (lexemes c.args.tokens.now.list) (stops_at tables (lexemes c.args.tokens.now.list)) c.in_file.result
 read c =
-    subst (λ (ts : List Token). IsExact tokens_of IsProper [] (lexemes ts) c.whole.result) c.items-list.ensures
-    (whole_exact tokens_of IsProper [] (lexemes c.items-list.result.now) tables tables_found tables_again c.whole.result (c.in-Ok.ensures {u = tt}) c.whole.ensures)
+    let list = c.items-list.result.now in
+    rw (c.in_file.ensures, ← length-map list lexeme)
+    (subst (λ (ts : List Token). IsExact tokens_of IsProper [] (lexemes ts) (stops_at tables (lexemes ts)) (in_file (length (lexemes list)) c.whole-answer.result)) c.items-list.ensures
+    (whole_exact tokens_of IsProper [] (lexemes list) tables tables_found tables_again c.whole-answer.result (c.in-Ok.ensures {u = tt}) c.whole-answer.ensures))
 
-stopped : (c : goal.In-Err) → IsExact tokens_of IsProper [] (lexemes c.args.tokens.now.list) (Err c.in-Err.fault)
+stopped : (c : goal.In-Err) → IsExact tokens_of IsProper [] (lexemes c.args.tokens.now.list) (stops_at tables (lexemes c.args.tokens.now.list)) (Err c.in-Err.fault)
 stopped c =
-    subst (λ (ts : List Token). IsExact tokens_of IsProper [] (lexemes ts) (Err c.in-Err.fault)) c.items-list.ensures
+    subst (λ (ts : List Token). IsExact tokens_of IsProper [] (lexemes ts) (stops_at tables (lexemes ts)) (Err c.in-Err.fault)) c.items-list.ensures
     (screened_exact tokens_of IsProper [] (lexemes c.items-list.result.now) c.in-Err.fault (c.in-Err.ensures {u = tt}))
 
 pub returns-in-Ok-clause-found : goal.returns-in-Ok-clause-found
@@ -30,6 +34,9 @@ returns-in-Ok-clause-left_out c = (read c).left_out
 pub returns-in-Ok-clause-too_deep : goal.returns-in-Ok-clause-too_deep
 returns-in-Ok-clause-too_deep c = (read c).too_deep
 
+pub returns-in-Ok-clause-place : goal.returns-in-Ok-clause-place
+returns-in-Ok-clause-place c = (read c).at
+
 pub returns-in-Err-clause-only : goal.returns-in-Err-clause-only
 returns-in-Err-clause-only c = (stopped c).only
 
@@ -38,3 +45,6 @@ returns-in-Err-clause-left_out c = (stopped c).left_out
 
 pub returns-in-Err-clause-too_deep : goal.returns-in-Err-clause-too_deep
 returns-in-Err-clause-too_deep c = (stopped c).too_deep
+
+pub returns-in-Err-clause-place : goal.returns-in-Err-clause-place
+returns-in-Err-clause-place c = (stopped c).at

@@ -1,8 +1,8 @@
-use Rattle.std.proofs.Common.{◌≡◌, ℕ, zero, suc, ◌+◌, ◌-◌, ◌<◌, true, false, ap, subst, arith, rules, sym, refl, ◌∙◌}
+use Rattle.std.proofs.Common.{◌≡◌, ℕ, zero, suc, ◌-◌, ◌<◌, true, subst, arith, rules, refl}
 use Rattle.acn_lex.specs.Lexeme.{Lexeme}
 use Rattle.std.specs.Prelude.{List}
 use Rattle.acn_cursor.specs.Steps.{Reads}
-use Rattle.acn_cursor.proofs.Turns.{goes_on, stops, refused}
+use Rattle.acn_cursor.proofs.Turns.{goes_on}
 use Rattle.acn_asn_types.specs.Sets.{has_part_mark, has_meet_mark, next_meet, next_part, set_in, set_at}
 use Rattle.acn_asn_types.proofs.sets.+sets.Goals as goal
 

@@ -1,5 +1,5 @@
 -- A call goes to a form inside, or to the sets that are one level deeper.
-use Rattle.std.proofs.Common.{◌≡◌, ℕ, ◌+◌, ◌-◌, ◌*◌}
+use Rattle.std.proofs.Common.{◌≡◌, ◌+◌, ◌-◌, ◌*◌}
 use Rattle.acn_cursor.specs.Steps.{repeat, many, with_front}
 use Rattle.acn_asn_types.specs.Sets.{has_part_mark, has_meet_mark, next_meet, next_part, set_at}
 use Rattle.acn_asn_types.proofs.sets.+sets.Given as goal

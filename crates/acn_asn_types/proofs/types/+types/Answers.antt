@@ -1,7 +1,7 @@
-use Rattle.std.proofs.Common.{◌≡◌, ℕ, zero, suc, ◌+◌, ◌-◌, ◌<◌, true, subst, arith, rules, refl, sym}
-use Rattle.std.specs.Prelude.{List, Option, Some}
+use Rattle.std.proofs.Common.{◌≡◌, ℕ, zero, suc, ◌-◌, ◌<◌, true, subst, arith, rules, refl}
+use Rattle.std.specs.Prelude.{List, Ok}
 use Rattle.acn_lex.specs.Lexeme.{Lexeme}
-use Rattle.acn_cursor.specs.Steps.{Reads}
+use Rattle.acn_cursor.specs.Steps.{Reads, Outcome}
 use Rattle.acn_cursor.proofs.Turns.{goes_on}
 use Rattle.acn_asn_types.specs.Sets.{set_at}
 use Rattle.acn_asn_types.specs.Lists.{has_comma, next}
@@ -33,8 +33,8 @@ deeper (suc n) ts h = let e : suc n - 1 ≡ n = omega arith in rw e refl
 pub type_at-returns : goal.type_at-returns
 type_at-returns t c = subst (λ o. Reads o c.type_in.result c.type_in.new.cursor) (deeper c.args.depth c.args.cursor.now (omega arith)) c.type_in.ensures
 
-abbrev found : Step → List Lexeme → Option (Step × List Lexeme)
-found s r = Some (s, r)
+abbrev found : Step → List Lexeme → Outcome Step
+found s r = Ok (s, r)
 
 pub type_in-loop-preserved : goal.type_in-loop-preserved
 type_in-loop-preserved t c =

@@ -1,5 +1,5 @@
 -- A call goes to a form inside, or to the types that are one level deeper.
-use Rattle.std.proofs.Common.{◌≡◌, ℕ, ◌+◌, ◌-◌, ◌*◌, [], ◌∷◌}
+use Rattle.std.proofs.Common.{◌≡◌, ◌+◌, ◌-◌, ◌*◌, [], ◌∷◌}
 use Rattle.acn_cursor.specs.Steps.{repeat, many, with_front}
 use Rattle.acn_asn_types.specs.Sets.{set_at}
 use Rattle.acn_asn_types.specs.Lists.{has_comma, next}

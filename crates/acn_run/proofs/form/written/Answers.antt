@@ -18,6 +18,7 @@ returns-in-Ok-read_components-clause-once c other w =
 
 pub returns-clause-other : goal.returns-clause-other
 returns-clause-other c h =
-    let is : c.parse_fault.result ≡ OtherForm = cc h in
+    let is : c.stop_fault.result ≡ OtherForm = cc h in
     let refused = rw c.items.ensures at c.in-Err-read_components.ensures in
-    written_other c.args.bytes.now c.args.owner.now c.args.name.now c.in-Ok.tokens c.in-Ok.ensures.each (refused_other _ c.in-Err-read_components.fault refused (sym c.parse_fault.ensures ∙ is))
+    let none = refused_other _ c.in-Err-read_components.stop refused (sym c.stop_fault.ensures ∙ is) in
+    written_other c.args.bytes.now c.args.owner.now c.args.name.now c.in-Ok.tokens c.in-Ok.ensures.each none.1

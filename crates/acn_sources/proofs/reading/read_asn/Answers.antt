@@ -23,37 +23,37 @@ pub returns-in-Ok-parse_asn-clause-tree : goal.returns-in-Ok-parse_asn-clause-tr
 returns-in-Ok-parse_asn-clause-tree c =
     let e = c.in-Ok-parse_asn.ensures in
     (token_answer asn_grammar c.args.bytes.now c.in-Ok.tokens.list (Ok c.in-Ok-parse_asn.tree) c.in-Ok.ensures.tokens c.in-Ok.ensures.few c.in-Ok.ensures.each c.in-Ok.ensures.first
-    e.found e.only e.left_out e.too_deep).tree
+    e.found e.only e.left_out e.too_deep e.place).tree
 
 pub returns-in-Ok-parse_asn-clause-each : goal.returns-in-Ok-parse_asn-clause-each
 returns-in-Ok-parse_asn-clause-each c =
     let e = c.in-Ok-parse_asn.ensures in
     (token_answer asn_grammar c.args.bytes.now c.in-Ok.tokens.list (Ok c.in-Ok-parse_asn.tree) c.in-Ok.ensures.tokens c.in-Ok.ensures.few c.in-Ok.ensures.each c.in-Ok.ensures.first
-    e.found e.only e.left_out e.too_deep).each
+    e.found e.only e.left_out e.too_deep e.place).each
 
 pub returns-in-Ok-parse_asn-clause-first : goal.returns-in-Ok-parse_asn-clause-first
 returns-in-Ok-parse_asn-clause-first c =
     let e = c.in-Ok-parse_asn.ensures in
     (token_answer asn_grammar c.args.bytes.now c.in-Ok.tokens.list (Ok c.in-Ok-parse_asn.tree) c.in-Ok.ensures.tokens c.in-Ok.ensures.few c.in-Ok.ensures.each c.in-Ok.ensures.first
-    e.found e.only e.left_out e.too_deep).first
+    e.found e.only e.left_out e.too_deep e.place).first
 
 pub returns-clause-each : goal.returns-clause-each
 returns-clause-each c =
     let e = c.in-Err-parse_asn.ensures in
     rw (c.located.ensures, c.items.ensures)
     (token_answer asn_grammar c.args.bytes.now c.in-Ok.tokens.list (Err c.in-Err-parse_asn.fault) c.in-Ok.ensures.tokens c.in-Ok.ensures.few c.in-Ok.ensures.each c.in-Ok.ensures.first
-    e.found e.only e.left_out e.too_deep).each
+    e.found e.only e.left_out e.too_deep e.place).each
 
 pub returns-clause-fault : goal.returns-clause-fault
 returns-clause-fault c =
     let e = c.in-Err-parse_asn.ensures in
     rw (c.located.ensures, c.items.ensures)
     (token_answer asn_grammar c.args.bytes.now c.in-Ok.tokens.list (Err c.in-Err-parse_asn.fault) c.in-Ok.ensures.tokens c.in-Ok.ensures.few c.in-Ok.ensures.each c.in-Ok.ensures.first
-    e.found e.only e.left_out e.too_deep).fault
+    e.found e.only e.left_out e.too_deep e.place).fault
 
 pub returns-clause-first : goal.returns-clause-first
 returns-clause-first c =
     let e = c.in-Err-parse_asn.ensures in
     rw (c.located.ensures, c.items.ensures)
     (token_answer asn_grammar c.args.bytes.now c.in-Ok.tokens.list (Err c.in-Err-parse_asn.fault) c.in-Ok.ensures.tokens c.in-Ok.ensures.few c.in-Ok.ensures.each c.in-Ok.ensures.first
-    e.found e.only e.left_out e.too_deep).first
+    e.found e.only e.left_out e.too_deep e.place).first

@@ -23,37 +23,37 @@ pub returns-in-Ok-parse_map-clause-tree : goal.returns-in-Ok-parse_map-clause-tr
 returns-in-Ok-parse_map-clause-tree c =
     let e = c.in-Ok-parse_map.ensures in
     (token_answer map_grammar c.args.bytes.now c.in-Ok.tokens.list (Ok c.in-Ok-parse_map.tree) c.in-Ok.ensures.tokens c.in-Ok.ensures.few c.in-Ok.ensures.each c.in-Ok.ensures.first
-    e.found e.only e.left_out e.too_deep).tree
+    e.found e.only e.left_out e.too_deep e.place).tree
 
 pub returns-in-Ok-parse_map-clause-each : goal.returns-in-Ok-parse_map-clause-each
 returns-in-Ok-parse_map-clause-each c =
     let e = c.in-Ok-parse_map.ensures in
     (token_answer map_grammar c.args.bytes.now c.in-Ok.tokens.list (Ok c.in-Ok-parse_map.tree) c.in-Ok.ensures.tokens c.in-Ok.ensures.few c.in-Ok.ensures.each c.in-Ok.ensures.first
-    e.found e.only e.left_out e.too_deep).each
+    e.found e.only e.left_out e.too_deep e.place).each
 
 pub returns-in-Ok-parse_map-clause-first : goal.returns-in-Ok-parse_map-clause-first
 returns-in-Ok-parse_map-clause-first c =
     let e = c.in-Ok-parse_map.ensures in
     (token_answer map_grammar c.args.bytes.now c.in-Ok.tokens.list (Ok c.in-Ok-parse_map.tree) c.in-Ok.ensures.tokens c.in-Ok.ensures.few c.in-Ok.ensures.each c.in-Ok.ensures.first
-    e.found e.only e.left_out e.too_deep).first
+    e.found e.only e.left_out e.too_deep e.place).first
 
 pub returns-clause-each : goal.returns-clause-each
 returns-clause-each c =
     let e = c.in-Err-parse_map.ensures in
     rw (c.located.ensures, c.items.ensures)
     (token_answer map_grammar c.args.bytes.now c.in-Ok.tokens.list (Err c.in-Err-parse_map.fault) c.in-Ok.ensures.tokens c.in-Ok.ensures.few c.in-Ok.ensures.each c.in-Ok.ensures.first
-    e.found e.only e.left_out e.too_deep).each
+    e.found e.only e.left_out e.too_deep e.place).each
 
 pub returns-clause-fault : goal.returns-clause-fault
 returns-clause-fault c =
     let e = c.in-Err-parse_map.ensures in
     rw (c.located.ensures, c.items.ensures)
     (token_answer map_grammar c.args.bytes.now c.in-Ok.tokens.list (Err c.in-Err-parse_map.fault) c.in-Ok.ensures.tokens c.in-Ok.ensures.few c.in-Ok.ensures.each c.in-Ok.ensures.first
-    e.found e.only e.left_out e.too_deep).fault
+    e.found e.only e.left_out e.too_deep e.place).fault
 
 pub returns-clause-first : goal.returns-clause-first
 returns-clause-first c =
     let e = c.in-Err-parse_map.ensures in
     rw (c.located.ensures, c.items.ensures)
     (token_answer map_grammar c.args.bytes.now c.in-Ok.tokens.list (Err c.in-Err-parse_map.fault) c.in-Ok.ensures.tokens c.in-Ok.ensures.few c.in-Ok.ensures.each c.in-Ok.ensures.first
-    e.found e.only e.left_out e.too_deep).first
+    e.found e.only e.left_out e.too_deep e.place).first
