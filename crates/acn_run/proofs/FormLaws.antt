@@ -1,5 +1,5 @@
 -- The parser of the form takes exactly its tokens.
-use Rattle.std.proofs.Common.{◌≡◌, ℕ, suc, ◌-◌, ◌+◌, ◌<◌, ◌≤◌, Bool, true, false, List, [], ◌∷◌, ◌++◌, length, Option, Some, None, refl, sym, ap, subst, ◌∙◌, append_assoc, arith, map, append-nil, Result, Ok, Err}
+use Rattle.std.proofs.Common.{◌≡◌, ℕ, suc, ◌-◌, ◌<◌, ◌≤◌, Bool, true, false, List, [], ◌∷◌, ◌++◌, length, Option, Some, None, refl, sym, ap, subst, ◌∙◌, append_assoc, arith, map, append-nil, Result, Ok, Err}
 use Rattle.std.specs.Prelude.{codes, nat_le, if◌then◌else◌}
 use Rattle.std.specs.List.{flat_map, AllByRecursion}
 use Rattle.std.proofs.lemmas.Bool.{leb-true, le-leb}
@@ -12,7 +12,7 @@ use Rattle.acn_lex.specs.declared.Token.{Token}
 use Rattle.acn_cursor.specs.declared.fault.ParseFault.{ParseFault}
 use Rattle.acn_cursor.specs.declared.fault.ParseFault.TheVariants.{Syntax, TooDeep, LeftOut, NoMemory}
 use Rattle.acn_run.specs.declared.form.FormFault.TheVariants.{OtherForm, NoMemory as form_memory}
-use Rattle.acn_cursor.specs.Steps.{◌>>=◌, ◌>>◌, pure, token, expect, word, number, many, is_whole, Refused}
+use Rattle.acn_cursor.specs.Steps.{pure, token, expect, word, number, many, is_whole, Refused}
 use Rattle.acn_cursor.proofs.Laws.{ap2, outcome_is, Takes, done, then_found, then_again, sees_again, sees_text, expect_found, expect_again, word_found, word_again, number_found, number_again, repeat_found, many_again, outcome}
 use Rattle.acn_run.specs.declared.components.Component.{Component}
 use Rattle.acn_run.specs.Form.{component_tokens, next_tokens, form_tokens, IsComponent, least_width, Written, without_place, parse_fault_of, lex_fault_of}
