@@ -4,13 +4,11 @@ use Rattle.std.specs.Prelude.{◌≤ℤ◌, ◌<ℤ◌, neg_ℤ, int_le, int_lt,
 use Rattle.std.specs.List.{list_any}
 use Rattle.std.specs.Ordering.{int_eq}
 use Rattle.std.proofs.lemmas.Int.{ints}
-use Rattle.std.proofs.lemmas.Bool.Decides.{nat_tests}
-use Rattle.std.proofs.lemmas.List.{take_more, length-take, length-take-le}
+use Rattle.std.proofs.lemmas.List.{length-take, length-take-le}
 use Rattle.std.proofs.lemmas.Nat.{pow_pos, shl-shr, shr_split, le-div}
 use Rattle.std.proofs.Math.Nat.{pow-le-pow_right, mul-le-mul_right}
-use mir.Val.{bool_byte}
 use native.Mathlib.Decide.{dec_lt}
-use Rattle.acn_num.proofs.BitLists.{number_below, number-append, number_same, number-take}
+use Rattle.acn_num.proofs.BitLists.{number_below, number_same, number-take}
 use Rattle.acn_num.specs.Bits.{number, signed_number}
 use Rattle.acn_num.specs.Ranges.{In, has, distance}
 use Rattle.acn_grammar.specs.Check.{is_wide, LeadAmbiguous}
@@ -25,31 +23,15 @@ use Rattle.acn_grammar.specs.declared.node.NumKind.TheVariants.{Integer, Boolean
 use Rattle.acn_grammar.specs.declared.node.NumLeaf.{NumLeaf}
 use Rattle.acn_grammar.specs.declared.node.Table.{Table}
 use Rattle.acn_grammar.proofs.FineLeaves.{rules_of, no_values}
-use Rattle.acn_grammar.proofs.LeafLengths.{le_fact, lt_fact, eq_fact}
-use Rattle.acn_grammar.proofs.Texts.{either}
 use Rattle.acn_grammar.proofs.Within.{image_has}
-use Rattle.acn_packet_laws.proofs.Codes.{each_number_has_a_code, set_ordered}
-use Rattle.acn_packet_laws.proofs.HasImage.{Ordered}
+use Rattle.acn_packet_laws.proofs.Codes.{each_number_has_a_code}
 use Rattle.acn_check.specs.First.{hits, turned, begins, begins_by}
 use Rattle.acn_check.proofs.Assembly.{some_inj}
 use Rattle.std.proofs.lemmas.Bool.{le-leb, leb-true, or_left, or_right, and_parts}
-
--- one bit more of a number that is read from its front
-pub push_bit : (bs : List Bool) (i n d : ℕ) → i < length bs → length bs ≤ 64 → n ≡ number (take i bs) → d ≡ bool_byte (get_or bs i false)
-    → (2 * n + d < 2 ^ 64) × (2 * n + d ≡ number (take (i + 1) bs))
-push_bit bs i n d inside few is digit =
-    let next : take (i + 1) bs ≡ take i bs ++ get_or bs i false ∷ [] = take_more bs i false inside in
-    let value : number (take (i + 1) bs) ≡ number (take i bs) * 2 ^ 1 + number (get_or bs i false ∷ []) = ap number next ∙ number-append (take i bs) (get_or bs i false ∷ []) in
-    let one : number (get_or bs i false ∷ []) ≡ bool_byte (get_or bs i false) = bit_value (get_or bs i false) in
-    let sum : 2 * n + d ≡ number (take (i + 1) bs) = omega (arith, value, one, is, digit) in
-    let long : length (take (i + 1) bs) ≡ i + 1 = length-take-le (i + 1) bs (omega arith) in
-    let below : number (take (i + 1) bs) < 2 ^ (i + 1) = subst (λ (k : ℕ). number (take (i + 1) bs) < 2 ^ k) long (number_below (take (i + 1) bs)) in
-    let wide : 2 ^ (i + 1) ≤ 2 ^ 64 = pow-le-pow_right {n = 2} (omega arith) {i = i + 1} {j = 64} (omega arith) in
-    (omega (arith, sum, below, wide), sum)
-  where
-    bit_value : (b : Bool) → number (b ∷ []) ≡ bool_byte b
-    bit_value true = refl
-    bit_value false = refl
+use Rattle.acn_grammar.proofs.WholeTests.{either, le_fact, lt_fact, eq_fact, le_test, ge_fact}
+use Rattle.acn_grammar.proofs.Codings.{same_bits-refl, patterns_differ, same_bits-is}
+use Rattle.std.proofs.Math.Seq.{take-append_seam}
+use Rattle.acn_grammar.proofs.HasImage.{Ordered, set_ordered}
 
 -- what the first bits leave of a number that is less
 pub none_left : (n k : ℕ) → n < 2 ^ k → n / 2 ^ k ≡ 0
@@ -69,12 +51,6 @@ half_fits rest h n e is few =
     omega (arith, e, is, below, wide)
 
 -- Tests.
-
-le_true : (a b : ℤ) → a ≤ℤ b → int_le a b ≡ true
-le_true a b h = grind (arith, ints, nat_tests)
-
-lt_not : (a b : ℤ) → int_lt a b ≡ false → b ≤ℤ a
-lt_not a b h = grind (arith, ints, nat_tests)
 
 trans_le : (a b c : ℤ) → a ≤ℤ b → b ≤ℤ c → a ≤ℤ c
 trans_le a b c h k = omega (arith, ints)
@@ -108,11 +84,11 @@ reaches a v k h = omega (arith, mul-le-mul_right {m = v} {n = a / 2 ^ k} (2 ^ k)
 hit_of : (low : ℤ) (k v : ℕ) (r : ℤ × ℤ) (y : ℤ) → low ≤ℤ y → r.0 ≤ℤ y → y ≤ℤ r.1 → distance low y / 2 ^ k ≡ v → hits low k v r ≡ true
 hit_of low k v r y a b c e =
     let far = shorter (distance low y) (distance low r.1) k (further low y r.1 a c) in
-    rw (le_true low r.1 (trans_le low y r.1 a c), le-leb v (distance low r.1 / 2 ^ k) (omega (arith, far, e))) (last (int_lt r.0 low) refl)
+    rw (le_test low r.1 (trans_le low y r.1 a c), le-leb v (distance low r.1 / 2 ^ k) (omega (arith, far, e))) (last (int_lt r.0 low) refl)
   where
     last : (t : Bool) → int_lt r.0 low ≡ t → (t || nat_le (distance low r.0 / 2 ^ k) v) ≡ true
     last true h = refl
-    last false h = (let near = shorter (distance low r.0) (distance low y) k (further low r.0 y (lt_not r.0 low h) b) in le-leb (distance low r.0 / 2 ^ k) v (omega (arith, near, e)))
+    last false h = (let near = shorter (distance low r.0) (distance low y) k (further low r.0 y (ge_fact r.0 low h) b) in le-leb (distance low r.0 / 2 ^ k) v (omega (arith, near, e)))
 
 record Hit (low : ℤ) (k v : ℕ) (r : ℤ × ℤ) : Type 0 where
   y : ℤ
@@ -142,7 +118,7 @@ of_hit low k v r o h =
     by true e top far g = exactly_at low k v r top far (below_low r.0 low (v * 2 ^ k) (lt_fact r.0 low e))
     by false e top far g =
         let under = leb-true (distance low r.0 / 2 ^ k) v g in
-        let start = lt_not r.0 low e in
+        let start = ge_fact r.0 low e in
         elim (dec_lt (distance low r.0) (v * 2 ^ k)) [
           | yes less ↦ exactly_at low k v r top far (beyond low r.0 (v * 2 ^ k) start less)
           | no more ↦
@@ -169,7 +145,7 @@ hit_any low k v (r ∷ rs) o h = either {F = Any_hit low k v (r ∷ rs)} (hits l
     (λ q. let t = hit_any low k v rs o.1 q in record { y = t.y; there = or_right (int_le r.0 t.y && int_le t.y r.1) (has rs t.y) t.there; above = t.above; same = t.same })
   where
     both : (a b y : ℤ) → a ≤ℤ y → y ≤ℤ b → (int_le a y && int_le y b) ≡ true
-    both a b y p q = rw (le_true a y p) (le_true y b q)
+    both a b y p q = rw (le_test a y p) (le_test y b q)
 
 -- The numbers behind the images.
 
@@ -179,7 +155,7 @@ range_has low high (r ∷ []) x h a b =
     let f = and_parts (int_eq r.0 low) (int_eq r.1 high) h in
     let one = eq_fact r.0 low f.0 in
     let two = eq_fact r.1 high f.1 in
-    rw (one, two, le_true low x a) (or_left (int_le x high) false (le_true x high b))
+    rw (one, two, le_test low x a) (or_left (int_le x high) false (le_test x high b))
 range_has low high (r ∷ s ∷ rs) x h a b = cc
 
 item_at : (items : List (List ℕ × ℤ)) (y : ℤ) → has (map (λ named. (named.1, named.1)) items) y ≡ true → (i : ℕ) × (option_map (λ named. named.1) (slice_get items i) ≡ Some y) × (i < length items)
@@ -382,29 +358,11 @@ module _ (leaf : NumLeaf) (fine : IsTrue (num_fine leaf)) (plain : leaf.table �
         spelled = subst (λ (z : NumCoding). CodingCode Any z leaf.little (pos 0) a) (sym e) (refl, refl);
       }
 
-same_is : (a b : List Bool) → same_bits a b ≡ true → a ≡ b
-same_is [] [] h = refl
-same_is [] (y ∷ b) h = cc
-same_is (true ∷ a) [] h = cc
-same_is (false ∷ a) [] h = cc
-same_is (true ∷ a) (true ∷ b) h = ap (λ l. true ∷ l) (same_is a b h)
-same_is (false ∷ a) (false ∷ b) h = ap (λ l. false ∷ l) (same_is a b h)
-same_is (true ∷ a) (false ∷ b) h = cc
-same_is (false ∷ a) (true ∷ b) h = cc
-
-same_self : (a : List Bool) → same_bits a a ≡ true
-same_self [] = refl
-same_self (true ∷ a) = same_self a
-same_self (false ∷ a) = same_self a
-
-same_not : (a b : List Bool) → same_bits a b ≡ false → a ≢ b
-same_not a b h e = (let t = ap (same_bits a) e ∙ h in let s = same_self a in cc)
-
 begins_is : (p whole : List Bool) → begins p whole ≡ true → take (length p) whole ≡ p
-begins_is p whole h = same_is (take (length p) whole) p (and_parts (nat_le (length p) (length whole)) (same_bits (take (length p) whole) p) h).1
+begins_is p whole h = same_bits-is (take (length p) whole) p (and_parts (nat_le (length p) (length whole)) (same_bits (take (length p) whole) p) h).1
 
 is_begins : (p whole : List Bool) → length p ≤ length whole → take (length p) whole ≡ p → begins p whole ≡ true
-is_begins p whole l e = rw (le-leb (length p) (length whole) l) (ap (λ (x : List Bool). same_bits x p) e ∙ same_self p)
+is_begins p whole l e = rw (le-leb (length p) (length whole) l) (ap (λ (x : List Bool). same_bits x p) e ∙ same_bits-refl p)
 
 -- the pattern, and what fills it up to the length of another
 abbrev filled_to : List Bool → ℕ → List Bool
@@ -416,10 +374,6 @@ replicate-length (suc n) = ap suc (replicate-length n)
 
 filled-length : (p : List Bool) (n : ℕ) → length p ≤ n → length (filled_to p n) ≡ n
 filled-length p n h = omega (arith, length-append p (replicate (n - length p) false), replicate-length (n - length p), h)
-
-take_pattern : (p r : List Bool) → take (length p) (p ++ r) ≡ p
-take_pattern [] r = refl
-take_pattern (x ∷ p) r = ap (λ l. x ∷ l) (take_pattern p r)
 
 module _ (leaf : NumLeaf) (fine : IsTrue (num_fine leaf)) (plain : leaf.table ≡ None) (p : List Bool) (some : 1 ≤ length p) where
   two_patterns : (a b : List Bool) → leaf.coding ≡ Flag (Some a) (Some b) → (begins p a || begins p b) ≡ true → Begun p leaf
@@ -435,8 +389,8 @@ module _ (leaf : NumLeaf) (fine : IsTrue (num_fine leaf)) (plain : leaf.table �
       c = filled_to p (length a)
 
       by : (t : Bool) → same_bits c a ≡ t → Begun p leaf
-      by true h = (pos 1, c, flag_code leaf fine plain p (Some a) None e (pos 1) c (omega (arith, ints)) (omega (arith, ints)) (inl (refl, same_is c a h)), take_pattern p (replicate (length a - length p) false))
-      by false h = (pos 0, c, flag_code leaf fine plain p (Some a) None e (pos 0) c (omega (arith, ints)) (omega (arith, ints)) (inr (refl, (filled-length p (length a) w, same_not c a h))), take_pattern p (replicate (length a - length p) false))
+      by true h = (pos 1, c, flag_code leaf fine plain p (Some a) None e (pos 1) c (omega (arith, ints)) (omega (arith, ints)) (inl (refl, same_bits-is c a h)), take-append_seam p (replicate (length a - length p) false))
+      by false h = (pos 0, c, flag_code leaf fine plain p (Some a) None e (pos 0) c (omega (arith, ints)) (omega (arith, ints)) (inr (refl, (filled-length p (length a) w, patterns_differ c a h))), take-append_seam p (replicate (length a - length p) false))
 
   other_pattern : (b : List Bool) → leaf.coding ≡ Flag None (Some b) → length p ≤ length b → Begun p leaf
   other_pattern b e w = by (same_bits c b) refl
@@ -445,8 +399,8 @@ module _ (leaf : NumLeaf) (fine : IsTrue (num_fine leaf)) (plain : leaf.table �
       c = filled_to p (length b)
 
       by : (t : Bool) → same_bits c b ≡ t → Begun p leaf
-      by true h = (pos 0, c, flag_code leaf fine plain p None (Some b) e (pos 0) c (omega (arith, ints)) (omega (arith, ints)) (inl (refl, same_is c b h)), take_pattern p (replicate (length b - length p) false))
-      by false h = (pos 1, c, flag_code leaf fine plain p None (Some b) e (pos 1) c (omega (arith, ints)) (omega (arith, ints)) (inr (refl, (filled-length p (length b) w, same_not c b h))), take_pattern p (replicate (length b - length p) false))
+      by true h = (pos 0, c, flag_code leaf fine plain p None (Some b) e (pos 0) c (omega (arith, ints)) (omega (arith, ints)) (inl (refl, same_bits-is c b h)), take-append_seam p (replicate (length b - length p) false))
+      by false h = (pos 1, c, flag_code leaf fine plain p None (Some b) e (pos 1) c (omega (arith, ints)) (omega (arith, ints)) (inr (refl, (filled-length p (length b) w, patterns_differ c b h))), take-append_seam p (replicate (length b - length p) false))
 
   one_bit : leaf.coding ≡ Flag None None → (q : List Bool) → q ≡ p → length q ≤ 1 → Begun p leaf
   one_bit e [] is w = absurd (let l = ap length is in omega arith)

@@ -17,8 +17,9 @@ use Rattle.acn_grammar.proofs.TreeRules.{stand_fine}
 use Rattle.acn_check.specs.Facts.{seen}
 use Rattle.acn_check.specs.First.{Det, leaf_in, dets}
 use Rattle.acn_check.specs.Order.{lines_of}
-use Rattle.acn_check.proofs.TreeFits.{Each, each_left, each_right}
 use Rattle.std.proofs.lemmas.Bool.{and_parts, eqb-true}
+use Rattle.acn_grammar.proofs.SlotLists.{same_eq}
+use Rattle.acn_check.proofs.TreeFits.{Each, each_left, each_right}
 
 -- What stands at the head of a list of nodes.
 
@@ -40,9 +41,6 @@ number_form (seq _ home) h = cc
 number_form (list sizing g) h = cc
 number_form (choice cases rule) h = cc
 number_form (contained sizing g) h = cc
-
-same_eq : (s : ℕ) → nat_eq s s ≡ true
-same_eq s = grind (arith, nat_tests)
 
 head : (at : Stand) → Fine at → (slot_here at.role ≡ None) ⊎ Numbered at
 head at fine = by (slot_here at.role) refl

@@ -3,7 +3,6 @@ use Rattle.std.proofs.Common.{◌≡◌, ◌⊎◌, inl, inr, ℕ, ℤ, pos, ◌
 use Rattle.std.specs.Prelude.{option_map, if◌then◌else◌}
 use Rattle.std.specs.Ordering.{int_eq}
 use Rattle.std.proofs.lemmas.Bool.Decides.{nat_tests}
-use Rattle.std.proofs.lemmas.Int.{ints}
 use Rattle.acn_grammar.specs.Check.{IsStrictly, test_slot}
 use Rattle.acn_grammar.specs.Env.{Env, at_slot, AllHold}
 use Rattle.acn_grammar.specs.Tree.{holds}
@@ -13,12 +12,8 @@ use Rattle.acn_check.specs.First.{asked, put, gathered, given, only_if}
 use Rattle.acn_check.proofs.KindUses.{only_true}
 use Rattle.acn_check.proofs.Puts.{Less, Same, More, stands}
 use Rattle.std.proofs.lemmas.Bool.{ltb-true, eqb-true}
-
-int_eq_is : (x y : ℤ) → int_eq x y ≡ true → x ≡ y
-int_eq_is x y h = grind (arith, ints)
-
-int_same : (x : ℤ) → int_eq x x ≡ true
-int_same x = grind (arith, ints)
+use Rattle.acn_grammar.proofs.WholeTests.{eq_fact, eq_self}
+use Rattle.acn_grammar.proofs.SlotLists.{same_eq, or_swap, or_twice}
 
 eq_not : (a b : ℕ) → (a ≡ b → ⊥) → nat_eq a b ≡ false
 eq_not a b n = by (nat_eq a b) refl
@@ -26,9 +21,6 @@ eq_not a b n = by (nat_eq a b) refl
     by : (c : Bool) → nat_eq a b ≡ c → c ≡ false
     by true h = absurd (n (eqb-true a b h))
     by false h = refl
-
-eq_same : (a : ℕ) → nat_eq a a ≡ true
-eq_same a = grind (arith, nat_tests)
 
 more_is : (s t : ℕ) → More s t → t < s
 more_is s t m = above s t m.lt m.eq
@@ -64,21 +56,11 @@ below_none : (es : Env) (b s : ℕ) → RisesFrom b es → s ≤ b → at_slot e
 below_none [] b s r h = refl
 below_none (e ∷ es) b s r h = (let low = r.0 in ap (λ t. if t then Some e.1 else at_slot es s) (eq_not e.0 s (λ same. absurd (omega arith))) ∙ below_none es e.0 s r.1 (omega (arith, low, h)))
 
-or_swap : (a b c : Bool) → (b || (a || c)) ≡ (a || (b || c))
-or_swap true true c = refl
-or_swap true false c = refl
-or_swap false true c = refl
-or_swap false false c = refl
-
-or_twice : (b c : Bool) → (b || c) ≡ (b || (b || c))
-or_twice true c = refl
-or_twice false c = refl
-
 -- in front of greater slots
 in_front : (s : ℕ) (x : ℤ) (e : ℕ × ℤ) (es : Env) → s < e.0 → RisesFrom e.0 es → Done s x (e ∷ es) ((s, x) ∷ e ∷ es)
 in_front s x e es l r = record {
   slots = λ t. refl;
-  here = ap (λ b. if b then Some x else at_slot (e ∷ es) s) (eq_same s);
+  here = ap (λ b. if b then Some x else at_slot (e ∷ es) s) (same_eq s);
   keeps = λ t y h. ap (λ b. if b then Some x else at_slot (e ∷ es) t) (eq_not s t (λ same. none t y same h)) ∙ h;
 }
   where
@@ -91,7 +73,7 @@ in_front s x e es l r = record {
 there : (s : ℕ) (x : ℤ) (e : ℕ × ℤ) (es : Env) → s ≡ e.0 → x ≡ e.1 → Done s x (e ∷ es) (e ∷ es)
 there s x e es same number = record {
   slots = λ t. or_twice (nat_eq e.0 t) (holds (map (λ d. d.0) es) t) ∙ ap (λ k. nat_eq k t || (nat_eq e.0 t || holds (map (λ d. d.0) es) t)) (sym same);
-  here = ap (λ b. if b then Some e.1 else at_slot es s) (ap (nat_eq e.0) same ∙ eq_same e.0) ∙ ap Some (sym number);
+  here = ap (λ b. if b then Some e.1 else at_slot es s) (ap (nat_eq e.0) same ∙ same_eq e.0) ∙ ap Some (sym number);
   keeps = λ t y h. h;
 }
 
@@ -116,7 +98,7 @@ record PutFrom (b s : ℕ) (x : ℤ) (es es' : Env) : Type 0 where
   done : Done s x es es'
 
 put_from : (s : ℕ) (x : ℤ) (es es' : Env) (b : ℕ) → b < s → RisesFrom b es → put s x es ≡ Some es' → PutFrom b s x es es'
-put_from s x [] es' b l r h = (let same : (s, x) ∷ [] ≡ es' = cc in subst (λ k. PutFrom b s x [] k) same (record { rises = (l, tt); done = record { slots = λ t. refl; here = ap (λ c. if c then Some x else None) (eq_same s); keeps = λ t y q. cc } }))
+put_from s x [] es' b l r h = (let same : (s, x) ∷ [] ≡ es' = cc in subst (λ k. PutFrom b s x [] k) same (record { rises = (l, tt); done = record { slots = λ t. refl; here = ap (λ c. if c then Some x else None) (same_eq s); keeps = λ t y q. cc } }))
 put_from s x (e ∷ es) es' b l r h = by (stands s e.0) (λ k q g. put_from s x es k e.0 q r.1 g)
   where
     by : Less s e.0 ⊎ (Same s e.0 ⊎ More s e.0) → ((k : Env) → e.0 < s → put s x es ≡ Some k → PutFrom e.0 s x es k) → PutFrom b s x (e ∷ es) es'
@@ -125,7 +107,7 @@ put_from s x (e ∷ es) es' b l r h = by (stands s e.0) (λ k q g. put_from s x 
         subst (λ k. PutFrom b s x (e ∷ es) k) same (record { rises = (l, (ltb-true s e.0 m.lt, r.1)); done = in_front s x e es (ltb-true s e.0 m.lt) r.1 })
     by (inr (inl m)) rest =
         let o = only_true (int_eq x e.1) (e ∷ es) es' (rw (m.lt, m.eq) at h) in
-        subst (λ k. PutFrom b s x (e ∷ es) k) o.1 (record { rises = r; done = there s x e es (eqb-true s e.0 m.eq) (int_eq_is x e.1 o.0) })
+        subst (λ k. PutFrom b s x (e ∷ es) k) o.1 (record { rises = r; done = there s x e es (eqb-true s e.0 m.eq) (eq_fact x e.1 o.0) })
     by (inr (inr m)) rest =
         let o = mapped_some e (put s x es) es' (rw (m.lt, m.eq) at h) in
         let p = rest o.0 (more_is s e.0 m) o.1 in
@@ -136,7 +118,7 @@ record PutIn (s : ℕ) (x : ℤ) (es es' : Env) : Type 0 where
   done : Done s x es es'
 
 put_in : (s : ℕ) (x : ℤ) (es es' : Env) → Rises es → put s x es ≡ Some es' → PutIn s x es es'
-put_in s x [] es' r h = (let same : (s, x) ∷ [] ≡ es' = cc in subst (λ k. PutIn s x [] k) same (record { rises = tt; done = record { slots = λ t. refl; here = ap (λ c. if c then Some x else None) (eq_same s); keeps = λ t y q. cc } }))
+put_in s x [] es' r h = (let same : (s, x) ∷ [] ≡ es' = cc in subst (λ k. PutIn s x [] k) same (record { rises = tt; done = record { slots = λ t. refl; here = ap (λ c. if c then Some x else None) (same_eq s); keeps = λ t y q. cc } }))
 put_in s x (e ∷ es) es' r h = by (stands s e.0)
   where
     by : Less s e.0 ⊎ (Same s e.0 ⊎ More s e.0) → PutIn s x (e ∷ es) es'
@@ -145,7 +127,7 @@ put_in s x (e ∷ es) es' r h = by (stands s e.0)
         subst (λ k. PutIn s x (e ∷ es) k) same (record { rises = (ltb-true s e.0 m.lt, r); done = in_front s x e es (ltb-true s e.0 m.lt) r })
     by (inr (inl m)) =
         let o = only_true (int_eq x e.1) (e ∷ es) es' (rw (m.lt, m.eq) at h) in
-        subst (λ k. PutIn s x (e ∷ es) k) o.1 (record { rises = r; done = there s x e es (eqb-true s e.0 m.eq) (int_eq_is x e.1 o.0) })
+        subst (λ k. PutIn s x (e ∷ es) k) o.1 (record { rises = r; done = there s x e es (eqb-true s e.0 m.eq) (eq_fact x e.1 o.0) })
     by (inr (inr m)) =
         let o = mapped_some e (put s x es) es' (rw (m.lt, m.eq) at h) in
         let p = put_from s x es o.0 e.0 (more_is s e.0 m) r o.1 in
@@ -213,7 +195,7 @@ module _ (env : Env) where
       by (inr (inl m)) rest =
           let same : s ≡ e.0 = eqb-true s e.0 m.eq in
           let number : x ≡ e.1 = (let a : at_slot env s ≡ Some e.1 = ap (at_slot env) same ∙ u.0 in cc) in
-          (e ∷ es, rw (m.lt, m.eq) (ap (λ b. only_if b (e ∷ es)) (ap (int_eq x) (sym number) ∙ int_same x)), u)
+          (e ∷ es, rw (m.lt, m.eq) (ap (λ b. only_if b (e ∷ es)) (ap (int_eq x) (sym number) ∙ eq_self x)), u)
       by (inr (inr m)) rest = (e ∷ rest.0, rw (m.lt, m.eq) (ap (option_map (λ more. e ∷ more)) rest.1), (u.0, rest.2))
 
   pub gather_sub : (ts : List Test) (es : Env) → AllHold env ts → Sub es → (es' : Env) × (gathered ts es ≡ Some es') × Sub es'

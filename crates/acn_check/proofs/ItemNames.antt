@@ -6,14 +6,14 @@ use Rattle.std.specs.Str.{bytes_eq}
 use Rattle.std.proofs.lemmas.Slice.Eq.{bytes_eq-Decides}
 use Rattle.acn_firsts.specs.Placed.{place_of}
 use Rattle.acn_grammar.specs.Asks.{same_name}
-use Rattle.acn_leaf.proofs.Differ.{same_is}
 use Rattle.acn_well_formed.proofs.Listed.{same_refl}
 use Rattle.acn_check.specs.First.{is_item}
+use Rattle.acn_grammar.proofs.Characters.{same_name-is}
 
 same_bytes : (a b : List ℕ) → bytes_eq a b ≡ same_name a b
 same_bytes a b = both_ways (bytes_eq a b) (same_name a b)
     (λ h. ap (same_name a) (sym ((bytes_eq-Decides a b).0 h)) ∙ same_refl a)
-    (λ h. (bytes_eq-Decides a b).1 (same_is a b h))
+    (λ h. (bytes_eq-Decides a b).1 (same_name-is a b h))
 
 pub placed : (name : List ℕ) (items : List (List ℕ × ℤ)) → is_some (place_of name (map (λ (item : List ℕ × ℤ). (item.0, 0)) items)) ≡ is_item items name
 unfolding place_of

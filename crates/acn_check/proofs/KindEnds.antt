@@ -2,7 +2,6 @@
 use Rattle.std.proofs.Common.{◌≡◌, ℕ, zero, suc, ◌+◌, ◌<◌, ◌≤◌, drop, get_or, Bool, true, false, not, ◌&&◌, List, [], ◌∷◌, ◌++◌, length, map, Option, Some, None, refl, sym, ap, ◌∙◌, subst, arith, nat_eq}
 use Rattle.std.specs.Prelude.{slice_get, option_map, if◌then◌else◌}
 use Rattle.std.specs.List.{list_all}
-use Rattle.std.proofs.lemmas.Bool.Decides.{nat_tests}
 use Rattle.std.proofs.lemmas.List.{drop_more}
 use Rattle.acn_grammar.specs.Check.{CheckFault, terminator_ambiguous, Evidence, NodeAt, number_of_fault, is_wide, has_no_table, is_lead, lead, form_lead, fields_lead, LeadAmbiguous, EndAmbiguous, ListAmbiguous}
 use Rattle.acn_grammar.specs.Fails.{presence_count}
@@ -26,8 +25,9 @@ use Rattle.acn_check.proofs.BeginsLaw.{begins_law}
 use Rattle.acn_check.proofs.KindLaws.{PlainLaw}
 use Rattle.acn_check.proofs.KindUses.{only_true, only_none}
 use Rattle.acn_check.proofs.Numbers.{only_terminator_ambiguous, plain_tail}
-use Rattle.acn_check.proofs.TreeFits.{Each, each_both}
 use Rattle.std.proofs.lemmas.Bool.{and_parts, not-true}
+use Rattle.acn_grammar.proofs.TextRules.{some_bits}
+use Rattle.acn_check.proofs.TreeFits.{Each, each_both}
 
 -- The forms inside a grammar keep their rules.
 
@@ -168,9 +168,6 @@ fine_turn lines i line h e f =
     (and_parts (leads_fine (facts_of line)) (list_all leads_fine (map facts_of (drop (i + 1) lines))) there).0
 
 -- The fault.
-
-some_bits : (p : List Bool) → is_pattern p ≡ true → 1 ≤ length p
-some_bits p h = grind (arith, nat_tests)
 
 record Law (p : List Bool) (leaf : NumLeaf) : Type 0 where
   to : not_told p (Some leaf) ≡ true → LeadAmbiguous p (Some leaf)

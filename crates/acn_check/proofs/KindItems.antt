@@ -13,7 +13,6 @@ use Rattle.acn_grammar.specs.declared.node.NumLeaf.{NumLeaf}
 use Rattle.acn_grammar.specs.declared.node.Test.{Test}
 use Rattle.acn_well_formed.proofs.Listed.{same_refl}
 use Rattle.std.proofs.lemmas.Bool.{or_left, or_right}
-use Rattle.acn_grammar.proofs.Texts.{either}
 use Rattle.acn_check.specs.First.{Det, dets, only_if, items_in, is_item, without_item, no_item_at}
 use Rattle.acn_check.specs.Order.{lines_of}
 use Rattle.acn_check.proofs.Assembly.{tail, NodeLaw, FirstHere}
@@ -24,6 +23,7 @@ use Rattle.acn_check.proofs.KindPlaces.{choice_is, is_choice}
 use Rattle.acn_check.proofs.KindUses.{only_true, only_none}
 use Rattle.acn_check.proofs.Numbers.{only_no_item}
 use Rattle.acn_grammar.proofs.Characters.{same_name-is}
+use Rattle.acn_grammar.proofs.WholeTests.{either}
 
 abbrev Items : Type 0
 Items = List (List ℕ × ℤ)

@@ -23,8 +23,8 @@ use Rattle.acn_check.proofs.KindPlaces.{choice_is, is_choice}
 use Rattle.acn_check.proofs.KindUses.{only_true}
 use Rattle.acn_check.proofs.Numbers.{only_overlap}
 use Rattle.acn_check.proofs.PairsOf.{Case, FoundPair, pairs_some, pairs_none}
-use Rattle.acn_check.proofs.TallyLaw.{contains_holds, holds_contains}
 use Rattle.std.proofs.lemmas.Bool.{ltb-true, lt-ltb, and_from, and_parts, eqb-true}
+use Rattle.acn_grammar.proofs.SlotLists.{contains_holds, holds_contains}
 
 domain_is : (o : Option Det) → unwrap_or (option_map (λ (leaf : NumLeaf). leaf.set) (option_map (λ d. d.leaf) o)) [] ≡ domain_in o
 domain_is None = refl

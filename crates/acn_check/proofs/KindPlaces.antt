@@ -10,13 +10,13 @@ use Rattle.acn_grammar.specs.Walk.{Stand, Role, root_node, a_component, an_inser
 use Rattle.acn_grammar.specs.declared.node.ChoiceRule.{ChoiceRule}
 use Rattle.acn_grammar.specs.declared.node.ChoiceRule.TheVariants.{Index, Tests, Item}
 use Rattle.acn_grammar.specs.declared.node.Test.{Test}
-use Rattle.acn_grammar.proofs.Texts.{either}
 use Rattle.acn_check.specs.Facts.{seen, is_component, tag_of}
 use Rattle.acn_check.specs.First.{unclear, mixed_in, mixed_at, by_item, much_open}
 use Rattle.acn_check.proofs.KindLaws.{PlainLaw}
 use Rattle.acn_check.proofs.KindUses.{only_true, only_none}
 use Rattle.acn_check.proofs.Numbers.{only_absent_unclear, only_mixed_choice, only_too_many_open, plain_tail}
 use Rattle.std.proofs.lemmas.Bool.{ltb-true, lt-ltb, and_from, and_parts, or_left, or_right}
+use Rattle.acn_grammar.proofs.WholeTests.{either}
 
 -- Alternatives with conditions, and without.
 

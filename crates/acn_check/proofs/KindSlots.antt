@@ -19,10 +19,11 @@ use Rattle.acn_check.proofs.DetLaw.{field_entry, leaf_entry}
 use Rattle.acn_check.proofs.KindLaws.{PlainLaw}
 use Rattle.acn_check.proofs.KindUses.{only_true, only_none}
 use Rattle.acn_check.proofs.Numbers.{only_det_width, only_unused, only_too_many_conditions, plain_tail}
-use Rattle.acn_check.proofs.TallyLaw.{tallied_law, contains_holds, holds_contains}
+use Rattle.acn_check.proofs.TallyLaw.{tallied_law}
 use Rattle.acn_check.proofs.Telling.{all_at}
 use Rattle.acn_check.proofs.TreeFits.{leaves_fine}
 use Rattle.std.proofs.lemmas.Bool.{ltb-true, lt-ltb, leb-true, le-leb, not-true}
+use Rattle.acn_grammar.proofs.SlotLists.{contains_holds, holds_contains}
 
 clash : (b : Bool) → b ≡ true → b ≡ false → ⊥
 clash true h g = cc

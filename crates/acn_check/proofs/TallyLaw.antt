@@ -1,6 +1,6 @@
 -- What the table says of a slot is what the uses of the whole tree say of it.
-use Rattle.std.proofs.Common.{◌≡◌, ℕ, zero, suc, ◌+◌, ◌-◌, ◌^◌, ◌<◌, ◌≤◌, min, Bool, true, false, List, [], ◌∷◌, ◌++◌, length, map, get_or, Option, Some, None, refl, sym, ap, ◌∙◌, arith, nat_eq, ◌||◌, cond}
-use Rattle.std.specs.Prelude.{slice_get, slice_set, count_by, Contains, if◌then◌else◌}
+use Rattle.std.proofs.Common.{◌≡◌, ℕ, zero, suc, ◌+◌, ◌-◌, ◌^◌, ◌<◌, ◌≤◌, min, Bool, true, false, List, [], ◌∷◌, ◌++◌, length, map, Option, Some, None, refl, sym, ap, ◌∙◌, arith, nat_eq, ◌||◌, cond}
+use Rattle.std.specs.Prelude.{slice_get, slice_set, count_by, if◌then◌else◌}
 use Rattle.std.specs.List.{flat_map}
 use Rattle.std.proofs.lemmas.Bool.Decides.{nat_tests}
 use Rattle.std.proofs.lemmas.List.Recursion.{is_count_by}
@@ -9,30 +9,10 @@ use Rattle.acn_grammar.specs.Grammar.{Grammar}
 use Rattle.acn_grammar.specs.Tree.{holds}
 use Rattle.acn_grammar.specs.Walk.{Stand, Use, condition, item_of, size_of, slot_of, uses, nodes_of}
 use Rattle.acn_grammar.specs.declared.node.Test.TheVariants.{Flag, Equals}
-use Rattle.acn_grammar.proofs.Texts.{either}
 use Rattle.acn_check.specs.Facts.{seen}
 use Rattle.acn_check.specs.First.{Det, Tally, dets, is_equals, raised, tallied_at, tallied_one, tallied, no_tallies, uses_of}
 use Rattle.acn_check.specs.Order.{lines_of, tallies_of}
-use Rattle.std.proofs.lemmas.Bool.{eqb-true, eqb-false, or_left, or_right}
-
--- Numbers in a list.
-
-get_holds : (xs : List ℕ) (k s : ℕ) → k < length xs → get_or xs k s ≡ s → holds xs s ≡ true
-get_holds [] k s h e = absurd (omega arith)
-get_holds (x ∷ xs) zero s h e = or_left (nat_eq x s) (holds xs s) (ap (λ y. nat_eq y s) e ∙ same_eq s)
-  where
-    same_eq : (s : ℕ) → nat_eq s s ≡ true
-    same_eq s = grind (arith, nat_tests)
-get_holds (x ∷ xs) (suc k) s h e = or_right (nat_eq x s) (holds xs s) (get_holds xs k s (omega arith) e)
-
-pub contains_holds : (xs : List ℕ) (s : ℕ) → Contains xs s → holds xs s ≡ true
-contains_holds xs s c = get_holds xs c.0 s c.1 c.2
-
-pub holds_contains : (xs : List ℕ) (s : ℕ) → holds xs s ≡ true → Contains xs s
-holds_contains [] s h = cc
-holds_contains (x ∷ xs) s h = either {F = Contains (x ∷ xs) s} (nat_eq x s) (holds xs s) h
-    (λ q. (zero, omega arith, eqb-true x s q))
-    (λ q. let r = holds_contains xs s q in (suc r.0, omega (arith, r.1), r.2))
+use Rattle.std.proofs.lemmas.Bool.{eqb-true, eqb-false}
 
 -- One slot of the table.
 

@@ -2,8 +2,9 @@
 use Rattle.std.proofs.Common.{◌≡◌, ◌⊎◌, inl, inr, ℕ, suc, ℤ, Bool, true, false, not, ◌&&◌, ◌||◌, List, [], ◌∷◌, ◌++◌, Option, Some, None, refl, sym, ap, ◌∙◌, subst, arith, nat_eq}
 use Rattle.std.specs.Prelude.{option_map, if◌then◌else◌, Result, Ok, Err, IfOk}
 use Rattle.std.specs.List.{list_any}
-use Rattle.std.specs.Ordering.{int_eq}
+use Rattle.std.specs.Ordering.{int_eq, int_cmp, is_eq}
 use Rattle.std.proofs.lemmas.Bool.{and_parts, or_parts, not-true, cases_Bool, eqb-true}
+use Rattle.std.proofs.lemmas.Cmp.{int_cmp_total}
 use Rattle.std.proofs.lemmas.Int.{ints}
 use Rattle.acn_grammar.specs.Env.{Env, at_slot, Holds, AllHold}
 use Rattle.acn_grammar.specs.Leaves.{all_differ}
@@ -12,9 +13,7 @@ use Rattle.acn_grammar.specs.declared.node.Test.{Test}
 use Rattle.acn_grammar.specs.declared.node.Test.TheVariants.{Flag, Equals}
 use Rattle.acn_check.specs.First.{Det, asked, gathered, given, only_if, permits, has_some, both_hold, overlapping, against, pairs, number_asked, is_other, disputes, clash, numbers_on, differ_in, have_own, NoneMeet}
 use Rattle.acn_check.proofs.Gathered.{gathering}
-
-int_same : (x : ℤ) → int_eq x x ≡ true
-int_same x = grind (arith, ints)
+use Rattle.acn_grammar.proofs.WholeTests.{eq_fact, eq_self}
 
 -- What holds says what is asked.
 
@@ -48,7 +47,7 @@ no_dispute env us t h g = by (number_asked (asked t).0 us) refl
     by (Some y) e =
         let one : Some (asked t).1 ≡ Some y = sym (holds_asked env t g) ∙ asked_holds env us (asked t).0 y h e in
         let same : (asked t).1 ≡ y = cc in
-        ap not (subst (λ z. int_eq (asked t).1 z ≡ true) same (int_same (asked t).1))
+        ap not (subst (λ z. int_eq (asked t).1 z ≡ true) same (eq_self (asked t).1))
 
 no_clash : (env : Env) (ts us : List Test) → AllHold env ts → AllHold env us → clash ts us ≡ false
 no_clash env [] us h g = refl
@@ -79,7 +78,7 @@ two_numbers ds ts us s x y e g n = none_if ds ts us (λ env p q.
     let a = asked_holds env ts s x p e in
     let b = asked_holds env us s y q g in
     let same : x ≡ y = cc in
-    let t = subst (λ z. int_eq x z ≡ true) same (int_same x) in
+    let t = subst (λ z. int_eq x z ≡ true) same (eq_self x) in
     cc)
 
 -- Numbers of their own.

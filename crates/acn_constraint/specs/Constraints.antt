@@ -11,6 +11,7 @@ use Rattle.acn_set_elements.specs.Written.{number_in, named_of}
 use Rattle.acn_constraint.specs.Sized.{sizes_set}
 use Rattle.acn_constraint.specs.Sets.{Reading, numbers, sizes, characters, set_in}
 use Rattle.acn_set_elements.specs.Stands.{all_stand}
+use Rattle.acn_num.specs.declared.limits.TheConstants.{MOST_SIZE}
 
 -- ---- the constraints of a chain, from the base outward, the one between SEQUENCE and OF first
 
@@ -170,7 +171,7 @@ not_empty (r ∷ rs) next = next
 
 abbrev pub limited : Ranges → Option ℤ → Result (Option Ranges) Fault
 limited s None = Ok (Some s)
-limited s (Some most) = if int_lt (pos 65536) most then Err (size_limit most) else Ok (Some s)
+limited s (Some most) = if int_lt (pos MOST_SIZE) most then Err (size_limit most) else Ok (Some s)
 
 abbrev pub sized : Bool → Ranges → Result (Option Ranges) Fault
 sized false s = Ok None
@@ -204,7 +205,7 @@ pub record Texts : Type 0 where
 
 abbrev pub limited_text : Ranges → Ranges → Option ℤ → Result Texts Fault
 limited_text s cs None = Ok (record { sizes = s; characters = cs })
-limited_text s cs (Some most) = if int_lt (pos 65536) most then Err (size_limit most) else Ok (record { sizes = s; characters = cs })
+limited_text s cs (Some most) = if int_lt (pos MOST_SIZE) most then Err (size_limit most) else Ok (record { sizes = s; characters = cs })
 
 -- Each fault is looked for in both before the next one is. A SIZE that isn't written is no bound.
 abbrev pub texts_left : Bool → Ranges → Ranges → Result Texts Fault

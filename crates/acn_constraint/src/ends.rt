@@ -4,6 +4,7 @@ ghost use Rattle.std.specs.Prelude.{◌≡◌, IfOk, Ok, int_lt, pos};
 ghost use Rattle.acn_num.specs.Ranges.{greatest};
 ghost use Rattle.acn_constraint.specs.Constraints as spec;
 ghost use Rattle.acn_constraint.specs.Views.{Answers, opened_of, texts_of};
+ghost use Rattle.acn_num.specs.declared.limits.TheConstants.{MOST_SIZE};
 
 use crate::ConstraintFault;
 use acn_num::{BOTTOM, GREATEST_NUMBER, LEAST_NUMBER, MOST_SIZE, NoMemory, RangeSet, TOP};
@@ -100,7 +101,7 @@ pub fn opened(alloc: Global, set: &RangeSet) -> Result<OpenSet, ConstraintFault>
 }
 
 fn is_large(size: &i128) -> bool
-    ensures { result ≡ int_lt (pos 65536) size.now }
+    ensures { result ≡ int_lt (pos MOST_SIZE) size.now }
 {
     *size > i128::from(MOST_SIZE)
 }

@@ -8,9 +8,9 @@ use Rattle.acn_grammar.specs.Leaves.{coding_fine, is_terminator, begins_number, 
 use Rattle.acn_grammar.specs.Spell.{octet_numbers}
 use Rattle.acn_grammar.specs.declared.node.NumCoding.{NumCoding}
 use Rattle.acn_grammar.specs.declared.node.NumCoding.TheVariants.{Range, CountedFrom, CountedSigned, PosInt, Twos, Bcd, BcdEnded, Ascii, AsciiEnded, Flag, Fixed}
-use Rattle.acn_grammar.proofs.Octets.{low_bits-number}
 use Rattle.acn_grammar.proofs.Prefix.{CodeLaw, same_front, number_law, range_law, pos_int_law, twos_law, fixed_law, flag_law, counted_law}
 use Rattle.std.proofs.lemmas.Bool.{and_parts, not-true, eqb-true}
+use Rattle.acn_num.proofs.BitLists.{number-low_bits}
 
 -- Digits.
 
@@ -19,12 +19,12 @@ Digits ds = AllByRecursion (λ d. d < 10) ds
 
 pub nibble_one : (d e : ℕ) → d < 16 → e < 16 → low_bits 4 d ≡ low_bits 4 e → d ≡ e
 nibble_one d e h k p =
-    let q : d % 16 ≡ e % 16 = sym (low_bits-number 4 d) ∙ (ap number p ∙ low_bits-number 4 e) in
+    let q : d % 16 ≡ e % 16 = sym (number-low_bits 4 d) ∙ (ap number p ∙ number-low_bits 4 e) in
     omega arith
 
 pub octet_of_one : (d e : ℕ) → d < 256 → e < 256 → low_bits 8 d ≡ low_bits 8 e → d ≡ e
 octet_of_one d e h k p =
-    let q : d % 256 ≡ e % 256 = sym (low_bits-number 8 d) ∙ (ap number p ∙ low_bits-number 8 e) in
+    let q : d % 256 ≡ e % 256 = sym (number-low_bits 8 d) ∙ (ap number p ∙ number-low_bits 8 e) in
     omega arith
 
 -- digits in 4 bits each, with the same end behind them that is no digit
@@ -106,7 +106,7 @@ bcd_law n little y z at a b r s p q e =
     (h, p.1 ∙ (ap (λ n. pos n) k ∙ sym q.1))
 
 -- a code that is followed by its end, and by more
-followed : (a front digits end r : List Bool) → a ≡ front ++ (digits ++ end) → a ++ r ≡ front ++ (digits ++ (end ++ r))
+pub followed : (a front digits end r : List Bool) → a ≡ front ++ (digits ++ end) → a ++ r ≡ front ++ (digits ++ (end ++ r))
 followed a front digits end r e = rw e (append_assoc front (digits ++ end) r ∙ ap (λ x. front ++ x) (append_assoc digits end r))
 
 bcd_ended_law : (little : Bool) → CodeLaw BcdEnded little
@@ -211,7 +211,7 @@ digit_begins v os h k e = grind (arith, nat_tests)
 pub no_digit : (end : List Bool) → is_terminator end ≡ true → begins_number (octet_numbers end) ≡ false → NoDigit end
 no_digit (a ∷ b ∷ c ∷ d ∷ e ∷ f ∷ g ∷ h ∷ rest) t n x more r below eq =
     let w = same_front (a ∷ b ∷ c ∷ d ∷ e ∷ f ∷ g ∷ h ∷ []) (low_bits 8 (48 + x)) (rest ++ r) more refl eq in
-    let v : number (a ∷ b ∷ c ∷ d ∷ e ∷ f ∷ g ∷ h ∷ []) ≡ (48 + x) % 256 = ap number w.0 ∙ low_bits-number 8 (48 + x) in
+    let v : number (a ∷ b ∷ c ∷ d ∷ e ∷ f ∷ g ∷ h ∷ []) ≡ (48 + x) % 256 = ap number w.0 ∙ number-low_bits 8 (48 + x) in
     digit_begins (number (a ∷ b ∷ c ∷ d ∷ e ∷ f ∷ g ∷ h ∷ [])) (octet_numbers rest) (omega arith) (omega arith) n
 no_digit [] t n x more r below eq = cc
 no_digit (a ∷ []) t n x more r below eq = cc
@@ -222,7 +222,7 @@ no_digit (a ∷ b ∷ c ∷ d ∷ e ∷ []) t n x more r below eq = cc
 no_digit (a ∷ b ∷ c ∷ d ∷ e ∷ f ∷ []) t n x more r below eq = cc
 no_digit (a ∷ b ∷ c ∷ d ∷ e ∷ f ∷ g ∷ []) t n x more r below eq = cc
 
-same_bits-refl : (p : List Bool) → same_bits p p ≡ true
+pub same_bits-refl : (p : List Bool) → same_bits p p ≡ true
 same_bits-refl [] = refl
 same_bits-refl (true ∷ p) = same_bits-refl p
 same_bits-refl (false ∷ p) = same_bits-refl p
@@ -252,3 +252,13 @@ coding_law (Flag (Some p) (Some q)) little h =
     let b = and_parts (nat_eq (length p) (length q)) (not (same_bits p q)) a.1 in
     flag_two_law p q little (eqb-true (length p) (length q) b.0) (patterns_differ p q (not-true (same_bits p q) b.1))
 coding_law (Fixed pattern) little h = fixed_law pattern little
+
+pub same_bits-is : (a b : List Bool) → same_bits a b ≡ true → a ≡ b
+same_bits-is [] [] h = refl
+same_bits-is [] (y ∷ b) h = cc
+same_bits-is (true ∷ a) [] h = cc
+same_bits-is (false ∷ a) [] h = cc
+same_bits-is (true ∷ a) (true ∷ b) h = ap (λ l. true ∷ l) (same_bits-is a b h)
+same_bits-is (false ∷ a) (false ∷ b) h = ap (λ l. false ∷ l) (same_bits-is a b h)
+same_bits-is (true ∷ a) (false ∷ b) h = cc
+same_bits-is (false ∷ a) (true ∷ b) h = cc

@@ -11,9 +11,10 @@ use Rattle.std.proofs.lemmas.List.{length-append}
 use Rattle.acn_num.specs.Bits.{low_bits, IsNumber, IsSigned}
 use Rattle.acn_grammar.specs.Code.{Counted, AreDigits, IsMinimal, decimal_number}
 use Rattle.acn_grammar.specs.Length.{least_octets, least_signed_octets, fits_octets, digit_count}
-use Rattle.acn_grammar.proofs.Numbers.{number-below, signed-below, signed-above}
-use Rattle.acn_grammar.proofs.Octets.{low_bits-number, low_bits-length}
-use Rattle.std.proofs.lemmas.Bool.{le-leb, leb-true, and_parts}
+use Rattle.acn_grammar.proofs.Numbers.{signed-below, signed-above}
+use Rattle.std.proofs.lemmas.Bool.{le-leb, and_parts}
+use Rattle.acn_grammar.proofs.WholeTests.{le_test, lt_test, le_fact, lt_fact}
+use Rattle.acn_num.proofs.BitLists.{number_below, length-low_bits, number-low_bits}
 
 -- as many as pass of numbers of which the first m pass and the others don't
 pub counts : (p : ℕ → Bool) (a n m : ℕ) → m ≤ n → ((j : ℕ) → a ≤ j → j < a + m → p j ≡ true) → ((j : ℕ) → a + m ≤ j → j < a + n → p j ≡ false) → count_by p (range_with_len a n) ≡ m
@@ -62,7 +63,7 @@ least_octets-is k c p l h g =
     omega arith
 
 pub number_bits : (n k : ℕ) → k < 2 ^ n → IsNumber n k (low_bits n k)
-number_bits n k h = record { width = low_bits-length n k; value = low_bits-number n k ∙ mod-eq_of_lt h }
+number_bits n k h = record { width = length-low_bits n k; value = number-low_bits n k ∙ mod-eq_of_lt h }
 
 below_or : (a b : ℕ) → (a < b → ⊥) → b ≤ a
 below_or a b h = elim (dec_lt a b) [ yes p ↦ absurd (h p) | no p ↦ omega arith ]
@@ -72,7 +73,7 @@ counted-octets k bs small t =
     let few : t.count ≤ 8 = t.least 8 (low_bits 64 k) (omega arith) (number_bits 64 k small) in
     let width = t.spells.width in
     let value = t.spells.value in
-    let n = number-below t.body in
+    let n = number_below t.body in
     let power : 2 ^ length t.body ≡ 256 ^ t.count = rw width (octet_powers t.count) in
     let below : k < 256 ^ t.count = omega arith in
     let least : 1 < t.count → 256 ^ (t.count - 1) ≤ k = λ m. below_or k (256 ^ (t.count - 1)) (λ h.
@@ -103,25 +104,13 @@ fits_true y c h k = both (int_le (neg_ℤ (pos (2 ^ (8 * c - 1)))) y) (int_lt y 
     both : (a b : Bool) → a ≡ true → b ≡ true → (a && b) ≡ true
     both a b p q = rw (p, q)
 
-    le_test : (a b : ℤ) → a ≤ℤ b → int_le a b ≡ true
-    le_test a b h = grind (arith, ints, nat_tests)
-
-    lt_test : (a b : ℤ) → a <ℤ b → int_lt a b ≡ true
-    lt_test a b h = grind (arith, ints, nat_tests)
-
 pub fits_is : (y : ℤ) (c : ℕ) → fits_octets y c ≡ true → (neg_ℤ (pos (2 ^ (8 * c - 1))) ≤ℤ y) × (y <ℤ pos (2 ^ (8 * c - 1)))
 fits_is y c h =
     let f = and_parts (int_le (neg_ℤ (pos (2 ^ (8 * c - 1)))) y) (int_lt y (pos (2 ^ (8 * c - 1)))) h in
     (le_fact _ _ f.0, lt_fact _ _ f.1)
-  where
-    le_fact : (a b : ℤ) → int_le a b ≡ true → a ≤ℤ b
-    le_fact a b h = grind (arith, ints, nat_tests)
-
-    lt_fact : (a b : ℤ) → int_lt a b ≡ true → a <ℤ b
-    lt_fact a b h = grind (arith, ints, nat_tests)
 
 -- what fits in fewer octets fits in more
-fits_more : (y : ℤ) (c d : ℕ) → c ≤ d → fits_octets y c ≡ true → fits_octets y d ≡ true
+pub fits_more : (y : ℤ) (c d : ℕ) → c ≤ d → fits_octets y c ≡ true → fits_octets y d ≡ true
 fits_more y c d h f =
     let p = fits_is y c f in
     let m = pow-le-pow_right {n = 2} (omega arith) {i = 8 * c - 1} {j = 8 * d - 1} (omega arith) in

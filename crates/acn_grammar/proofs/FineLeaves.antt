@@ -52,6 +52,10 @@ rules_of leaf h =
     (set_fine leaf.kind leaf.coding leaf.items leaf.table leaf.set) (only_integer leaf.kind leaf.table) (table_fine leaf.coding leaf.set leaf.table) (values_fine leaf.items.values leaf.coding (written_ends leaf)) (can_write_all leaf.coding (written_ends leaf)) h in
     record { kind = r.0; coding = r.1; little = r.2; sign = r.3; set = r.4; integer = r.5; table = r.6; values = r.7; writes = r.8 }
 
+pub implied : (a b : Bool) → implies a b ≡ true → a ≡ true → b ≡ true
+implied true b h e = h
+implied false b h e = cc
+
 -- items are there only where they are written
 pub no_values : (items : Items) → no_items items ≡ true → items.values ≡ false
 no_values items h = not-true items.values (and_parts (nat_eq (length items.items) 0) (not items.values) h).1

@@ -1,5 +1,5 @@
 -- The image of a permitted number tells it.
-use Rattle.std.proofs.Common.{◌≡◌, ℕ, zero, suc, ℤ, pos, negsuc, ◌+ℤ◌, Bool, true, false, not, List, [], ◌∷◌, Option, Some, refl, sym, ap, ◌∙◌, arith, ◌&&◌, ◌||◌}
+use Rattle.std.proofs.Common.{◌≡◌, ℕ, zero, suc, ℤ, pos, negsuc, ◌+ℤ◌, Bool, true, false, not, List, [], ◌∷◌, Option, Some, refl, sym, ap, ◌∙◌, arith, ◌&&◌}
 use Rattle.std.specs.Prelude.{◌-ℤ◌, ◌≤ℤ◌, int_le, slice_get, option_map, if◌then◌else◌}
 use Rattle.std.specs.List.{list_any}
 use Rattle.std.specs.Ordering.{int_eq}
@@ -8,16 +8,11 @@ use Rattle.std.proofs.lemmas.Bool.Decides.{nat_tests}
 use Rattle.acn_grammar.specs.Code.{on_line, image_in, item_number}
 use Rattle.acn_grammar.specs.Leaves.{all_differ, share}
 use Rattle.std.proofs.lemmas.Bool.{or_parts, and_parts, not-true}
+use Rattle.acn_grammar.proofs.WholeTests.{le_test, eq_self}
 
 -- a key of a line
 on : (line : ℤ × ℤ × ℤ) (x : ℤ) → on_line line x ≡ true → (line.0 ≤ℤ x) × (x ≤ℤ line.1)
 on line x h = (grind (arith, ints, nat_tests), grind (arith, ints, nat_tests))
-
-le_test : (a b : ℤ) → a ≤ℤ b → int_le a b ≡ true
-le_test a b h = grind (arith, ints, nat_tests)
-
-le_fact : (a b : ℤ) → int_le a b ≡ true → a ≤ℤ b
-le_fact a b h = grind (arith, ints, nat_tests)
 
 -- where two lines share no image, no keys of the two have one image
 apart : (a b : ℤ × ℤ × ℤ) (x z : ℤ) → share a b ≡ false → on_line a x ≡ true → on_line b z ≡ true → a.2 +ℤ (x -ℤ a.0) ≡ b.2 +ℤ (z -ℤ b.0) → ⊥
@@ -62,15 +57,12 @@ lines_one (a ∷ lines) x z y h p q =
 abbrev pub same_item : (List ℕ × ℤ) → (List ℕ × ℤ) → Bool
 same_item a b = int_eq a.1 b.1
 
-int_eq-refl : (x : ℤ) → int_eq x x ≡ true
-int_eq-refl x = grind (arith, ints, nat_tests)
-
 no_other : (a : List ℕ × ℤ) (items : List (List ℕ × ℤ)) (i : ℕ) → list_any (same_item a) items ≡ false → option_map (λ named. named.1) (slice_get items i) ≡ Some a.1 → ⊥
 no_other a [] i h e = cc
 no_other a (b ∷ items) zero h e =
     let f = (or_parts (int_eq a.1 b.1) (list_any (same_item a) items) h).0 in
     let is : b.1 ≡ a.1 = cc in
-    let t : int_eq a.1 b.1 ≡ true = rw is (int_eq-refl a.1) in
+    let t : int_eq a.1 b.1 ≡ true = rw is (eq_self a.1) in
     cc
 no_other a (b ∷ items) (suc i) h e = no_other a items i (or_parts (int_eq a.1 b.1) (list_any (same_item a) items) h).1 e
 

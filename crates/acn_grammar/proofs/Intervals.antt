@@ -57,7 +57,7 @@ fields_span-with_field (an_inserted name g slot) fs = refl
 pub fields_span-drop : (fs : List Field) (i : ℕ) (f : Field) → i < length fs → f ≡ get_or fs i f → fields_span (fields_view (drop i fs)) ≡ plus (field_span (field_of f)) (fields_span (fields_view (drop (i + 1) fs)))
 fields_span-drop fs i f h e = rw (drop_more fs i f h, ← e) (fields_span-with_field (field_of f) _)
 
-alternative_of-grammar : (a : Alternative) → (alternative_of a).grammar ≡ grammar_of a.node
+pub alternative_of-grammar : (a : Alternative) → (alternative_of a).grammar ≡ grammar_of a.node
 alternative_of-grammar a = search (rules, node_lemmas)
 
 pub alternatives_span-drop : (as' : List Alternative) (i : ℕ) (a : Alternative) → i < length as' → a ≡ get_or as' i a → alternatives_span (alternatives_view (drop i as')) ≡ hull (span (grammar_of a.node)) (alternatives_span (alternatives_view (drop (i + 1) as')))

@@ -2,9 +2,7 @@
 use Rattle.std.proofs.Common.{◌≡◌, ℕ, suc, ◌*◌, ◌^◌, ◌<◌, ℤ, pos, negsuc, ◌+ℤ◌, Bool, true, false, not, List, [], ◌∷◌, ◌++◌, length, map, Option, Some, None, refl, sym, ap, ◌∙◌, arith, nat_eq, ◌&&◌, ◌||◌, IsTrue, inl, inr, length-append}
 use Rattle.std.specs.Prelude.{◌-ℤ◌, ◌≤ℤ◌, ◌<ℤ◌, neg_ℤ, nat_abs, int_le, int_lt, unwrap_or, if◌then◌else◌}
 use Rattle.std.specs.List.{list_all}
-use Rattle.std.specs.Ordering.{int_eq}
 use Rattle.std.proofs.lemmas.Int.{ints}
-use Rattle.std.proofs.lemmas.Bool.Decides.{nat_tests}
 use Rattle.acn_num.specs.Ranges.{In, has, are_ranges, count}
 use Rattle.acn_grammar.specs.Code.{Mode, Written, Any, Code, CodingCode, image_by, image_of, item_number, SignOctet, nibbles, digit_octets, FlagCode, OtherPattern, opposite}
 use Rattle.acn_grammar.specs.Images.{images_by, ends}
@@ -21,6 +19,7 @@ use Rattle.acn_grammar.proofs.Counts.{counted-octets, counted-signed, digits-cou
 use Rattle.acn_grammar.proofs.FineLeaves.{rules_of}
 use Rattle.acn_grammar.proofs.Within.{by_values, ends-has}
 use Rattle.std.proofs.lemmas.Bool.{and_parts, not-true, eqb-true}
+use Rattle.acn_grammar.proofs.WholeTests.{le_fact, lt_fact, eq_fact, either}
 
 -- how great a number a code of several lengths can have
 abbrev pub Limits : NumCoding → ℤ → Type 0
@@ -43,7 +42,7 @@ sign-length false y k sign h = (ap length h.1, rw h.0 refl)
 sign-length true (pos n) k sign h = (ap length h.1, h.0)
 sign-length true (negsuc n) k sign h = (ap length h.1, h.0)
 
-opposite-length : (p : List Bool) → length (opposite p) ≡ length p
+pub opposite-length : (p : List Bool) → length (opposite p) ≡ length p
 opposite-length [] = refl
 opposite-length (b ∷ p) = ap suc (opposite-length p)
 
@@ -105,15 +104,6 @@ pub int_ends : (coding : NumCoding) (o : Option (ℤ × ℤ)) → integer_set_fi
 int_ends coding None h = cc
 int_ends coding (Some e) h = let f = and_parts (int_le (neg_ℤ (pos (2 ^ 63))) e.0) (is_below coding e.0 e.1) h in (e, refl, f.0, f.1)
 
-pub le_fact : (x y : ℤ) → int_le x y ≡ true → x ≤ℤ y
-le_fact x y h = grind (arith, ints, nat_tests)
-
-pub lt_fact : (x y : ℤ) → int_lt x y ≡ true → x <ℤ y
-lt_fact x y h = grind (arith, ints, nat_tests)
-
-pub eq_fact : (x y : ℤ) → int_eq x y ≡ true → x ≡ y
-eq_fact x y h = grind (arith, ints, nat_tests)
-
 -- a leaf whose coding has no size writes the numbers themselves
 abbrev IsPlain : Items → Option Table → List (ℤ × ℤ) → NumCoding → Type 0
 IsPlain items table set coding = (items.values ≡ false) × (table ≡ None) × (integer_set_fine coding (ends set) ≡ true)
@@ -145,13 +135,9 @@ counted_kind Null coding h a b c = cc
 
 pub below_span : (low high y : ℤ) (k : ℕ) → neg_ℤ (pos (2 ^ 63)) ≤ℤ low → (int_lt high (pos (2 ^ 63)) || (int_le (pos 0) low && int_lt high (pos (2 ^ 64)))) ≡ true → y ≤ℤ high → y ≡ low +ℤ pos k → k < 2 ^ 64
 below_span low high y k a b c d =
-    elim_or (int_lt high (pos (2 ^ 63))) (int_le (pos 0) low && int_lt high (pos (2 ^ 64))) b
+    either (int_lt high (pos (2 ^ 63))) (int_le (pos 0) low && int_lt high (pos (2 ^ 64))) b
     (λ h. let e = lt_fact high (pos (2 ^ 63)) h in omega (arith, ints))
     (λ h. let f = and_parts (int_le (pos 0) low) (int_lt high (pos (2 ^ 64))) h in let e = le_fact (pos 0) low f.0 in let g = lt_fact high (pos (2 ^ 64)) f.1 in omega (arith, ints))
-  where
-    elim_or : {F : Type 0} (a b : Bool) → (a || b) ≡ true → (a ≡ true → F) → (b ≡ true → F) → F
-    elim_or true b h f g = f refl
-    elim_or false b h f g = g h
 
 small_magnitude : (y : ℤ) (a b : ℤ) → neg_ℤ (pos (2 ^ 64)) ≤ℤ a → a ≤ℤ y → y ≤ℤ b → b <ℤ pos (2 ^ 64) → nat_abs y < 10 ^ 20
 small_magnitude y a b h k l m = omega (arith, ints)

@@ -1,37 +1,51 @@
 mod Back
--- for acn_packet_laws, acn_text and acn_check
+-- for acn_packet_laws, acn_leaf, acn_text and acn_check
 pub mod Characters
--- for acn_packet_laws
+-- for acn_packet_laws and acn_check
 pub mod Codings
--- for acn_packet_laws and acn_ints
+-- for acn_packet_laws, acn_ints and acn_text
 pub mod Counts
 -- for acn_packet_laws, acn_leaf, acn_tree, acn_ints and acn_check
 pub mod FineLeaves
+-- for acn_packet_laws and acn_text
+pub mod FirstPlaces
+-- for acn_packet_laws, acn_leaf, acn_ints and acn_check
+pub mod HasImage
 mod ImagesOne
 -- for acn_leaf and acn_tree
 pub mod Intervals
--- for acn_packet_laws, acn_ints and acn_check
+-- for acn_packet_laws and acn_ints
 pub mod LeafLengths
 -- for acn_packet_laws
 pub mod Monotone
 mod NodesBack
--- for acn_packet_laws and acn_tree
+-- for acn_packet_laws, acn_ints and acn_check
 pub mod Numbers
--- for acn_packet_laws
+-- for acn_packet_laws and acn_text
 pub mod Octets
 -- for acn_packet_laws and acn_text
 pub mod Prefix
+-- for acn_tree and acn_text
+pub mod RangeEnds
+-- for acn_packet_laws and acn_check
+pub mod SlotLists
 -- for acn_packet_laws, acn_tree and acn_check
 pub mod SpanLaw
 -- for acn_packet_laws
+pub mod Spans
+-- for acn_packet_laws
 pub mod SpellLength
--- for acn_packet_laws, acn_tree, acn_text and acn_check
+-- for acn_packet_laws, acn_text and acn_check
+pub mod TextRules
+-- for acn_packet_laws
 pub mod Texts
 -- for acn_packet_laws, acn_well_formed, acn_tree and acn_check
 pub mod TreeRules
--- for acn_tree and acn_run
+-- for acn_tree, acn_run and acn_leaf_cases
 pub mod Views
+-- for acn_packet_laws, acn_leaf, acn_tree, acn_ints, acn_text and acn_check
+pub mod WholeTests
 -- for acn_packet_laws and acn_ints
 pub mod WidthLaw
--- for acn_packet_laws, acn_tree, acn_ints, acn_text and acn_check
+-- for acn_packet_laws, acn_ints and acn_check
 pub mod Within

@@ -1,8 +1,7 @@
 -- Codes of several lengths grow with the distance of the number.
-use Rattle.std.proofs.Common.{◌≡◌, ℕ, ◌-◌, ◌*◌, ◌^◌, ◌<◌, ◌≤◌, max, ℤ, pos, negsuc, Bool, true, false, not, List, [], ◌∷◌, refl, arith, nat_le, ◌&&◌, ◌||◌, inl, inr, ◌⊎◌}
+use Rattle.std.proofs.Common.{◌≡◌, ℕ, ◌-◌, ◌*◌, ◌^◌, ◌<◌, ◌≤◌, max, ℤ, pos, negsuc, Bool, true, false, not, List, [], ◌∷◌, refl, arith, nat_le, ◌&&◌, inl, inr, ◌⊎◌}
 use Rattle.std.specs.Prelude.{◌-ℤ◌, ◌≤ℤ◌, ◌<ℤ◌, nat_abs, int_le, int_lt, if◌then◌else◌}
 use Rattle.std.proofs.lemmas.Int.{ints}
-use Rattle.std.proofs.lemmas.Bool.Decides.{nat_tests}
 use native.Mathlib.Decide.{dec_le}
 use Rattle.std.proofs.lemmas.Nat.{pow_pos}
 use Rattle.acn_num.specs.Ranges.{has}
@@ -14,6 +13,7 @@ use Rattle.acn_grammar.specs.declared.node.NumCoding.TheVariants.{Range, Counted
 use Rattle.acn_grammar.proofs.Counts.{count_more, fits_is, fits_true}
 use Rattle.acn_grammar.proofs.Within.{between}
 use Rattle.std.proofs.lemmas.Bool.{le-leb, leb-true}
+use Rattle.acn_grammar.proofs.WholeTests.{lt_fact, ge_fact, either}
 
 octets-grow : (a b : ℕ) → a ≤ b → least_octets a ≤ least_octets b
 octets-grow a b h = omega (arith, count_more (λ c. nat_le (256 ^ c) a) (λ c. nat_le (256 ^ c) b) 1 7 (λ j u v. le-leb (256 ^ j) b (omega (arith, leb-true (256 ^ j) a v))))
@@ -53,14 +53,8 @@ signed-grow : (a b : ℤ) → Nearer a b → least_signed_octets a ≤ least_sig
 signed-grow a b n = omega (arith, count_more (λ c. not (fits_octets a c)) (λ c. not (fits_octets b c)) 1 7 (λ j u v. not_back (fits_octets a j) (fits_octets b j) (fits-nearer a b j n) v))
 
 near_dist : (o y : ℤ) (r : ℤ × ℤ) → r.0 ≤ℤ y → y ≤ℤ r.1 → nat_abs (nearest o r -ℤ o) ≤ nat_abs (y -ℤ o)
-near_dist o y r a b = by (int_lt o r.0) (int_lt r.1 o) (lt_fact o r.0) (not_lt o r.0) (lt_fact r.1 o) (not_lt r.1 o)
+near_dist o y r a b = by (int_lt o r.0) (int_lt r.1 o) (lt_fact o r.0) (ge_fact o r.0) (lt_fact r.1 o) (ge_fact r.1 o)
   where
-    lt_fact : (x y : ℤ) → int_lt x y ≡ true → x <ℤ y
-    lt_fact x y h = grind (arith, ints, nat_tests)
-
-    not_lt : (x y : ℤ) → int_lt x y ≡ false → y ≤ℤ x
-    not_lt x y h = grind (arith, ints, nat_tests)
-
     by : (s t : Bool) → (s ≡ true → o <ℤ r.0) → (s ≡ false → r.0 ≤ℤ o) → (t ≡ true → r.1 <ℤ o) → (t ≡ false → o ≤ℤ r.1)
         → nat_abs ((if s then r.0 else (if t then r.1 else o)) -ℤ o) ≤ nat_abs (y -ℤ o)
     by true t f g h k = let p = f refl in omega (arith, ints)
@@ -83,9 +77,6 @@ grows_to_max f g d a b h = elim (dec_le a b) [
 near_signed : (y : ℤ) (r : ℤ × ℤ) → r.0 ≤ℤ y → y ≤ℤ r.1 → Nearer (nearest (pos 0) r) y
 near_signed y r a b = by (int_lt (pos 0) r.0) (int_lt r.1 (pos 0)) (lt_fact (pos 0) r.0) (lt_fact r.1 (pos 0))
   where
-    lt_fact : (x y : ℤ) → int_lt x y ≡ true → x <ℤ y
-    lt_fact x y h = grind (arith, ints, nat_tests)
-
     sides : (y : ℤ) → Nearer (pos 0) y
     sides (pos n) = inl (omega (arith, ints), omega (arith, ints))
     sides (negsuc n) = inr (omega (arith, ints), omega (arith, ints))
@@ -145,7 +136,3 @@ lengths_have coding v (r ∷ rs) y h =
     either {F = Has (lengths_of coding (r ∷ rs)) (coding_length coding y)} (int_le r.0 y && int_le y r.1) (has rs y) h
     (λ o. let w = between r.0 r.1 y o in let p = range_has coding v r y w.0 w.1 in let one = p.0 in let two = p.1 in (omega arith, omega arith))
     (λ o. let p = lengths_have coding v rs y o in let one = p.0 in let two = p.1 in (omega arith, omega arith))
-  where
-    either : {F : Type 0} (a b : Bool) → (a || b) ≡ true → (a ≡ true → F) → (b ≡ true → F) → F
-    either true b h f g = f refl
-    either false b h f g = g h

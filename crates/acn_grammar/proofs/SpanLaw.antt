@@ -1,18 +1,16 @@
 -- Every spelling has a length between the two bounds of its node.
-use Rattle.std.proofs.Common.{◌≡◌, ℕ, zero, suc, ◌+◌, ◌-◌, ◌*◌, ◌^◌, ◌<◌, ◌≤◌, ℤ, pos, negsuc, ◌+ℤ◌, Bool, true, false, not, List, [], ◌∷◌, length, Option, Some, None, refl, sym, ap, ◌∙◌, arith, nat_eq, nat_lt, ◌&&◌, IsTrue}
-use Rattle.std.specs.Prelude.{◌≤ℤ◌, int_le, int_lt}
+use Rattle.std.proofs.Common.{◌≡◌, ℕ, zero, suc, ◌+◌, ◌-◌, ◌*◌, ◌^◌, ◌<◌, ◌≤◌, ℤ, pos, negsuc, Bool, true, false, List, [], length, Option, Some, None, refl, ap, ◌∙◌, arith, ◌&&◌, IsTrue}
+use Rattle.std.specs.Prelude.{◌≤ℤ◌}
 use Rattle.std.proofs.lemmas.Int.{ints}
-use Rattle.std.proofs.lemmas.Bool.Decides.{nat_tests}
-use Rattle.std.proofs.Math.Nat.{mul-le-mul_right}
-use Rattle.acn_num.specs.Ranges.{In, has, least, greatest, are_ranges, are_ranges_above, all_within}
+use Rattle.acn_num.specs.Ranges.{In, has, least, greatest}
 use Rattle.acn_grammar.specs.Grammar.{Grammar, Form, Fields, Alternatives, Data, Places, Elements, node, num, octets, bits, text, seq, list, choice, contained, no_fields, component, inserted, no_alternatives, alternative, octet_string, bit_string, characters, record_of, list_of, alt, null, no_places, empty, filled, no_elements, element, element_count}
 use Rattle.acn_grammar.specs.Code.{Mode, Code}
 use Rattle.acn_grammar.specs.Env.{Env, MayBeAway}
 use Rattle.acn_grammar.specs.Images.{images_of}
-use Rattle.acn_grammar.specs.Interval.{held, exactly, hold, plus, times, hull, in_octets, size_of, sizes_of, fixed_width, span_by, num_span, from_one_octet, code_lengths, end_width, list_around, component_span, span, form_span, fields_span, alternatives_span}
-use Rattle.acn_grammar.specs.Leaves.{num_fine, text_fine, sizing_fine, list_fine, list_rule_fine, sizes_fine, rule_fine, end_fine, no_size, is_terminator}
+use Rattle.acn_grammar.specs.Interval.{exactly, hold, plus, times, in_octets, size_of, sizes_of, fixed_width, span_by, num_span, from_one_octet, code_lengths, end_width, list_around, component_span, span, form_span, fields_span, alternatives_span}
+use Rattle.acn_grammar.specs.Leaves.{num_fine, text_fine, sizing_fine, list_fine, list_rule_fine, sizes_fine, rule_fine, end_fine}
 use Rattle.acn_grammar.specs.Length.{coding_length, rule_width, ending, index_width, presence_bits, bit_before}
-use Rattle.acn_grammar.specs.Spell.{Part, ◌then◌, Padding, Spell, FormPart, FieldsPart, SlotField, RunPart, RulePart, ListPart, CharactersPart, EndedPart, Window, Fill, IndexPart, AlternativePart}
+use Rattle.acn_grammar.specs.Spell.{Part, ◌then◌, Padding, Spell, FormPart, FieldsPart, SlotField, RunPart, RulePart, ListPart, EndedPart, Window, Fill, IndexPart, AlternativePart}
 use Rattle.acn_grammar.specs.declared.bounds.Bounds.{Bounds}
 use Rattle.acn_grammar.specs.declared.node.NumCoding.{NumCoding}
 use Rattle.acn_grammar.specs.declared.node.NumCoding.TheVariants.{Range, CountedFrom, CountedSigned, PosInt, Twos, Bcd, BcdEnded, Ascii, AsciiEnded, Flag, Fixed}
@@ -29,55 +27,14 @@ use Rattle.acn_grammar.proofs.LeafLengths.{limits_of, coding-length}
 use Rattle.acn_grammar.proofs.FineLeaves.{rules_of}
 use Rattle.acn_grammar.proofs.Monotone.{Has, Varies, lengths_have}
 use Rattle.acn_grammar.proofs.SpellLength.{then-length, bits-length}
-use Rattle.acn_grammar.proofs.Texts.{either, above, le_fact, lt_fact, ranges_from}
-use Rattle.acn_grammar.proofs.Within.{image_has, between}
-use Rattle.std.proofs.lemmas.Bool.{and_parts, eqb-true}
-
--- The least is no more than the number, and the greatest no less, where it isn't held down.
-pub record Between (b : Bounds) (n : ℕ) : Type 0 where
-  pub low : b.least ≤ n
-  pub high : b.greatest < 2 ^ 40 → n ≤ b.greatest
-
-exactly_between : (n : ℕ) → Between (exactly n) n
-exactly_between n = record { low = omega arith; high = λ h. omega arith }
-
-plus_between : (a b : Bounds) (m n : ℕ) → Between a m → Between b n → Between (plus a b) (m + n)
-plus_between a b m n p q =
-    let one = p.low in
-    let two = q.low in
-    record { low = omega arith; high = λ h. omega (arith, p.high (omega arith), q.high (omega arith)) }
-
-hull_left : (a b : Bounds) (n : ℕ) → Between a n → Between (hull a b) n
-hull_left a b n p = let one = p.low in record { low = omega arith; high = λ h. omega (arith, p.high (omega arith)) }
-
-hull_right : (a b : Bounds) (n : ℕ) → Between b n → Between (hull a b) n
-hull_right a b n p = let one = p.low in record { low = omega arith; high = λ h. omega (arith, p.high (omega arith)) }
-
-times_high : (a e : Bounds) (c n : ℕ) → c ≤ a.greatest → (e.greatest < 2 ^ 40 → n ≤ c * e.greatest) → (c ≡ 0 → n ≡ 0) → held (a.greatest * e.greatest) < 2 ^ 40 → n ≤ held (a.greatest * e.greatest)
-times_high a e zero n h high none small = let z = none refl in omega arith
-times_high a e (suc c) n h high none small =
-    let one = mul-le-mul_right {m = 1} {n = a.greatest} e.greatest (omega arith) in
-    let two = mul-le-mul_right {m = suc c} {n = a.greatest} e.greatest h in
-    let three = high (omega arith) in
-    omega arith
-
-times_between : (a e : Bounds) (c n : ℕ) → Has a c → c * e.least ≤ n → (e.greatest < 2 ^ 40 → n ≤ c * e.greatest) → (c ≡ 0 → n ≡ 0) → Between (times a e) n
-times_between a e c n h low high none =
-    record { low = omega (arith, mul-le-mul_right {m = a.least} {n = c} e.least h.0); high = times_high a e c n h.1 high none }
-
--- as many parts of one width
-same_between : (a : Bounds) (c w n : ℕ) → Has a c → n ≡ w * c → Between (times a (exactly w)) n
-same_between a c w n h e =
-    times_between a (exactly w) c n h (omega (arith, held_low c w, e)) (λ small. omega (arith, held_high c w small, e)) (λ z. none c w n z e)
-  where
-    held_low : (c w : ℕ) → c * held w ≤ w * c
-    held_low c w = omega (arith, mul-le-mul_right {m = held w} {n = w} c (omega arith))
-
-    held_high : (c w : ℕ) → held w < 2 ^ 40 → w * c ≤ c * held w
-    held_high c w s = omega (arith, mul-le-mul_right {m = w} {n = held w} c (omega arith))
-
-    none : (c w n : ℕ) → c ≡ 0 → n ≡ w * c → n ≡ 0
-    none c w n z e = e ∙ (ap (λ k. w * k) z ∙ omega arith)
+use Rattle.acn_grammar.proofs.Within.{image_has}
+use Rattle.std.proofs.lemmas.Bool.{and_parts}
+use Rattle.acn_grammar.proofs.RangeEnds.{ranges_from, from_least, to_greatest, some_greatest}
+use Rattle.acn_grammar.proofs.Spans.{Between, exactly_spans, plus_spans, hull_first, hull_second, times_spans, same_spans, there_spans}
+use Rattle.acn_grammar.proofs.Characters.{characters_long}
+use Rattle.acn_grammar.proofs.TextRules.{text_rules, end_rules, no_width, size_rules, size_few}
+use Rattle.acn_num.specs.declared.limits.TheConstants.{MOST_SIZE}
+use Rattle.acn_grammar.specs.declared.limits.TheConstants.{MOST_PACKET_BITS}
 
 -- Leaves.
 
@@ -124,7 +81,7 @@ hold_between : (b : Bounds) (n : ℕ) → Has b n → Between (hold b) n
 hold_between b n h = let one = h.0 in let two = h.1 in record { low = omega arith; high = λ s. omega arith }
 
 by_width : (leaf : NumLeaf) (o : Option ℕ) (y : ℤ) → o ≡ fixed_width leaf.coding → has (images_of leaf) y ≡ true → Between (span_by leaf o) (coding_length leaf.coding y)
-by_width leaf (Some w) y e h = rw (fixed_is leaf.coding w y e) (exactly_between w)
+by_width leaf (Some w) y e h = rw (fixed_is leaf.coding w y e) (exactly_spans w)
 by_width leaf None y e h = hold_between (from_one_octet leaf.coding (code_lengths leaf)) (coding_length leaf.coding y) (from_one_has leaf.coding (code_lengths leaf) y (lengths_have leaf.coding (varies_if leaf.coding e) (images_of leaf) y h))
 
 code_between : (mode : Mode) (leaf : NumLeaf) → IsTrue (num_fine leaf) → (x : ℤ) (bs : List Bool) → Code mode leaf x bs → Between (num_span leaf) (length bs)
@@ -134,86 +91,20 @@ code_between mode leaf h x bs c =
 
 -- Sizes.
 
-from_least : (b : ℤ) (rs : List (ℤ × ℤ)) (x z : ℤ) → are_ranges_above b rs ≡ true → has rs x ≡ true → least rs ≡ Some z → z ≤ℤ x
-from_least b [] x z h p e = cc
-from_least b (r ∷ rs) x z h p e =
-    let f = and_parts (int_lt b r.0) (int_le r.0 r.1 && are_ranges_above (r.1 +ℤ pos 1) rs) h in
-    let g = and_parts (int_le r.0 r.1) (are_ranges_above (r.1 +ℤ pos 1) rs) f.1 in
-    let is : r.0 ≡ z = cc in
-    let whole = le_fact r.0 r.1 g.0 in
-    rw (← is) (either {F = r.0 ≤ℤ x} (int_le r.0 x && int_le x r.1) (has rs x) p
-    (λ o. (between r.0 r.1 x o).0)
-    (λ o. let far = above (r.1 +ℤ pos 1) rs x g.1 o in omega (arith, ints)))
-
-last_of_two : (r s : ℤ × ℤ) (rs : List (ℤ × ℤ)) → greatest (r ∷ s ∷ rs) ≡ greatest (s ∷ rs)
-last_of_two r s rs = refl
-
-first_in : (r : ℤ × ℤ) (rs : List (ℤ × ℤ)) → r.0 ≤ℤ r.1 → has (r ∷ rs) r.0 ≡ true
-first_in r rs h =
-    let a : int_le r.0 r.0 ≡ true = le_self r.0 in
-    let b : int_le r.0 r.1 ≡ true = le_test r.0 r.1 h in
-    rw (a, b)
-  where
-    le_self : (x : ℤ) → int_le x x ≡ true
-    le_self x = grind (arith, ints, nat_tests)
-
-    le_test : (x y : ℤ) → x ≤ℤ y → int_le x y ≡ true
-    le_test x y h = grind (arith, ints, nat_tests)
-
-to_greatest : (b : ℤ) (rs : List (ℤ × ℤ)) (x z : ℤ) → are_ranges_above b rs ≡ true → has rs x ≡ true → greatest rs ≡ Some z → x ≤ℤ z
-to_greatest b [] x z h p e = cc
-to_greatest b (r ∷ []) x z h p e =
-    let is : r.1 ≡ z = cc in
-    rw (← is) (either {F = x ≤ℤ r.1} (int_le r.0 x && int_le x r.1) (has [] x) p (λ o. (between r.0 r.1 x o).1) (λ o. no_number x o))
-  where
-    no_number : {F : Type 0} (x : ℤ) → has [] x ≡ true → F
-    no_number x o = cc
-to_greatest b (r ∷ s ∷ rs) x z h p e =
-    let f = and_parts (int_lt b r.0) (int_le r.0 r.1 && are_ranges_above (r.1 +ℤ pos 1) (s ∷ rs)) h in
-    let g = and_parts (int_le r.0 r.1) (are_ranges_above (r.1 +ℤ pos 1) (s ∷ rs)) f.1 in
-    let i = and_parts (int_lt (r.1 +ℤ pos 1) s.0) (int_le s.0 s.1 && are_ranges_above (s.1 +ℤ pos 1) rs) g.1 in
-    let j = and_parts (int_le s.0 s.1) (are_ranges_above (s.1 +ℤ pos 1) rs) i.1 in
-    let rest = sym (last_of_two r s rs) ∙ e in
-    let next = to_greatest (r.1 +ℤ pos 1) (s ∷ rs) s.0 z g.1 (first_in s rs (le_fact s.0 s.1 j.0)) rest in
-    let over = lt_fact (r.1 +ℤ pos 1) s.0 i.0 in
-    either {F = x ≤ℤ z} (int_le r.0 x && int_le x r.1) (has (s ∷ rs) x) p
-    (λ o. let w = (between r.0 r.1 x o).1 in omega (arith, ints))
-    (λ o. to_greatest (r.1 +ℤ pos 1) (s ∷ rs) x z g.1 o rest)
-
-within_all : (low high : ℤ) (rs : List (ℤ × ℤ)) (x : ℤ) → all_within low high rs ≡ true → has rs x ≡ true → x ≤ℤ high
-within_all low high [] x h p = cc
-within_all low high (r ∷ rs) x h p =
-    let f = and_parts (int_le low r.0) (int_le r.1 high && all_within low high rs) h in
-    let g = and_parts (int_le r.1 high) (all_within low high rs) f.1 in
-    let end = le_fact r.1 high g.0 in
-    either {F = x ≤ℤ high} (int_le r.0 x && int_le x r.1) (has rs x) p (λ o. let w = (between r.0 r.1 x o).1 in omega (arith, ints)) (λ o. within_all low high rs x g.1 o)
-
 least_size : (o : Option ℤ) (n : ℕ) → ((z : ℤ) → o ≡ Some z → z ≤ℤ pos n) → size_of o ≤ n
 least_size None n h = omega arith
 least_size (Some (pos k)) n h = let p = h (pos k) refl in omega (arith, ints)
 least_size (Some (negsuc k)) n h = omega arith
 
-greatest_size : (rs : List (ℤ × ℤ)) (n : ℕ) → n ≤ 65536 → has rs (pos n) ≡ true → (o : Option ℤ) → greatest rs ≡ o → ((z : ℤ) → o ≡ Some z → pos n ≤ℤ z) → n ≤ size_of o
-greatest_size rs n l p None e h = absurd (some_greatest rs n p e)
-  where
-    some_greatest : (rs : List (ℤ × ℤ)) (n : ℕ) → has rs (pos n) ≡ true → greatest rs ≡ None → ⊥
-    some_greatest [] n p e = cc
-    some_greatest (r ∷ []) n p e = cc
-    some_greatest (r ∷ s ∷ rs) n p e = last_some s rs (sym (last_of_two r s rs) ∙ e)
-      where
-        last_some : (s : ℤ × ℤ) (rs : List (ℤ × ℤ)) → greatest (s ∷ rs) ≡ None → ⊥
-        last_some s [] e = cc
-        last_some s (t ∷ rs) e = last_some t rs (sym (last_of_two s t rs) ∙ e)
+greatest_size : (rs : List (ℤ × ℤ)) (n : ℕ) → n ≤ MOST_SIZE → has rs (pos n) ≡ true → (o : Option ℤ) → greatest rs ≡ o → ((z : ℤ) → o ≡ Some z → pos n ≤ℤ z) → n ≤ size_of o
+greatest_size rs n l p None e h = absurd (some_greatest rs (pos n) e p)
 greatest_size rs n l p (Some (pos k)) e h = let q = h (pos k) refl in omega (arith, ints)
 greatest_size rs n l p (Some (negsuc k)) e h = let q = h (negsuc k) refl in absurd (omega (arith, ints))
 
 pub size_has : (rs : List (ℤ × ℤ)) (n : ℕ) → sizes_fine rs ≡ true → In rs (pos n) → Has (sizes_of rs) n
 size_has rs n h p =
-    let a = and_parts (nat_lt 0 (length rs)) (are_ranges rs && all_within (pos 0) (pos 65536) rs) h in
-    let b = and_parts (are_ranges rs) (all_within (pos 0) (pos 65536) rs) a.1 in
-    let c = ranges_from rs b.0 in
-    let few = within_all (pos 0) (pos 65536) rs (pos n) b.1 p in
-    (least_size (least rs) n (λ z e. from_least c.0 rs (pos n) z c.1 p e), greatest_size rs n (omega (arith, ints)) p (greatest rs) refl (λ z e. to_greatest c.0 rs (pos n) z c.1 p e))
+    let c = ranges_from rs (size_rules rs h).ranges in
+    (least_size (least rs) n (λ z e. from_least c.0 rs (pos n) z c.1 p e), greatest_size rs n (size_few rs n h p) p (greatest rs) refl (λ z e. to_greatest c.0 rs (pos n) z c.1 p e))
 
 -- What of a node's rules its bounds need, by recursion.
 abbrev mutual
@@ -240,22 +131,18 @@ abbrev mutual
   AlternativesFine (alternative name g tests more) = Fine g × AlternativesFine more
 
 joined : {P Q : Part} {at : ℕ} {bs : List Bool} (t : (P then Q) at bs) (a b : Bounds) → Between a (length t.front) → Between b (length t.back) → Between (plus a b) (length bs)
-joined t a b p q = rw (then-length t) (plus_between a b (length t.front) (length t.back) p q)
+joined t a b p q = rw (then-length t) (plus_spans a b (length t.front) (length t.back) p q)
 
 padding_between : (mode : Mode) (align at : ℕ) (bs : List Bool) → Padding mode align at bs → Between (record { least = 0; greatest = align - 1 }) (length bs)
 padding_between mode align at bs p = let few = p.fewest in record { low = omega arith; high = λ h. omega arith }
 
-rule_between : (rule : SizeRule) (env : Env) (n at : ℕ) (bs : List Bool) → RulePart rule env n at bs → Between (exactly (rule_width rule)) (length bs)
-rule_between (Prefix low width) env n at bs p = rw p.spelled.width (exactly_between width)
-rule_between (Slot s) env n at bs p = rw p.1 (exactly_between 0)
+pub rule_between : (rule : SizeRule) (env : Env) (n at : ℕ) (bs : List Bool) → RulePart rule env n at bs → Between (exactly (rule_width rule)) (length bs)
+rule_between (Prefix low width) env n at bs p = rw p.spelled.width (exactly_spans width)
+rule_between (Slot s) env n at bs p = rw p.1 (exactly_spans 0)
 rule_between (Ended q) env n at bs p = absurd p.0
 
 sized : (sizes : List (ℤ × ℤ)) (rule : SizeRule) → (sizes_fine sizes && rule_fine sizes rule) ≡ true → sizes_fine sizes ≡ true
 sized sizes rule h = (and_parts (sizes_fine sizes) (rule_fine sizes rule) h).0
-
-characters-width : (leaf : TextLeaf) (cs : List ℕ) (at : ℕ) (bs : List Bool) → CharactersPart leaf cs at bs → length bs ≡ leaf.width * length cs
-characters-width leaf [] at bs e = ap length e ∙ omega arith
-characters-width leaf (c ∷ cs) at bs t = omega (arith, then-length t, t.first.spelled.width, characters-width leaf cs (at + length t.front) t.back t.second)
 
 text_between : (end : Option (List Bool)) (leaf : TextLeaf) (env : Env) (cs : List ℕ) (at : ℕ) (bs : List Bool) → sizes_fine leaf.sized.sizes ≡ true → end_fine end leaf ≡ true → EndedPart end leaf env cs at bs
     → Between (plus (exactly (rule_width leaf.sized.rule + end_width end)) (times (sizes_of leaf.sized.sizes) (exactly leaf.width))) (length bs)
@@ -263,22 +150,14 @@ text_between None leaf env cs at bs h f t =
     let none : rule_width leaf.sized.rule + 0 ≡ rule_width leaf.sized.rule = omega arith in
     joined t (exactly (rule_width leaf.sized.rule + 0)) (times (sizes_of leaf.sized.sizes) (exactly leaf.width))
     (rw none (rule_between leaf.sized.rule env (length cs) at t.front t.first.spelled))
-    (same_between (sizes_of leaf.sized.sizes) (length cs) leaf.width (length t.back) (size_has leaf.sized.sizes (length cs) h t.first.given) (characters-width leaf cs (at + length t.front) t.back t.second))
+    (same_spans (sizes_of leaf.sized.sizes) (length cs) leaf.width (length t.back) (size_has leaf.sized.sizes (length cs) h t.first.given) (characters_long leaf cs (at + length t.front) t.back t.second))
 text_between (Some end) leaf env cs at bs h f t =
-    let a = and_parts (no_size leaf.sized.rule) (nat_eq leaf.width 8 && (not leaf.indexed && is_terminator end)) f in
-    let none = no_width leaf.sized.rule a.0 in
-    let first = same_between (sizes_of leaf.sized.sizes) (length cs) leaf.width (length t.spelled.front) (size_has leaf.sized.sizes (length cs) h t.given.0) (characters-width leaf cs at t.spelled.front t.spelled.first) in
-    let last : Between (exactly (rule_width leaf.sized.rule + length end)) (length t.spelled.back) = rw (none, t.spelled.second) (exactly_between (length end)) in
+    let none : rule_width leaf.sized.rule + length end ≡ length end = omega (arith, no_width leaf.sized.rule (end_rules leaf end f).rule) in
+    let first = same_spans (sizes_of leaf.sized.sizes) (length cs) leaf.width (length t.spelled.front) (size_has leaf.sized.sizes (length cs) h t.given.0) (characters_long leaf cs at t.spelled.front t.spelled.first) in
+    let last : Between (exactly (rule_width leaf.sized.rule + length end)) (length t.spelled.back) = rw (none, t.spelled.second) (exactly_spans (length end)) in
     let whole = then-length t.spelled in
     let swap : length bs ≡ length t.spelled.back + length t.spelled.front = omega arith in
-    rw swap (plus_between (exactly (rule_width leaf.sized.rule + length end)) (times (sizes_of leaf.sized.sizes) (exactly leaf.width)) (length t.spelled.back) (length t.spelled.front) last first)
-  where
-    no_width : (rule : SizeRule) → no_size rule ≡ true → rule_width rule + length end ≡ length end
-    no_width (Prefix low width) h =
-        let z = eqb-true width 0 (and_parts (nat_eq low 0) (nat_eq width 0) h).1 in
-        omega arith
-    no_width (Slot s) h = cc
-    no_width (Ended p) h = cc
+    rw swap (plus_spans (exactly (rule_width leaf.sized.rule + length end)) (times (sizes_of leaf.sized.sizes) (exactly leaf.width)) (length t.spelled.back) (length t.spelled.front) last first)
 
 run_least : (e : Bounds) (each : Data → Part) → ((d : Data) (at : ℕ) (bs : List Bool) → each d at bs → Between e (length bs)) → (es : Elements) (at : ℕ) (bs : List Bool) → RunPart each es at bs → element_count es * e.least ≤ length bs
 run_least e each h no_elements at bs t = omega arith
@@ -298,19 +177,19 @@ list_between : (end : Option (List Bool)) (sizing : Sizing) (env : Env) (e : Bou
     → (es : Elements) (at : ℕ) (bs : List Bool) → ListPart end sizing env each es at bs → Between (plus (exactly (list_around end sizing)) (times (sizes_of sizing.sizes) e)) (length bs)
 list_between None sizing env e each f h es at bs t =
     joined t (exactly (rule_width sizing.rule)) (times (sizes_of sizing.sizes) e) (rule_between sizing.rule env (element_count es) at t.front t.first.spelled)
-    (times_between (sizes_of sizing.sizes) e (element_count es) (length t.back) (size_has sizing.sizes (element_count es) f t.first.given)
+    (times_spans (sizes_of sizing.sizes) e (element_count es) (length t.back) (size_has sizing.sizes (element_count es) f t.first.given)
     (run_least e each h es (at + length t.front) t.back t.second)
     (run_greatest e each h es (at + length t.front) t.back t.second)
     (run_none each es (at + length t.front) t.back t.second))
 list_between (Some p) sizing env e each f h es at bs t =
-    let first = times_between (sizes_of sizing.sizes) e (element_count es) (length t.spelled.front) (size_has sizing.sizes (element_count es) f t.given)
+    let first = times_spans (sizes_of sizing.sizes) e (element_count es) (length t.spelled.front) (size_has sizing.sizes (element_count es) f t.given)
     (run_least e each h es at t.spelled.front t.spelled.first)
     (run_greatest e each h es at t.spelled.front t.spelled.first)
     (run_none each es at t.spelled.front t.spelled.first) in
-    let last : Between (exactly (length p)) (length t.spelled.back) = rw t.spelled.second (exactly_between (length p)) in
+    let last : Between (exactly (length p)) (length t.spelled.back) = rw t.spelled.second (exactly_spans (length p)) in
     let whole = then-length t.spelled in
     let swap : length bs ≡ length t.spelled.back + length t.spelled.front = omega arith in
-    rw swap (plus_between (exactly (length p)) (times (sizes_of sizing.sizes) e) (length t.spelled.back) (length t.spelled.front) last first)
+    rw swap (plus_spans (exactly (length p)) (times (sizes_of sizing.sizes) e) (length t.spelled.back) (length t.spelled.front) last first)
 
 window_between : (b : Bounds) (content fill : Part) (mode : Mode) (n at : ℕ) (bs : List Bool) → ((cs : List Bool) → content 0 cs → Between b (length cs)) → Window content (Fill mode) n at bs → Between (in_octets b) (length bs)
 window_between b content fill mode n at bs h t =
@@ -322,21 +201,16 @@ window_between b content fill mode n at bs h t =
     record { low = omega arith; high = λ s. omega (arith, i.high (omega arith)) }
 
 index_between : (root : Grammar) (rule : ChoiceRule) (i at : ℕ) (bs : List Bool) → IndexPart root rule i at bs → Between (exactly (index_width rule)) (length bs)
-index_between root (Index width) i at bs p = rw p.width (exactly_between width)
-index_between root Tests i at bs e = rw e (exactly_between 0)
-index_between root (Item s) i at bs e = rw e (exactly_between 0)
-
-there_between : (presence : Presence) (b : Bounds) (n : ℕ) → Between b n → Between (component_span presence b) (length (bit_before presence true []) + n)
-there_between Always b n p = let one = p.low in record { low = omega arith; high = λ h. omega (arith, p.high h) }
-there_between Bit b n p = record { low = omega arith; high = λ h. omega (arith, p.high (omega arith)) }
-there_between (When ts) b n p = record { low = omega arith; high = λ h. omega (arith, p.high h) }
+index_between root (Index width) i at bs p = rw p.width (exactly_spans width)
+index_between root Tests i at bs e = rw e (exactly_spans 0)
+index_between root (Item s) i at bs e = rw e (exactly_spans 0)
 
 away_between : (env : Env) (presence : Presence) (b : Bounds) → MayBeAway env presence → Between (component_span presence b) (length (bit_before presence false []))
 away_between env Always b p = absurd p
 away_between env Bit b p = record { low = omega arith; high = λ h. omega arith }
 away_between env (When ts) b p = record { low = omega arith; high = λ h. omega arith }
 
-bit_before-length : (presence : Presence) (b : Bool) (bs : List Bool) → length (bit_before presence b bs) ≡ length (bit_before presence b []) + length bs
+pub bit_before-length : (presence : Presence) (b : Bool) (bs : List Bool) → length (bit_before presence b bs) ≡ length (bit_before presence b []) + length bs
 bit_before-length Always b bs = omega arith
 bit_before-length Bit b bs = omega arith
 bit_before-length (When ts) b bs = omega arith
@@ -356,16 +230,13 @@ module _ (root : Grammar) (mode : Mode) where
     form_between (num leaf) f env d at bs t = code_between mode leaf f t.0 bs t.2
     form_between (octets sizing) f env (octet_string os) at bs t =
         joined t (exactly (rule_width sizing.rule)) (times (sizes_of sizing.sizes) (exactly 8)) (rule_between sizing.rule env (length os) at t.front t.first.spelled)
-        (same_between (sizes_of sizing.sizes) (length os) 8 (length t.back) (size_has sizing.sizes (length os) (sized sizing.sizes sizing.rule f) t.first.given) (ap length t.second.spelled ∙ bits-length os))
+        (same_spans (sizes_of sizing.sizes) (length os) 8 (length t.back) (size_has sizing.sizes (length os) (sized sizing.sizes sizing.rule f) t.first.given) (ap length t.second.spelled ∙ bits-length os))
     form_between (bits sizing) f env (bit_string cs) at bs t =
         joined t (exactly (rule_width sizing.rule)) (times (sizes_of sizing.sizes) (exactly 1)) (rule_between sizing.rule env (length cs) at t.front t.first.spelled)
-        (same_between (sizes_of sizing.sizes) (length cs) 1 (length t.back) (size_has sizing.sizes (length cs) (sized sizing.sizes sizing.rule f) t.first.given) (ap length t.second ∙ omega arith))
+        (same_spans (sizes_of sizing.sizes) (length cs) 1 (length t.back) (size_has sizing.sizes (length cs) (sized sizing.sizes sizing.rule f) t.first.given) (ap length t.second ∙ omega arith))
     form_between (text leaf) f env (characters cs) at bs t =
-        let a = and_parts (sizes_fine leaf.sized.sizes) (nat_lt 0 (length leaf.alphabet) && (are_ranges leaf.alphabet && (all_within (pos 0) (pos 127) leaf.alphabet && end_fine leaf.ended leaf))) f in
-        let b = and_parts (nat_lt 0 (length leaf.alphabet)) (are_ranges leaf.alphabet && (all_within (pos 0) (pos 127) leaf.alphabet && end_fine leaf.ended leaf)) a.1 in
-        let c = and_parts (are_ranges leaf.alphabet) (all_within (pos 0) (pos 127) leaf.alphabet && end_fine leaf.ended leaf) b.1 in
-        let e = and_parts (all_within (pos 0) (pos 127) leaf.alphabet) (end_fine leaf.ended leaf) c.1 in
-        text_between leaf.ended leaf env cs at bs a.0 e.1 t
+        let r = text_rules leaf f in
+        text_between leaf.ended leaf env cs at bs r.sizes r.end t
     form_between (seq fields home) f env (record_of ps) at bs t =
         let inside = fields_between fields f _ ps (at + length t.spelled.front) t.spelled.back t.spelled.second in
         let front = ap length t.spelled.first in
@@ -383,41 +254,41 @@ module _ (root : Grammar) (mode : Mode) where
 
     -- the fields with their presence bits
     fields_between : (fs : Fields) → FieldsFine fs → (env : Env) (ps : Places) (at : ℕ) (bs : List Bool) → FieldsPart root mode fs env ps at bs → Between (fields_span fs) (length (presence_bits fs ps) + length bs)
-    fields_between no_fields f env no_places at bs t = rw t (exactly_between 0)
+    fields_between no_fields f env no_places at bs t = rw t (exactly_spans 0)
     fields_between (component name g presence default own fs) f env (filled d ps) at bs t =
-        let here = there_between presence (span g) (length t.front) (span_between g f.0 env d at t.front t.first.spelled) in
+        let here = there_spans presence (span g) (length t.front) (span_between g f.0 env d at t.front t.first.spelled) in
         let rest = fields_between fs f.1 env ps (at + length t.front) t.back t.second in
         let whole = then-length t in
         let flags = bit_before-length presence true (presence_bits fs ps) in
         let is : length (bit_before presence true (presence_bits fs ps)) + length bs ≡ (length (bit_before presence true []) + length t.front) + (length (presence_bits fs ps) + length t.back) = omega arith in
-        rw is (plus_between (component_span presence (span g)) (fields_span fs) (length (bit_before presence true []) + length t.front) (length (presence_bits fs ps) + length t.back) here rest)
+        rw is (plus_spans (component_span presence (span g)) (fields_span fs) (length (bit_before presence true []) + length t.front) (length (presence_bits fs ps) + length t.back) here rest)
     fields_between (component name g presence default own fs) f env (empty ps) at bs t =
         let here = away_between env presence (span g) t.given in
         let rest = fields_between fs f.1 env ps at bs t.spelled in
         let flags = bit_before-length presence false (presence_bits fs ps) in
         let is : length (bit_before presence false (presence_bits fs ps)) + length bs ≡ length (bit_before presence false []) + (length (presence_bits fs ps) + length bs) = omega arith in
-        rw is (plus_between (component_span presence (span g)) (fields_span fs) (length (bit_before presence false [])) (length (presence_bits fs ps) + length bs) here rest)
+        rw is (plus_spans (component_span presence (span g)) (fields_span fs) (length (bit_before presence false [])) (length (presence_bits fs ps) + length bs) here rest)
     fields_between (inserted name g (Some s) fs) f env ps at bs t =
         let here = slot_between g f.0 env s at t.front t.first in
         let rest = fields_between fs f.1 env ps (at + length t.front) t.back t.second in
         let whole = then-length t in
         let is : length (presence_bits fs ps) + length bs ≡ length t.front + (length (presence_bits fs ps) + length t.back) = omega arith in
-        rw is (plus_between (span g) (fields_span fs) (length t.front) (length (presence_bits fs ps) + length t.back) here rest)
+        rw is (plus_spans (span g) (fields_span fs) (length t.front) (length (presence_bits fs ps) + length t.back) here rest)
     fields_between (inserted name g None fs) f env ps at bs t =
         let here = span_between g f.0 env null at t.front t.first in
         let rest = fields_between fs f.1 env ps (at + length t.front) t.back t.second in
         let whole = then-length t in
         let is : length (presence_bits fs ps) + length bs ≡ length t.front + (length (presence_bits fs ps) + length t.back) = omega arith in
-        rw is (plus_between (span g) (fields_span fs) (length t.front) (length (presence_bits fs ps) + length t.back) here rest)
+        rw is (plus_spans (span g) (fields_span fs) (length t.front) (length (presence_bits fs ps) + length t.back) here rest)
     fields_between _ f env ps at bs t = absurd t.0
 
     alternative_between : (cases : Alternatives) → AlternativesFine cases → (rule : ChoiceRule) (env : Env) (i : ℕ) (d : Data) (at : ℕ) (bs : List Bool) → AlternativePart root mode cases rule env i d at bs → Between (alternatives_span cases) (length bs)
-    alternative_between (alternative name g tests more) f rule env zero d at bs t = hull_left (span g) (alternatives_span more) (length bs) (span_between g f.0 env d at bs t.spelled)
-    alternative_between (alternative name g tests more) f rule env (suc i) d at bs t = hull_right (span g) (alternatives_span more) (length bs) (alternative_between more f.1 rule env i d at bs t)
+    alternative_between (alternative name g tests more) f rule env zero d at bs t = hull_first (span g) (alternatives_span more) (length bs) (span_between g f.0 env d at bs t.spelled)
+    alternative_between (alternative name g tests more) f rule env (suc i) d at bs t = hull_second (span g) (alternatives_span more) (length bs) (alternative_between more f.1 rule env i d at bs t)
     alternative_between no_alternatives f rule env i d at bs t = absurd t.0
 
   -- in a tree whose greatest bound is within a packet's limit the bounds hold as they stand
-  pub within_bounds : Fine root → (span root).greatest ≤ 524336 → (d : Data) (bs : List Bool) → Spell root mode root [] d 0 bs → ((span root).least ≤ length bs) × (length bs ≤ (span root).greatest)
+  pub within_bounds : Fine root → (span root).greatest ≤ MOST_PACKET_BITS → (d : Data) (bs : List Bool) → Spell root mode root [] d 0 bs → ((span root).least ≤ length bs) × (length bs ≤ (span root).greatest)
   within_bounds f small d bs t =
       let b = span_between root f [] d 0 bs t in
       (b.low, b.high (omega arith))

@@ -9,7 +9,7 @@ use Rattle.acn_grammar.specs.Code.{Mode, Code, NumberOf}
 use Rattle.acn_grammar.specs.Env.{Env}
 use Rattle.acn_grammar.specs.Length.{padding, bit_length, form_length, fields_length, num_length, number_of, presence_bits, rule_width, inserted_length, run_length, list_length, ending, alternative_length, least, text_length, index_width}
 use Rattle.acn_grammar.specs.Leaves.{num_fine}
-use Rattle.acn_grammar.specs.Spell.{Part, ◌then◌, Padding, Spell, FormPart, FieldsPart, SlotField, RunPart, RulePart, SizePart, ListPart, CharactersPart, EndedPart, Window, Fill, IndexPart, AlternativePart}
+use Rattle.acn_grammar.specs.Spell.{Part, ◌then◌, Padding, Spell, FormPart, FieldsPart, SlotField, RunPart, RulePart, ListPart, EndedPart, Window, Fill, IndexPart, AlternativePart}
 use Rattle.acn_grammar.specs.declared.node.NumKind.{NumKind}
 use Rattle.acn_grammar.specs.declared.node.NumKind.TheVariants.{Integer, Boolean, Enumerated, Null}
 use Rattle.acn_grammar.specs.declared.node.NumLeaf.{NumLeaf}
@@ -19,6 +19,7 @@ use Rattle.acn_grammar.specs.declared.node.ChoiceRule.TheVariants.{Index, Tests,
 use Rattle.acn_grammar.specs.declared.node.Sizing.{Sizing}
 use Rattle.acn_grammar.specs.declared.node.SizeRule.{SizeRule}
 use Rattle.acn_grammar.specs.declared.node.SizeRule.TheVariants.{Prefix, Slot, Ended}
+use Rattle.acn_grammar.proofs.Characters.{characters_long}
 
 pub then-length : {P Q : Part} {at : ℕ} {bs : List Bool} (t : (P then Q) at bs) → length bs ≡ length t.front + length t.back
 then-length t = rw t.whole (length-append t.front t.back)
@@ -115,16 +116,11 @@ module _ (root : Grammar) (mode : Mode) (code-length : (leaf : NumLeaf) → IsTr
   list-length (Some p) sizing env each f h es at bs t =
       then_sums t.spelled (run_length f at es) (λ n. length p) (run-length each f h es at t.spelled.front t.spelled.first) (ap length t.spelled.second)
 
-  characters-length : (leaf : TextLeaf) (cs : List ℕ) (at : ℕ) (bs : List Bool) → CharactersPart leaf cs at bs → length bs ≡ leaf.width * length cs
-  characters-length leaf [] at bs e = ap length e ∙ omega arith
-  characters-length leaf (c ∷ cs) at bs t =
-      omega (arith, then-length t, t.first.spelled.width, characters-length leaf cs (at + length t.front) t.back t.second)
-
   text-length : (end : Option (List Bool)) (leaf : TextLeaf) (env : Env) (cs : List ℕ) (at : ℕ) (bs : List Bool) → EndedPart end leaf env cs at bs → length bs ≡ text_length end leaf (length cs)
   text-length None leaf env cs at bs t =
-      then_sums t (rule_width leaf.sized.rule) (λ n. leaf.width * length cs) (rule-length leaf.sized.rule env (length cs) at t.front t.first.spelled) (characters-length leaf cs (at + length t.front) t.back t.second)
+      then_sums t (rule_width leaf.sized.rule) (λ n. leaf.width * length cs) (rule-length leaf.sized.rule env (length cs) at t.front t.first.spelled) (characters_long leaf cs (at + length t.front) t.back t.second)
   text-length (Some end) leaf env cs at bs t =
-      then_sums t.spelled (leaf.width * length cs) (λ n. length end) (characters-length leaf cs at t.spelled.front t.spelled.first) (ap length t.spelled.second)
+      then_sums t.spelled (leaf.width * length cs) (λ n. length end) (characters_long leaf cs at t.spelled.front t.spelled.first) (ap length t.spelled.second)
 
   num-length : (leaf : NumLeaf) → IsTrue (num_fine leaf) → OneWidth leaf → (align at : ℕ) (x : ℤ) (bs : List Bool) → (Padding mode align then (λ at' cs. Code mode leaf x cs)) at bs → length bs ≡ padding align at + num_length leaf (least leaf.set)
   num-length leaf f w align at x bs t =

@@ -1,8 +1,7 @@
 -- No spelling of a text begins another.
-use Rattle.std.proofs.Common.{◌≡◌, ℕ, suc, ◌+◌, ◌%◌, ◌≤◌, ℤ, pos, ◌+ℤ◌, Bool, true, false, not, List, [], ◌∷◌, ◌++◌, length, take, Option, Some, None, refl, sym, ap, ◌∙◌, arith, append_assoc, nat_eq, nat_lt, ◌&&◌, ◌||◌, IsTrue, length-append}
-use Rattle.std.specs.Prelude.{◌-ℤ◌, ◌≤ℤ◌, ◌<ℤ◌, int_le, int_lt, nat_abs, if◌then◌else◌}
+use Rattle.std.proofs.Common.{◌≡◌, ℕ, suc, ◌+◌, ◌%◌, ◌≤◌, ℤ, pos, ◌+ℤ◌, Bool, true, false, not, List, [], ◌∷◌, ◌++◌, length, take, Option, Some, None, refl, sym, ap, ◌∙◌, arith, append_assoc, nat_eq, nat_lt, ◌&&◌, IsTrue, length-append}
+use Rattle.std.specs.Prelude.{◌-ℤ◌, ◌≤ℤ◌, int_le, int_lt, nat_abs, if◌then◌else◌}
 use Rattle.std.proofs.lemmas.Int.{ints}
-use Rattle.std.proofs.lemmas.Bool.Decides.{nat_tests}
 use Rattle.acn_num.specs.Bits.{IsNumber, number}
 use Rattle.acn_num.specs.Ranges.{In, has, are_ranges, are_ranges_above, all_within}
 use Rattle.acn_grammar.specs.Env.{Env}
@@ -11,35 +10,13 @@ use Rattle.acn_grammar.specs.Spell.{Part, ◌then◌, Where, place_in, character
 use Rattle.acn_grammar.specs.declared.node.TextLeaf.{TextLeaf}
 use Rattle.acn_grammar.proofs.Prefix.{Law, then_law, number_law, same_front}
 use Rattle.std.proofs.lemmas.Bool.{and_parts, not-true, eqb-true}
+use Rattle.acn_grammar.proofs.WholeTests.{le_fact, either}
+use Rattle.acn_grammar.proofs.RangeEnds.{above, ranges_from}
 
-given_law : {P Q : Part} {F A B : Type 0} → (A → B → Law P Q F) → Law (Where A P) (Where B Q) F
+pub given_law : {P Q : Part} {F A B : Type 0} → (A → B → Law P Q F) → Law (Where A P) (Where B Q) F
 given_law h at a b r s p q e = h p.given q.given at a b r s p.spelled q.spelled e
 
 -- The place of a character tells it.
-
-pub lt_fact : (x y : ℤ) → int_lt x y ≡ true → x <ℤ y
-lt_fact x y h = grind (arith, ints, nat_tests)
-
-pub le_fact : (x y : ℤ) → int_le x y ≡ true → x ≤ℤ y
-le_fact x y h = grind (arith, ints, nat_tests)
-
-gt_fact : (x y : ℤ) → int_le x y ≡ false → y <ℤ x
-gt_fact x y h = grind (arith, ints, nat_tests)
-
-pub either : {F : Type 0} (a b : Bool) → (a || b) ≡ true → (a ≡ true → F) → (b ≡ true → F) → F
-either true b h f g = f refl
-either false b h f g = g h
-
-pub above : (b : ℤ) (rs : List (ℤ × ℤ)) (x : ℤ) → are_ranges_above b rs ≡ true → has rs x ≡ true → b <ℤ x
-above b [] x h p = cc
-above b (r ∷ rs) x h p =
-    let f = and_parts (int_lt b r.0) (int_le r.0 r.1 && are_ranges_above (r.1 +ℤ pos 1) rs) h in
-    let g = and_parts (int_le r.0 r.1) (are_ranges_above (r.1 +ℤ pos 1) rs) f.1 in
-    let one = lt_fact b r.0 f.0 in
-    let two = le_fact r.0 r.1 g.0 in
-    either {F = b <ℤ x} (int_le r.0 x && int_le x r.1) (has rs x) p
-    (λ q. let three = le_fact r.0 x (and_parts (int_le r.0 x) (int_le x r.1) q).0 in omega (arith, ints))
-    (λ q. let three = above (r.1 +ℤ pos 1) rs x g.1 q in omega (arith, ints))
 
 -- a number of the first range, or of those behind it
 first_or_later : (r : ℤ × ℤ) (rs : List (ℤ × ℤ)) (x : ℤ) → are_ranges_above (r.1 +ℤ pos 1) rs ≡ true → has (r ∷ rs) x ≡ true → int_le x r.1 ≡ true → r.0 ≤ℤ x
@@ -78,15 +55,6 @@ place_one b (r ∷ rs) x z h p q e =
     let g = and_parts (int_le r.0 r.1) (are_ranges_above (r.1 +ℤ pos 1) rs) f.1 in
     place_step r x z (place_in rs x) (place_in rs z) (int_le x r.1) (int_le z r.1) (first_or_later r rs x g.1 p) (first_or_later r rs z g.1 q) (le_fact x r.1) (le_fact z r.1)
     (λ s t w. place_one (r.1 +ℤ pos 1) rs x z g.1 (later r rs x p s) (later r rs z q t) w) e
-
-pub ranges_from : (rs : List (ℤ × ℤ)) → are_ranges rs ≡ true → (b : ℤ) × (are_ranges_above b rs ≡ true)
-ranges_from [] h = (pos 0, refl)
-ranges_from (r ∷ rs) h =
-    let t : int_lt (r.0 -ℤ pos 1) r.0 ≡ true = below r.0 in
-    (r.0 -ℤ pos 1, rw t h)
-  where
-    below : (x : ℤ) → int_lt (x -ℤ pos 1) x ≡ true
-    below x = grind (arith, ints, nat_tests)
 
 tell_by : (indexed : Bool) (alphabet : List (ℤ × ℤ)) → are_ranges alphabet ≡ true → (c d : ℕ) → In alphabet (pos c) → In alphabet (pos d)
     → (if indexed then place_in alphabet (pos c) else c) ≡ (if indexed then place_in alphabet (pos d) else d) → c ≡ d

@@ -12,12 +12,10 @@ use Rattle.acn_grammar.specs.declared.node.Items.{Items}
 use Rattle.acn_grammar.specs.declared.node.NumLeaf.{NumLeaf}
 use Rattle.acn_grammar.specs.declared.node.Table.{Table}
 use Rattle.std.proofs.lemmas.Bool.{or_right, or_left, and_parts}
+use Rattle.acn_grammar.proofs.WholeTests.{le_test, le_fact, either}
 
 has_range : (r : ℤ × ℤ) (x : ℤ) (rs : List (ℤ × ℤ)) → r.0 ≤ℤ x → x ≤ℤ r.1 → has (r ∷ rs) x ≡ true
 has_range r x rs h k = rw (le_test r.0 x h, le_test x r.1 k)
-  where
-    le_test : (a b : ℤ) → a ≤ℤ b → int_le a b ≡ true
-    le_test a b h = grind (arith, ints, nat_tests)
 
 has_front : (rs ss : List (ℤ × ℤ)) (x : ℤ) → has rs x ≡ true → has (rs ++ ss) x ≡ true
 has_front [] ss x h = cc
@@ -43,16 +41,9 @@ line_has r line x a b c d =
         let t : int_le low high ≡ true = grind (arith, ints, nat_tests) in
         rw t (has_range (line.2 +ℤ (low -ℤ line.0), line.2 +ℤ (high -ℤ line.0)) (line.2 +ℤ (x -ℤ line.0)) [] (omega (arith, ints)) (omega (arith, ints)))
 
-or_cases : {F : Type 0} (a b : Bool) → (a || b) ≡ true → (a ≡ true → F) → (b ≡ true → F) → F
-or_cases true b h f g = f refl
-or_cases false b h f g = g h
-
 if_cases : {F : Type 0} (t : Bool) (v y : ℤ) (rest : Option ℤ) → (if t then Some v else rest) ≡ Some y → (t ≡ true → v ≡ y → F) → (rest ≡ Some y → F) → F
 if_cases true v y rest q f g = f refl cc
 if_cases false v y rest q f g = g q
-
-le_fact : (x y : ℤ) → int_le x y ≡ true → x ≤ℤ y
-le_fact x y h = grind (arith, ints, nat_tests)
 
 pub between : (a b x : ℤ) → (int_le a x && int_le x b) ≡ true → (a ≤ℤ x) × (x ≤ℤ b)
 between a b x h = let f = and_parts (int_le a x) (int_le x b) h in (le_fact a x f.0, le_fact x b f.1)
@@ -67,18 +58,18 @@ lines_have r (line ∷ lines) x y a b e =
 table_has : (lines : List (ℤ × ℤ × ℤ)) (rs : List (ℤ × ℤ)) (x y : ℤ) → has rs x ≡ true → image_in lines x ≡ Some y → has (flat_map (λ r. flat_map (clipped r) lines) rs) y ≡ true
 table_has lines [] x y h e = cc
 table_has lines (r ∷ rs) x y h e =
-    or_cases {F = has (flat_map (λ z. flat_map (clipped z) lines) (r ∷ rs)) y ≡ true} (int_le r.0 x && int_le x r.1) (has rs x) h
+    either {F = has (flat_map (λ z. flat_map (clipped z) lines) (r ∷ rs)) y ≡ true} (int_le r.0 x && int_le x r.1) (has rs x) h
     (λ o. let w = between r.0 r.1 x o in has_front (flat_map (clipped r) lines) (flat_map (λ z. flat_map (clipped z) lines) rs) y (lines_have r lines x y w.0 w.1 e))
     (λ o. has_back (flat_map (clipped r) lines) (flat_map (λ z. flat_map (clipped z) lines) rs) y (table_has lines rs x y o e))
 
-le_self : (x y : ℤ) → x ≡ y → (int_le x y && int_le y x) ≡ true
-le_self x y e = grind (arith, ints, nat_tests)
+le_both : (x y : ℤ) → x ≡ y → (int_le x y && int_le y x) ≡ true
+le_both x y e = grind (arith, ints, nat_tests)
 
 items_have : (items : List (List ℕ × ℤ)) (i : ℕ) (y : ℤ) → option_map (λ named. named.1) (slice_get items i) ≡ Some y → has (map (λ named. (named.1, named.1)) items) y ≡ true
 items_have [] i y e = cc
 items_have (a ∷ items) zero y e =
     let is : a.1 ≡ y = cc in
-    or_left (int_le a.1 y && int_le y a.1) (has (map (λ named. (named.1, named.1)) items) y) (le_self a.1 y is)
+    or_left (int_le a.1 y && int_le y a.1) (has (map (λ named. (named.1, named.1)) items) y) (le_both a.1 y is)
 items_have (a ∷ items) (suc i) y e = or_right (int_le a.1 y && int_le y a.1) (has (map (λ named. (named.1, named.1)) items) y) (items_have items i y e)
 
 pub by_values : (v : Bool) (items : Items) (table : Option Table) (set : List (ℤ × ℤ)) (x y : ℤ) → has set x ≡ true → (if v then item_number items.items x else image_by table x) ≡ Some y
@@ -110,7 +101,7 @@ ends_from-has : (e : ℤ × ℤ) (rs : List (ℤ × ℤ)) (y : ℤ) → has rs y
 ends_from-has e [] y h = cc
 ends_from-has e (r ∷ rs) y h =
     let f = ends_from-below (int_min e.0 r.0, int_max e.1 r.1) rs in
-    or_cases {F = ((ends_from e (r ∷ rs)).0 ≤ℤ y) × (y ≤ℤ (ends_from e (r ∷ rs)).1)} (int_le r.0 y && int_le y r.1) (has rs y) h
+    either {F = ((ends_from e (r ∷ rs)).0 ≤ℤ y) × (y ≤ℤ (ends_from e (r ∷ rs)).1)} (int_le r.0 y && int_le y r.1) (has rs y) h
     (λ o. let w = between r.0 r.1 y o in (low_end _ e.0 r.0 y f.0 w.0, high_end _ e.1 r.1 y f.1 w.1))
     (λ o. ends_from-has (int_min e.0 r.0, int_max e.1 r.1) rs y o)
   where
@@ -124,7 +115,7 @@ pub ends-has : (rs : List (ℤ × ℤ)) (y : ℤ) (e : ℤ × ℤ) → has rs y 
 ends-has [] y e h is = cc
 ends-has (r ∷ rs) y e h is =
     let same : ends_from r rs ≡ e = some_one (ends_from r rs) e is in
-    or_cases {F = (e.0 ≤ℤ y) × (y ≤ℤ e.1)} (int_le r.0 y && int_le y r.1) (has rs y) h
+    either {F = (e.0 ≤ℤ y) × (y ≤ℤ e.1)} (int_le r.0 y && int_le y r.1) (has rs y) h
     (λ o. let w = between r.0 r.1 y o in let f = ends_from-below r rs in (rw (← same) (trans_le _ _ _ f.0 w.0), rw (← same) (trans_le _ _ _ w.1 f.1)))
     (λ o. let f = ends_from-has r rs y o in (rw (← same) f.0, rw (← same) f.1))
   where

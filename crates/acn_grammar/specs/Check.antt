@@ -3,7 +3,7 @@
 use Rattle.std.specs.Prelude.{◌≡◌, ℕ, ◌+◌, ◌<◌, ◌≤◌, ℤ, Bool, true, false, not, ◌&&◌, nat_le, if◌then◌else◌, List, [], ◌∷◌, ◌++◌, length, map, take, Option, Some, None, slice_get, nat_eq, ◌⊎◌, count_by, Contains}
 use Rattle.std.specs.List.{AllByRecursion, flat_map}
 use Rattle.acn_num.specs.Ranges.{In}
-use Rattle.acn_grammar.specs.Grammar.{Grammar, Form, Fields, Alternatives, node, num, seq, list, choice, no_fields, component, inserted, no_alternatives, alternative}
+use Rattle.acn_grammar.specs.Grammar.{Grammar, Form, Fields, Alternatives, node, num, seq, list, choice, component, inserted}
 use Rattle.acn_grammar.specs.Code.{Any, Code}
 use Rattle.acn_grammar.specs.Env.{AllHold}
 use Rattle.acn_grammar.specs.Fails.{presence_count}
@@ -17,7 +17,6 @@ use Rattle.acn_grammar.specs.declared.node.NumLeaf.{NumLeaf}
 use Rattle.acn_grammar.specs.declared.node.NumCoding.{NumCoding}
 use Rattle.acn_grammar.specs.declared.node.NumCoding.TheVariants.{Range, PosInt, Twos, Flag as Pattern_or_bit, Fixed}
 use Rattle.acn_grammar.specs.declared.node.Table.{Table}
-use Rattle.acn_grammar.specs.declared.node.Presence.{Presence}
 use Rattle.acn_grammar.specs.declared.node.Presence.TheVariants.{Always}
 use Rattle.acn_grammar.specs.declared.node.Test.{Test}
 use Rattle.acn_grammar.specs.declared.node.Test.TheVariants.{Flag, Equals}

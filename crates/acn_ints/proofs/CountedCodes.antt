@@ -19,7 +19,7 @@ use Rattle.acn_grammar.specs.declared.read_fault.ReadFault.TheVariants.{Short}
 use Rattle.acn_ints.specs.FixedReads.{Taken, TooFew}
 use Rattle.acn_ints.specs.Counts.{IsCount, CountWrong}
 use Rattle.acn_ints.proofs.FixedCodes.{is_number}
-use Rattle.acn_ints.proofs.SaidLemmas.{reads_passed}
+use Rattle.acn_bits.proofs.Readings.{reads_passed, reads_map}
 
 -- what a count and its octets are, in the bits that were there before
 pub record Parts (old new : Reading) (c v : ℕ) : Type 0 where
@@ -128,16 +128,13 @@ counted_read fits old new c v p spells least =
       least = least;
     })
 
-reads_as : (P Q : List Bool → Type 0) (old new : Reading) → ((front : List Bool) → P front → Q front) → Reads P old new → Reads Q old new
-reads_as P Q old new f r = record { front = r.front; split = r.split; moved = r.moved; window = r.window; holds = f r.front r.holds }
-
 pub from_said : (low : ℤ) (old new : Reading) (c v : ℕ) (wire image : ℤ) → Parts old new c v → c ≤ least_octets v → wire ≡ pos v → image ≡ low +ℤ pos v → (leaf : NumLeaf) → IsSaid (CountedFrom low) leaf old new wire image
 from_said low old new c v wire image p minimal w i leaf =
     let below : v < 2 ^ (8 * c) = subst (λ (k : ℕ). v < 2 ^ k) p.body.width (subst (λ (k : ℕ). k < 2 ^ length (take (8 * c) (drop 8 old.rest))) p.body.value (number_below (take (8 * c) (drop 8 old.rest)))) in
     let up = least_octets_le c v p.some below in
     let exact : least_octets v ≡ c = omega (arith, up, minimal) in
     record {
-      read = reads_as (Counted (λ d body. IsNumber (8 * d) v body)) (CodingCode Any (CountedFrom low) leaf.little image) old new (λ front h. (v, i, h))
+      read = reads_map (Counted (λ d body. IsNumber (8 * d) v body)) (CodingCode Any (CountedFrom low) leaf.little image) old new (λ front h. (v, i, h))
           (counted_read (λ d body. IsNumber (8 * d) v body) old new c v p p.body (λ d other some is. le_trans c (least_octets v) d minimal (least_octets_le d v some (below_of d v other is))));
       refused = λ none. subst (λ (z : ℤ). Refuses (CountedFrom low) leaf old.rest (out_of_range z)) (sym w)
           (count_refused (λ b. pos (number b)) (λ x. least_octets (nat_abs x)) (λ x. low +ℤ x) leaf old new c v (pos v) p (ap pos p.body.value) exact (subst (NoneHas leaf) i none));

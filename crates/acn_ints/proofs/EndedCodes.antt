@@ -18,7 +18,7 @@ use Rattle.acn_grammar.specs.declared.read_fault.ReadFault.TheVariants.{NotMinim
 use Rattle.acn_ints.specs.declared.said.Said.{Said}
 use Rattle.acn_ints.specs.EndedReads.{digit_codes, AreDecimal, NoDigit, PassedEnded, CharacterWrong, EndedWrong, IsSignedValue}
 use Rattle.acn_ints.specs.Reads.{IsSaid, Refuses}
-use Rattle.acn_ints.proofs.SaidLemmas.{reads_map}
+use Rattle.acn_bits.proofs.Readings.{reads_map}
 
 -- the two ways to write digits are one
 

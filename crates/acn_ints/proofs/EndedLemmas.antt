@@ -15,7 +15,8 @@ use Rattle.acn_grammar.specs.declared.read_fault.ReadFault.{ReadFault}
 use Rattle.acn_ints.specs.declared.ended.Ended.{Ended}
 use Rattle.acn_ints.specs.FixedReads.{Taken}
 use Rattle.acn_ints.specs.EndedReads.{digit_codes, AreDecimal, NoDigit, PassedDigit, PassedEnd, PassedRest, PassedEnded, RestWrong, CharacterWrong, EndedWrong, AreSoFar, starts_with_zero}
-use Rattle.acn_ints.proofs.SaidLemmas.{reads_passed, stays_twice, taken_stays}
+use Rattle.acn_ints.proofs.SaidLemmas.{taken_stays}
+use Rattle.acn_bits.proofs.Readings.{reads_passed, stays_twice, reads_join}
 
 pub passed_twice : (n m : ℕ) (r : Reading) → passed m (passed n r) ≡ passed (n + m) r
 passed_twice n m r = rw (drop-drop m n r.rest, plus r.at n m) refl
@@ -80,18 +81,6 @@ pub stays_rest : (size v : ℕ) (old mid new : Reading) → Taken size old mid v
 stays_rest size v old mid new t s = stays_twice old mid new (taken_stays size old mid v t) s
 
 -- Digits in a row.
-
-pub reads_join : (P Q R : List Bool → Type 0) (a b c : Reading) → ((x y : List Bool) → P x → Q y → R (x ++ y)) → Reads P a b → Reads Q b c → Reads R a c
-reads_join P Q R a b c f x y = record {
-  front = x.front ++ y.front;
-  split = x.split ∙ ap (λ (t : List Bool). x.front ++ t) y.split ∙ sym (append_assoc x.front y.front c.rest);
-  moved = y.moved ∙ ap (λ (k : ℕ). k + length y.front) x.moved ∙ plus a.at (length x.front) (length y.front) ∙ ap (λ (k : ℕ). a.at + k) (sym (length-append x.front y.front));
-  window = y.window ∙ x.window;
-  holds = f x.front y.front x.holds y.holds;
-}
-  where
-    plus : (p q r : ℕ) → (p + q) + r ≡ p + (q + r)
-    plus p q r = omega arith
 
 pub codes-append : (size z : ℕ) (ds es : List ℕ) → digit_codes size z (ds ++ es) ≡ digit_codes size z ds ++ digit_codes size z es
 codes-append size z [] es = refl

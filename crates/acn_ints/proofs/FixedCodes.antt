@@ -1,11 +1,9 @@
 -- What the bits of one width say, coding by coding.
-use Rattle.std.proofs.Common.{◌≡◌, ℕ, ◌+◌, ◌^◌, ◌<◌, ◌≤◌, ℤ, pos, ◌+ℤ◌, Bool, true, false, ◌*◌, get_or, List, [], ◌∷◌, ◌++◌, length, take, refl, sym, ap, ◌∙◌, subst, arith, inl, inr, Some, None}
-use Rattle.std.proofs.lemmas.List.{length-take-le, take_more}
-use Rattle.std.proofs.Math.Nat.{pow-le-pow_right}
-use mir.Val.{bool_byte}
+use Rattle.std.proofs.Common.{◌≡◌, ℕ, ◌^◌, ◌<◌, ℤ, pos, ◌+ℤ◌, Bool, List, length, take, refl, sym, ap, ◌∙◌, subst, arith, inl, inr, Some, None}
+use Rattle.std.proofs.lemmas.List.{length-take-le}
 use Rattle.acn_num.specs.Bits.{number, signed_number, IsNumber}
 use Rattle.acn_bits.specs.Reading.{Reading}
-use Rattle.acn_num.proofs.BitLists.{number_below, number_same, number-append}
+use Rattle.acn_num.proofs.BitLists.{number_below, number_same}
 use Rattle.acn_grammar.specs.Code.{in_order}
 use Rattle.acn_grammar.specs.LeafFails.{bad_pattern}
 use Rattle.acn_grammar.specs.declared.node.NumCoding.TheVariants.{Range, PosInt, Twos, Flag, Fixed}
@@ -53,23 +51,6 @@ twos_said n little old new v x wire image t same long signed w =
       spells = (length-take-le n old.rest t.within, sym e);
       told = rw (w, e) refl;
     }
-
--- one bit more of a pattern
-pub push_bit : (bs : List Bool) (i n d : ℕ) → i < length bs → length bs ≤ 64 → n ≡ number (take i bs) → d ≡ bool_byte (get_or bs i false)
-    → (2 * n + d < 2 ^ 64) × (2 * n + d ≡ number (take (i + 1) bs))
-push_bit bs i n d inside few is digit =
-    let next : take (i + 1) bs ≡ take i bs ++ get_or bs i false ∷ [] = take_more bs i false inside in
-    let value : number (take (i + 1) bs) ≡ number (take i bs) * 2 ^ 1 + number (get_or bs i false ∷ []) = ap number next ∙ number-append (take i bs) (get_or bs i false ∷ []) in
-    let one : number (get_or bs i false ∷ []) ≡ bool_byte (get_or bs i false) = bit_value (get_or bs i false) in
-    let sum : 2 * n + d ≡ number (take (i + 1) bs) = omega (arith, value, one, is, digit) in
-    let long : length (take (i + 1) bs) ≡ i + 1 = length-take-le (i + 1) bs (omega arith) in
-    let below : number (take (i + 1) bs) < 2 ^ (i + 1) = subst (λ (k : ℕ). number (take (i + 1) bs) < 2 ^ k) long (number_below (take (i + 1) bs)) in
-    let wide : 2 ^ (i + 1) ≤ 2 ^ 64 = pow-le-pow_right {n = 2} (omega arith) {i = i + 1} {j = 64} (omega arith) in
-    (omega (arith, sum, below, wide), sum)
-  where
-    bit_value : (b : Bool) → number (b ∷ []) ≡ bool_byte b
-    bit_value true = refl
-    bit_value false = refl
 
 -- the bits are those of the pattern, or they are not
 pub same_bits : (p : List Bool) (old new : Reading) (v : ℕ) → Taken (length p) old new v → v ≡ number p → take (length p) old.rest ≡ p

@@ -19,11 +19,12 @@ use Rattle.acn_grammar.specs.declared.node.NumKind.{NumKind}
 use Rattle.acn_grammar.specs.declared.node.NumKind.TheVariants.{Integer, Boolean, Enumerated, Null}
 use Rattle.acn_grammar.specs.declared.node.NumLeaf.{NumLeaf}
 use Rattle.acn_grammar.specs.declared.node.Table.{Table}
-use Rattle.acn_grammar.proofs.FineLeaves.{rules_of}
+use Rattle.acn_grammar.proofs.FineLeaves.{rules_of, implied}
 use Rattle.acn_grammar.proofs.Within.{ends-has}
-use Rattle.acn_grammar.proofs.LeafLengths.{some_ends, int_ends, le_fact, lt_fact, eq_fact, is_plain, counted_kind}
+use Rattle.acn_grammar.proofs.LeafLengths.{some_ends, int_ends, is_plain, counted_kind}
 use Rattle.acn_ints.specs.Limits.{IsNear, IsEnd, AreNear, IsNearTable, ArePairsNear, PlainEnded, OrderFits, DigitsFit, SignedDigitsFit, EndFits, PatternsFit, CodingFits, LeafFits}
 use Rattle.std.proofs.lemmas.Bool.{and_parts, not-true, eqb-true}
+use Rattle.acn_grammar.proofs.WholeTests.{le_fact, lt_fact, eq_fact, either}
 
 from_to_is : (low high n : ℕ) → from_to low high n ≡ true → (low ≤ n) × (n ≤ high)
 from_to_is low high n h =
@@ -32,10 +33,6 @@ from_to_is low high n h =
   where
     le_is : (a b : ℕ) → nat_le a b ≡ true → a ≤ b
     le_is a b h = grind (arith, nat_tests)
-
-implied : (a b : Bool) → implies a b ≡ true → a ≡ true → b ≡ true
-implied true b h e = h
-implied false b h e = cc
 
 -- Widths and patterns.
 
@@ -99,10 +96,6 @@ pub record Ends (e : ℤ × ℤ) : Type 0 where
 number_ends : (x : ℤ) → is_number x ≡ true → (neg_ℤ (pos (2 ^ 63)) ≤ℤ x) × (x <ℤ pos (2 ^ 64))
 number_ends x h = let f = and_parts (int_le (neg_ℤ (pos (2 ^ 63))) x) (int_lt x (pos (2 ^ 64))) h in (le_fact _ _ f.0, lt_fact _ _ f.1)
 
-or_cases : {F : Type 0} (a b : Bool) → (a || b) ≡ true → (a ≡ true → F) → (b ≡ true → F) → F
-or_cases true b h f g = f refl
-or_cases false b h f g = g h
-
 one_range : (low high : ℤ) (set : List (ℤ × ℤ)) → is_range low high set ≡ true → ends set ≡ Some (low, high)
 one_range low high (r ∷ []) h =
     let f = and_parts (int_eq r.0 low) (int_eq r.1 high) h in
@@ -136,7 +129,7 @@ plain_ends Integer low width items table set e t s few is =
     let f = int_ends (Range low width) (ends set) b.0 in
     let same : f.0 ≡ e = same_ends (ends set) f.0 e f.1 is in
     let order = ends_order set e a.0 is in
-    subst Ends same (or_cases {F = Ends f.0} (int_lt f.0.1 (pos (2 ^ 63))) (int_le (pos 0) f.0.0 && int_lt f.0.1 (pos (2 ^ 64))) f.3
+    subst Ends same (either {F = Ends f.0} (int_lt f.0.1 (pos (2 ^ 63))) (int_le (pos 0) f.0.0 && int_lt f.0.1 (pos (2 ^ 64))) f.3
     (λ h. let low' = le_fact _ _ f.2 in let high = lt_fact _ _ h in let o = ordered f.0 same order in record { low = low'; top = omega (arith, ints, high, o); near = far f.0.0 f.0.1 low' high o })
     (λ h. let k = and_parts (int_le (pos 0) f.0.0) (int_lt f.0.1 (pos (2 ^ 64))) h in let zero_low = le_fact _ _ k.0 in let high = lt_fact _ _ k.1 in let o = ordered f.0 same order in record { low = omega (arith, ints, zero_low); top = omega (arith, ints, high, o); near = close f.0.0 f.0.1 zero_low high o }))
   where
@@ -165,7 +158,7 @@ plain_ends Null low width items table set e t s few is =
 width_small : (d width : ℕ) → is_least_width d width ≡ true → d < 2 ^ 64 → width ≤ 64
 width_small d width h few =
     let f = and_parts (nat_lt d (2 ^ width)) (nat_eq width 0 || nat_le (2 ^ (width - 1)) d) h in
-    or_cases {F = width ≤ 64} (nat_eq width 0) (nat_le (2 ^ (width - 1)) d) f.1
+    either {F = width ≤ 64} (nat_eq width 0) (nat_le (2 ^ (width - 1)) d) f.1
     (λ z. let e = eqb-true width 0 z in omega arith)
     (λ l. elim (dec_lt 64 width) [ yes more ↦ let low = le_is (2 ^ (width - 1)) d l in let m = pow-le-pow_right {n = 2} (omega arith) {i = 64} {j = width - 1} (omega arith) in absurd (omega (arith, low, m, few)) | no fine ↦ omega arith ])
   where
@@ -231,7 +224,7 @@ counted_fits kind low items table set t s f w =
     ends_of_plain coding Null items table set e s k is = cc
 
     below_end : (e : ℤ × ℤ) → (int_lt e.1 (pos (2 ^ 63)) || (int_le (pos 0) e.0 && int_lt e.1 (pos (2 ^ 64)))) ≡ true → e.0 ≤ℤ e.1 → e.0 <ℤ pos (2 ^ 64)
-    below_end e h o = or_cases {F = e.0 <ℤ pos (2 ^ 64)} (int_lt e.1 (pos (2 ^ 63))) (int_le (pos 0) e.0 && int_lt e.1 (pos (2 ^ 64))) h
+    below_end e h o = either {F = e.0 <ℤ pos (2 ^ 64)} (int_lt e.1 (pos (2 ^ 63))) (int_le (pos 0) e.0 && int_lt e.1 (pos (2 ^ 64))) h
         (λ x. let y = lt_fact e.1 (pos (2 ^ 63)) x in omega (arith, ints, y, o))
         (λ x. let y = lt_fact e.1 (pos (2 ^ 64)) (and_parts (int_le (pos 0) e.0) (int_lt e.1 (pos (2 ^ 64))) x).1 in omega (arith, ints, y, o))
 

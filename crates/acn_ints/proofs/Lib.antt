@@ -1,5 +1,4 @@
 mod CountedCodes
-mod Covered
 mod DigitCodes
 mod DigitLemmas
 mod DigitPuts

@@ -1,15 +1,15 @@
 -- A permitted number has an image that the leaf's coding can write.
-use Rattle.std.proofs.Common.{◌≡◌, ℕ, zero, suc, ◌-◌, ◌/◌, ◌^◌, ◌<◌, ℤ, pos, negsuc, ◌+ℤ◌, Bool, true, false, not, List, [], ◌∷◌, length, Option, Some, None, refl, sym, ◌∙◌, arith, nat_eq, nat_le, ◌&&◌, ◌||◌, IsTrue, inl, inr, ◌⊎◌}
-use Rattle.std.specs.Prelude.{◌-ℤ◌, ◌≤ℤ◌, ◌<ℤ◌, neg_ℤ, nat_abs, nat_lt, int_le, int_lt, slice_get, option_map, if◌then◌else◌}
+use Rattle.std.proofs.Common.{◌≡◌, ℕ, zero, suc, ◌-◌, ◌/◌, ◌^◌, ◌<◌, ℤ, pos, negsuc, ◌+ℤ◌, Bool, true, false, List, [], ◌∷◌, Option, Some, None, refl, arith, nat_eq, nat_le, ◌&&◌, ◌||◌, IsTrue, inl, inr, ◌⊎◌}
+use Rattle.std.specs.Prelude.{◌-ℤ◌, ◌≤ℤ◌, ◌<ℤ◌, neg_ℤ, nat_abs, nat_lt, int_le, int_lt, if◌then◌else◌}
 use Rattle.std.specs.List.{list_all}
 use Rattle.std.specs.Ordering.{int_eq}
 use Rattle.std.proofs.lemmas.Int.{ints}
 use Rattle.std.proofs.lemmas.Bool.Decides.{nat_tests}
 use Rattle.acn_num.specs.Bits.{is_least_width}
-use Rattle.acn_num.specs.Ranges.{In, has, distance, count, are_ranges, bottom, top, Above, AreRanges}
+use Rattle.acn_num.specs.Ranges.{In, has, distance, count, bottom, top, Above, AreRanges}
 use Rattle.acn_grammar.specs.Code.{image_of, image_by, item_number}
-use Rattle.acn_grammar.specs.Images.{images_by, images_of, ends, written_ends}
-use Rattle.acn_grammar.specs.Leaves.{num_fine, takes, set_fine, table_fine, line_fine, all_differ, share, has_size, can_write, is_range, no_items, items_fine, integer_set_fine}
+use Rattle.acn_grammar.specs.Images.{images_by, images_of, written_ends}
+use Rattle.acn_grammar.specs.Leaves.{num_fine, takes, set_fine, table_fine, line_fine, all_differ, share, has_size, can_write, is_range, no_items}
 use Rattle.acn_grammar.specs.declared.node.Items.{Items}
 use Rattle.acn_grammar.specs.declared.node.NumCoding.{NumCoding}
 use Rattle.acn_grammar.specs.declared.node.NumCoding.TheVariants.{Range, CountedFrom, CountedSigned, PosInt, Twos, Bcd, BcdEnded, Ascii, AsciiEnded, Flag, Fixed}
@@ -18,13 +18,14 @@ use Rattle.acn_grammar.specs.declared.node.NumKind.TheVariants.{Integer, Boolean
 use Rattle.acn_grammar.specs.declared.node.NumLeaf.{NumLeaf}
 use Rattle.acn_grammar.specs.declared.node.Table.{Table}
 use Rattle.acn_grammar.proofs.Counts.{fits_is}
-use Rattle.acn_grammar.proofs.FineLeaves.{rules_of}
-use Rattle.acn_grammar.proofs.LeafLengths.{some_ends, le_fact, lt_fact, eq_fact, limits_of, Limits}
+use Rattle.acn_grammar.proofs.FineLeaves.{rules_of, no_values}
+use Rattle.acn_grammar.proofs.LeafLengths.{some_ends, limits_of, Limits, plain_image}
 use Rattle.acn_grammar.proofs.Within.{image_has, ends-has}
 use Rattle.acn_ints.specs.Limits.{IsNear, CanWrite}
 use Rattle.acn_ints.specs.Pieces.{CanCode}
-use Rattle.acn_ints.proofs.Covered.{image_there}
-use Rattle.std.proofs.lemmas.Bool.{and_parts, not-true, eqb-true}
+use Rattle.std.proofs.lemmas.Bool.{and_parts}
+use Rattle.acn_grammar.proofs.WholeTests.{le_fact, lt_fact, eq_fact}
+use Rattle.acn_grammar.proofs.HasImage.{has_image, range_within}
 
 -- What the ends of the written numbers allow.
 
@@ -77,31 +78,6 @@ range_can low width e y h a b =
 
 -- A Boolean's number is 0 or 1, and a NULL's 0.
 
-no_values : (items : Items) → no_items items ≡ true → items.values ≡ false
-no_values items h = not-true items.values (and_parts (nat_eq (length items.items) 0) (not items.values) h).1
-
-has_one : (low high x : ℤ) (set : List (ℤ × ℤ)) → is_range low high set ≡ true → has set x ≡ true → (low ≤ℤ x) × (x ≤ℤ high)
-has_one low high x (r ∷ []) h k =
-    let f = and_parts (int_eq r.0 low) (int_eq r.1 high) h in
-    let a = eq_fact r.0 low f.0 in
-    let b = eq_fact r.1 high f.1 in
-    let g = and_parts (int_le r.0 x) (int_le x r.1) (only (int_le r.0 x && int_le x r.1) k) in
-    let c = le_fact r.0 x g.0 in
-    let d = le_fact x r.1 g.1 in
-    (omega (arith, ints, a, c), omega (arith, ints, b, d))
-  where
-    only : (b : Bool) → (b || false) ≡ true → b ≡ true
-    only true h = refl
-    only false h = cc
-has_one low high x [] h k = cc
-has_one low high x (r ∷ s ∷ rs) h k = cc
-
-plain_number : (values : Bool) (items : Items) (table : Option Table) (x y : ℤ) → values ≡ false → table ≡ None → (if values then item_number items.items x else image_by table x) ≡ Some y → x ≡ y
-plain_number values items table x y p q e = some_one x y (sym (rw (p, q)) ∙ e)
-  where
-    some_one : (x y : ℤ) → Some x ≡ Some y → x ≡ y
-    some_one x y e = cc
-
 no_table : (coding : NumCoding) (set : List (ℤ × ℤ)) (table : Option Table) → has_size coding ≡ false → table_fine coding set table ≡ true → table ≡ None
 no_table coding set None n h = refl
 no_table coding set (Some table) n h =
@@ -113,8 +89,8 @@ flag_number : (kind : NumKind) (p q : Option (List Bool)) (items : Items) (table
     → (if items.values then item_number items.items x else image_by table x) ≡ Some y → (y ≡ pos 0) ⊎ (y ≡ pos 1)
 flag_number Boolean p q items table set x y t s f h i =
     let a = and_parts (is_range (pos 0) (pos 1) set) (no_items items) s in
-    let same = plain_number items.values items table x y (no_values items a.1) (no_table (Flag p q) set table refl f) i in
-    let r = has_one (pos 0) (pos 1) x set a.0 h in
+    let same = plain_image items.values items table x y (no_values items a.1) (no_table (Flag p q) set table refl f) i in
+    let r = range_within (pos 0) (pos 1) set x a.0 h in
     let low = r.0 in
     let high = r.1 in
     zero_or_one y (omega (arith, ints, same, low)) (omega (arith, ints, same, high))
@@ -132,8 +108,8 @@ fixed_number : (kind : NumKind) (pattern : List Bool) (items : Items) (table : O
     → (if items.values then item_number items.items x else image_by table x) ≡ Some y → y ≡ pos 0
 fixed_number Null pattern items table set x y t s f h i =
     let a = and_parts (is_range (pos 0) (pos 0) set) (no_items items) s in
-    let same = plain_number items.values items table x y (no_values items a.1) (no_table (Fixed pattern) set table refl f) i in
-    let r = has_one (pos 0) (pos 0) x set a.0 h in
+    let same = plain_image items.values items table x y (no_values items a.1) (no_table (Fixed pattern) set table refl f) i in
+    let r = range_within (pos 0) (pos 0) set x a.0 h in
     let low = r.0 in
     let high = r.1 in
     omega (arith, ints, same, low, high)
@@ -167,53 +143,6 @@ can_write_image leaf x y h p i =
     let inside = ends-has (images_of leaf) y v.0 (image_has leaf x y p i) v.1 in
     can_by leaf.coding leaf.kind leaf.items leaf.table leaf.set v.0 x y r.kind r.set r.table v.2 (limits_of leaf x y h p i) inside.0 inside.1 p i
 
--- There is an image.
-
-table_image : (coding : NumCoding) (set : List (ℤ × ℤ)) (table : Option Table) (x : ℤ) → table_fine coding set table ≡ true → has set x ≡ true → (y : ℤ) × (image_by table x ≡ Some y)
-table_image coding set None x f h = (x, refl)
-table_image coding set (Some table) x f h =
-    let a = and_parts (has_size coding) (list_all line_fine table.lines && (all_differ share table.lines && nat_eq (count (images_by (Some table) set)) (count set))) f in
-    let b = and_parts (list_all line_fine table.lines) (all_differ share table.lines && nat_eq (count (images_by (Some table) set)) (count set)) a.1 in
-    let c = and_parts (all_differ share table.lines) (nat_eq (count (images_by (Some table) set)) (count set)) b.1 in
-    image_there set table.lines x b.0 c.0 (eqb-true (count (images_by (Some table) set)) (count set) c.1) h
-
-item_there : (items : List (List ℕ × ℤ)) (i : ℕ) → i < length items → (y : ℤ) × (option_map (λ named. named.1) (slice_get items i) ≡ Some y)
-item_there [] i h = absurd (omega arith)
-item_there (a ∷ items) zero h = (a.1, refl)
-item_there (a ∷ items) (suc i) h = item_there items i (omega arith)
-
-number_there : (items : List (List ℕ × ℤ)) (x : ℤ) → pos 0 ≤ℤ x → x <ℤ pos (length items) → (y : ℤ) × (item_number items x ≡ Some y)
-number_there items (pos i) low high = item_there items i (omega (arith, ints))
-number_there items (negsuc i) low high = absurd (omega (arith, ints))
-
-item_image : (kind : NumKind) (coding : NumCoding) (items : Items) (table : Option Table) (set : List (ℤ × ℤ)) (x : ℤ) → set_fine kind coding items table set ≡ true → items.values ≡ true → has set x ≡ true → (y : ℤ) × (item_number items.items x ≡ Some y)
-item_image Enumerated coding items table set x s v h =
-    let a = and_parts (nat_lt 0 (length items.items)) (is_range (pos 0) (pos (length items.items - 1)) set && items_fine coding items) s in
-    let b = and_parts (is_range (pos 0) (pos (length items.items - 1)) set) (items_fine coding items) a.1 in
-    let r = has_one (pos 0) (pos (length items.items - 1)) x set b.0 h in
-    let some = lt_is 0 (length items.items) a.0 in
-    let high = r.1 in
-    number_there items.items x r.0 (omega (arith, ints, some, high))
-  where
-    lt_is : (a b : ℕ) → nat_lt a b ≡ true → a < b
-    lt_is a b h = grind (arith, nat_tests)
-item_image Integer coding items table set x s v h =
-    let a = and_parts (are_ranges set) (integer_set_fine coding (ends set) && no_items items) s in
-    let b = and_parts (integer_set_fine coding (ends set)) (no_items items) a.1 in
-    let n = no_values items b.1 in
-    cc
-item_image Boolean coding items table set x s v h = let n = no_values items (and_parts (is_range (pos 0) (pos 1) set) (no_items items) s).1 in cc
-item_image Null coding items table set x s v h = let n = no_values items (and_parts (is_range (pos 0) (pos 0) set) (no_items items) s).1 in cc
-
-image_by_values : (v : Bool) (items : Items) (table : Option Table) (x : ℤ) → (v ≡ true → (y : ℤ) × (item_number items.items x ≡ Some y)) → (y : ℤ) × (image_by table x ≡ Some y) → (y : ℤ) × ((if v then item_number items.items x else image_by table x) ≡ Some y)
-image_by_values true items table x f g = f refl
-image_by_values false items table x f g = g
-
-image_exists : (leaf : NumLeaf) (x : ℤ) → IsTrue (num_fine leaf) → In leaf.set x → (y : ℤ) × (image_of leaf x ≡ Some y)
-image_exists leaf x h p =
-    let r = rules_of leaf h in
-    image_by_values leaf.items.values leaf.items leaf.table x (λ v. item_image leaf.kind leaf.coding leaf.items leaf.table leaf.set x r.set v p) (table_image leaf.coding leaf.set leaf.table x r.table p)
-
 -- A set lies in its ends.
 
 in_ends : (b : ℤ) (rs : List (ℤ × ℤ)) (x : ℤ) → Above b rs → has rs x ≡ true → (b <ℤ x) × (x ≤ℤ top)
@@ -244,5 +173,5 @@ near_of rs x a h =
 
 pub can_code : (leaf : NumLeaf) (x : ℤ) → IsTrue (num_fine leaf) → In leaf.set x → AreRanges leaf.set → CanCode leaf x
 can_code leaf x h p a =
-    let i = image_exists leaf x h p in
+    let i = has_image leaf h x p in
     record { permitted = p; near = near_of leaf.set x a p; image = i.0; maps = i.1; can = can_write_image leaf x i.0 h p i.1 }

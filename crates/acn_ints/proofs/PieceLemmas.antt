@@ -16,10 +16,7 @@ use Rattle.acn_grammar.specs.declared.node.NumCoding.TheVariants.{Range, PosInt,
 use Rattle.acn_ints.specs.Limits.{IsEnd, OrderFits, PatternsFit}
 use Rattle.acn_ints.specs.Pieces.{IsPiece, IsBits}
 use Rattle.acn_ints.proofs.Orders.{octets_of, length-octets_of, bits-octets_of, octets_below, in_order_bits, signed_high}
-
--- the lowest n bits spell a number below 2 ^ n
-pub low_is_number : (n v : ℕ) → v < 2 ^ n → IsNumber n v (low_bits n v)
-low_is_number n v h = record { width = length-low_bits n v; value = number-low_bits n v ∙ small v (2 ^ n) h }
+use Rattle.acn_grammar.proofs.Counts.{number_bits}
 
 pub low_same : (n v : ℕ) (bs : List Bool) → IsNumber n v bs → low_bits n v ≡ bs
 low_same n v bs is = subst (λ (m : ℕ). low_bits n m ≡ bs) is.value (subst (λ (k : ℕ). low_bits k (number bs) ≡ bs) is.width (low_bits-number bs))
@@ -37,7 +34,7 @@ pub range_made : (low y : ℤ) (width : ℕ) (little : Bool) → IsEnd low → w
 range_made low y width little ends narrow can =
     let wide : 2 ^ width ≤ 2 ^ 64 = pow-le-pow_right {n = 2} (omega arith) {i = width} {j = 64} narrow in
     let v : nat_abs (to_z w128 (of_z w128 (to_z w128 (of_z w128 y) -ℤ to_z w128 (of_z w128 low)))) ≡ can.0 = offset_value low y can.0 ends (omega (arith, can.2, wide)) can.1 in
-    subst (λ (m : ℕ). IsPiece (Range low width) little y width m) (sym v) (record { small = narrow; fits = can.2; long = refl; spells = (can.0, can.1, low_is_number width can.0 can.2) })
+    subst (λ (m : ℕ). IsPiece (Range low width) little y width m) (sym v) (record { small = narrow; fits = can.2; long = refl; spells = (can.0, can.1, number_bits width can.0 can.2) })
 
 -- to order octets twice changes nothing
 
@@ -71,9 +68,9 @@ in_order_twice q bs long =
 
 pub ordered_back : (little : Bool) (n k r : ℕ) → OrderFits little n → k < 2 ^ n → ((bs : List Bool) → IsNumber n k bs → number (in_order little bs) ≡ r) → ((bs : List Bool) → IsNumber n k bs → length (in_order little bs) ≡ n)
     → in_order little (low_bits n r) ≡ low_bits n k
-ordered_back false n k r order fits same long = ap (low_bits n) (sym (sym (low_is_number n k fits).value ∙ same (low_bits n k) (low_is_number n k fits)))
+ordered_back false n k r order fits same long = ap (low_bits n) (sym (sym (number_bits n k fits).value ∙ same (low_bits n k) (number_bits n k fits)))
 ordered_back true n k r order fits same long =
-    let is = low_is_number n k fits in
+    let is = number_bits n k fits in
     let there : low_bits n r ≡ in_order true (low_bits n k) = low_same n r (in_order true (low_bits n k)) (record { width = long (low_bits n k) is; value = same (low_bits n k) is }) in
     let whole = order.2 refl in
     let octets : length (low_bits n k) ≡ 8 * (n / 8) = is.width ∙ omega (arith, whole) in
@@ -88,7 +85,7 @@ unsigned_made n little y r order can below same long =
     let same' : (bs : List Bool) → IsNumber n can.0 bs → number (in_order little bs) ≡ r = subst (λ (m : ℕ). (bs : List Bool) → IsNumber n m bs → number (in_order little bs) ≡ r) v same in
     let long' : (bs : List Bool) → IsNumber n can.0 bs → length (in_order little bs) ≡ n = subst (λ (m : ℕ). (bs : List Bool) → IsNumber n m bs → length (in_order little bs) ≡ n) v long in
     let back = ordered_back little n can.0 r order can.2 same' long' in
-    record { small = order.1; fits = below; long = refl; spells = (length-low_bits n r, can.1 ∙ ap pos (sym (ap number back ∙ (low_is_number n can.0 can.2).value))) }
+    record { small = order.1; fits = below; long = refl; spells = (length-low_bits n r, can.1 ∙ ap pos (sym (ap number back ∙ (number_bits n can.0 can.2).value))) }
   where
     value : (k : ℕ) (y : ℤ) → k < 2 ^ 64 → y ≡ pos k → nat_abs (to_z w128 (of_z w128 y)) ≡ k
     value k y fits is = rw is (omega (arith, ints))
@@ -97,7 +94,7 @@ pub twos_made : (n : ℕ) (little : Bool) (y : ℤ) (k r : ℕ) → OrderFits li
     → ((bs : List Bool) → IsNumber n k bs → number (in_order little bs) ≡ r) → ((bs : List Bool) → IsNumber n k bs → length (in_order little bs) ≡ n) → IsPiece (Twos n) little y n r
 twos_made n little y k r order fits below value same long =
     let back = ordered_back little n k r order fits same long in
-    record { small = order.1; fits = below; long = refl; spells = (length-low_bits n r, sym (ap signed_number back ∙ value (low_bits n k) (low_is_number n k fits))) }
+    record { small = order.1; fits = below; long = refl; spells = (length-low_bits n r, sym (ap signed_number back ∙ value (low_bits n k) (number_bits n k fits))) }
 
 pub wrapped_value : (n : ℕ) (y half : ℤ) → 1 ≤ n → n ≤ 64 → CanWrite (Twos n) y → y <ℤ pos 0 → half ≡ pos (1 * 2 ^ (n - 1) % 2 ^ 64)
     → (bs : List Bool) → IsNumber n (nat_abs (to_z w128 (of_z w128 (to_z w128 (of_z w128 (to_z w128 (of_z w128 y) +ℤ to_z w128 (of_z w128 half))) +ℤ to_z w128 (of_z w128 half))))) bs → signed_number bs ≡ y

@@ -1,8 +1,7 @@
 -- From what one coding says to what the leaf says.
-use Rattle.std.proofs.Common.{◌≡◌, ℕ, ◌+◌, ◌≤◌, ℤ, Bool, List, [], ◌++◌, length, take, refl, sym, ap, ◌∙◌, subst, inl, inr, arith, take-append-drop, append_assoc, length-append, Result, Ok, Err, IfOk}
+use Rattle.std.proofs.Common.{◌≡◌, ℕ, ℤ, Bool, List, length, refl, sym, subst, inl, inr, Result, Ok, Err, IfOk}
 use Rattle.std.specs.Prelude.{IfErr, OnErr, Some}
-use Rattle.std.proofs.lemmas.List.{length-take-le}
-use Rattle.acn_bits.specs.Reading.{Reading, passed, Reads, Stays}
+use Rattle.acn_bits.specs.Reading.{Reading, Reads, Stays}
 use Rattle.acn_num.specs.Ranges.{In}
 use Rattle.acn_grammar.specs.Code.{Code, Any, CodingCode, image_of}
 use Rattle.acn_grammar.specs.LeafFails.{CodingFails, FixedFails, Reason, says, wrong, out_of_range, most_digits}
@@ -14,26 +13,7 @@ use Rattle.acn_grammar.specs.declared.node.NumCoding.{NumCoding}
 use Rattle.acn_ints.specs.declared.said.Said.{Said}
 use Rattle.acn_ints.specs.Reads.{IsSaid, Refuses}
 use Rattle.acn_ints.specs.FixedReads.{Taken, TooFew, FixedSaid, FixedWrong}
-
-pub reads_passed : (P : List Bool → Type 0) (n : ℕ) (old new : Reading) → n ≤ length old.rest → new ≡ passed n old → P (take n old.rest) → Reads P old new
-reads_passed P n old new within moved holds =
-    subst (λ (r : Reading). Reads P old r) (sym moved) (record {
-      front = take n old.rest;
-      split = sym (take-append-drop n old.rest);
-      moved = ap (λ (k : ℕ). old.at + k) (sym (length-take-le n old.rest within));
-      window = refl;
-      holds = holds;
-    })
-
-pub reads_nothing : (old new : Reading) → new ≡ old → Stays old new
-reads_nothing old new kept =
-    subst (λ (r : Reading). Stays old r) (sym kept) (record { front = []; split = refl; moved = none old.at; window = refl; holds = tt })
-  where
-    none : (n : ℕ) → n ≡ n + 0
-    none n = omega arith
-
-pub reads_map : (P Q : List Bool → Type 0) (old new : Reading) → ((front : List Bool) → P front → Q front) → Reads P old new → Reads Q old new
-reads_map P Q old new f r = record { front = r.front; split = r.split; moved = r.moved; window = r.window; holds = f r.front r.holds }
+use Rattle.acn_bits.proofs.Readings.{reads_passed, reads_map, reads_nothing}
 
 -- a coding of one width, whose failures are those of that width
 pub record IsFixed (coding : NumCoding) (leaf : NumLeaf) (n : ℕ) : Type 0 where
@@ -50,7 +30,7 @@ fixed_fails coding leaf n old new r f (inl few) = (length old.rest, f.same old.r
 fixed_fails coding leaf n old new r f (inr bad) = (n, f.same old.rest r n (inr (bad.0, (wrong r, bad.2, refl), refl)))
 
 fixed_stays : (coding : NumCoding) (little : Bool) (n : ℕ) (old new : Reading) (r : Reason) → FixedWrong coding little n old new r → Stays old new
-fixed_stays coding little n old new r (inl few) = reads_nothing old new few.0.kept
+fixed_stays coding little n old new r (inl few) = reads_nothing (λ _. Unit {0}) old new few.0.kept tt
 fixed_stays coding little n old new r (inr bad) = bad.1
 
 -- the three clauses of a reader by a coding of one width
@@ -83,19 +63,7 @@ pub taken_stays : (n : ℕ) (old new : Reading) (v : ℕ) → Taken n old new v 
 taken_stays n old new v t = reads_passed (λ _. Unit {0}) n old new t.within t.moved tt
 
 pub few_stays : (n : ℕ) (old new : Reading) → TooFew n old new → Stays old new
-few_stays n old new f = reads_nothing old new f.kept
-
-pub stays_twice : (a b c : Reading) → Stays a b → Stays b c → Stays a c
-stays_twice a b c x y = record {
-  front = x.front ++ y.front;
-  split = x.split ∙ ap (λ (t : List Bool). x.front ++ t) y.split ∙ sym (append_assoc x.front y.front c.rest);
-  moved = y.moved ∙ ap (λ (k : ℕ). k + length y.front) x.moved ∙ plus a.at (length x.front) (length y.front) ∙ ap (λ (k : ℕ). a.at + k) (sym (length-append x.front y.front));
-  window = y.window ∙ x.window;
-  holds = tt;
-}
-  where
-    plus : (p q r : ℕ) → (p + q) + r ≡ p + (q + r)
-    plus p q r = omega arith
+few_stays n old new f = reads_nothing (λ _. Unit {0}) old new f.kept tt
 
 -- from a clause for every leaf to one for this leaf
 

@@ -20,7 +20,7 @@ use Rattle.acn_ints.specs.Reads.{IsSaid, Refuses}
 use Rattle.acn_ints.proofs.DigitLemmas.{groups-take, octets-groups, digits_from, small_digits, octets-joined}
 use Rattle.acn_ints.proofs.EndedCodes.{octet_style, ended_wrong, ended_not_minimal, ended_out_of_range, ended_read, NotShortest}
 use Rattle.acn_ints.proofs.EndedLemmas.{passed_twice}
-use Rattle.acn_ints.proofs.SaidLemmas.{reads_map, reads_passed, stays_twice}
+use Rattle.acn_bits.proofs.Readings.{reads_passed, stays_twice, reads_map}
 
 -- the sign's octet
 sign_bits : (old mid : Reading) (negative : Bool) → PassedSign old mid negative → take 8 old.rest ≡ low_bits 8 (sign_code negative)

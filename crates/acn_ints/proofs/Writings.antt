@@ -11,8 +11,9 @@ use Rattle.acn_grammar.specs.Code.{Written, CodingCode, Counted}
 use Rattle.acn_grammar.specs.Length.{least_octets, least_signed_octets}
 use Rattle.acn_ints.specs.Limits.{CanWrite}
 use Rattle.acn_grammar.specs.declared.node.NumCoding.TheVariants.{CountedFrom, CountedSigned}
-use Rattle.acn_ints.proofs.PieceLemmas.{low_is_number, low_same}
+use Rattle.acn_ints.proofs.PieceLemmas.{low_same}
 use Rattle.acn_ints.proofs.CountedCodes.{least_octets_le, least_signed_le, signed_within}
+use Rattle.acn_grammar.proofs.Counts.{number_bits}
 
 -- two writings, one behind the other, are one
 pub writes_twice : {N : ℕ} (old mid new : WriteCursor N) (at m end : ℕ) (a b : List Bool) → Writes old mid at a m → m ≡ at + length a → Writes mid new m b end → Writes old new at (a ++ b) end
@@ -34,7 +35,7 @@ counted_code fits c v some few spells least = record {
   front = low_bits 8 c;
   body = low_bits (8 * c) v;
   whole = refl;
-  counts = low_is_number 8 c (omega arith);
+  counts = number_bits 8 c (omega arith);
   spells = spells;
   positive = some;
   least = least;
@@ -53,7 +54,7 @@ pub from_puts : {N : ℕ} (low y : ℤ) (old new : WriteCursor N) (c v : ℕ) (c
     → Writes old new (place_of old) (low_bits 8 c ++ low_bits (8 * c) v) (place_of old + (8 + 8 * c)) → Puts (CodingCode Written (CountedFrom low) false y) old new
 from_puts low y old new c v can e l some few fits w =
     counted_puts (CodingCode Written (CountedFrom low) false y) old new c v w
-    (v, can.1 ∙ ap (λ (k : ℕ). low +ℤ pos k) (sym e), counted_code (λ d body. IsNumber (8 * d) v body) c v some few (low_is_number (8 * c) v fits) (λ d other p is. le_from c (least_octets v) d l (least_octets_le d v p (below_of d other is))))
+    (v, can.1 ∙ ap (λ (k : ℕ). low +ℤ pos k) (sym e), counted_code (λ d body. IsNumber (8 * d) v body) c v some few (number_bits (8 * c) v fits) (λ d other p is. le_from c (least_octets v) d l (least_octets_le d v p (below_of d other is))))
   where
     le_from : (a b d : ℕ) → a ≡ b → b ≤ d → a ≤ d
     le_from a b d x y = omega arith
@@ -64,7 +65,7 @@ from_puts low y old new c v can e l some few fits w =
 pub signed_puts : {N : ℕ} (y : ℤ) (old new : WriteCursor N) (c v : ℕ) → ((bs : List Bool) → IsNumber (8 * c) v bs → signed_number bs ≡ y) → c ≡ least_signed_octets y → 0 < c → c ≤ 8 → v < 2 ^ (8 * c)
     → Writes old new (place_of old) (low_bits 8 c ++ low_bits (8 * c) v) (place_of old + (8 + 8 * c)) → Puts (CodingCode Written CountedSigned false y) old new
 signed_puts y old new c v value l some few fits w =
-    let body : IsSigned (8 * c) y (low_bits (8 * c) v) = record { width = length-low_bits (8 * c) v; value = value (low_bits (8 * c) v) (low_is_number (8 * c) v fits) } in
+    let body : IsSigned (8 * c) y (low_bits (8 * c) v) = record { width = length-low_bits (8 * c) v; value = value (low_bits (8 * c) v) (number_bits (8 * c) v fits) } in
     counted_puts (CodingCode Written CountedSigned false y) old new c v w (counted_code (λ d bs. IsSigned (8 * d) y bs) c v some few body least_of)
   where
     least_of : (d : ℕ) (other : List Bool) → 0 < d → IsSigned (8 * d) y other → c ≤ d

@@ -4,6 +4,8 @@ use Rattle.acn_grammar.specs.declared.node.NumLeaf.{NumLeaf}
 use Rattle.acn_grammar.specs.declared.node.NumCoding.{NumCoding}
 use Rattle.acn_grammar.specs.declared.node.NumCoding.TheVariants.{Range, CountedFrom, CountedSigned, PosInt, Twos, Bcd, BcdEnded, Ascii, AsciiEnded, Flag, Fixed}
 use Rattle.acn_grammar.specs.declared.node.Table.{Table}
+use Rattle.acn_grammar.specs.declared.limits.TheConstants.{MOST_INTEGER_BITS, MOST_PATTERN_BITS}
+use Rattle.acn_bits.specs.declared.word.TheConstants.{WORD_BITS}
 
 -- between -2^70 and 2^70, where sums of a few fit 128 bits
 abbrev pub IsNear : ℤ → Type 0
@@ -26,9 +28,9 @@ abbrev pub IsNearTable : Option Table → Type 0
 IsNearTable None = Unit {0}
 IsNearTable (Some table) = AreNear table.lines
 
--- 1 to 64 bits, whole octets where their order is turned round
+-- 1 to so many bits, whole octets where their order is turned round
 abbrev pub OrderFits : (little : Bool) → ℕ → Type 0
-OrderFits little n = (1 ≤ n) × (n ≤ 64) × (little ≡ true → n % 8 ≡ 0)
+OrderFits little n = (1 ≤ n) × (n ≤ MOST_INTEGER_BITS) × (little ≡ true → n % 8 ≡ 0)
 
 -- 1 to 19 digits of some bits each
 abbrev pub DigitsFit : (size : ℕ) → ℕ → Type 0
@@ -43,13 +45,13 @@ PatternsFit _ _ = Unit {0}
 abbrev pub SignedDigitsFit : ℕ → Type 0
 SignedDigitsFit n = (16 ≤ n) × (n ≤ 152) × (n % 8 ≡ 0)
 
--- a terminator of 1 to 8 octets
+-- a terminator of whole octets, which a pattern holds
 abbrev pub EndFits : List Bool → Type 0
-EndFits end = (8 ≤ length end) × (length end ≤ 64) × (length end % 8 ≡ 0)
+EndFits end = (8 ≤ length end) × (length end ≤ MOST_PATTERN_BITS) × (length end % 8 ≡ 0)
 
--- widths, ends and patterns that fit 64 bits
+-- widths, ends and patterns that fit a word
 abbrev pub CodingFits : NumCoding → (little : Bool) → Type 0
-CodingFits (Range low width) little = IsEnd low × (width ≤ 64)
+CodingFits (Range low width) little = IsEnd low × (width ≤ WORD_BITS)
 CodingFits (CountedFrom low) little = IsEnd low
 CodingFits CountedSigned little = Unit {0}
 CodingFits (PosInt n) little = OrderFits little n

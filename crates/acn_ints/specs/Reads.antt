@@ -1,5 +1,5 @@
 -- What reading a number leaf gives.
-use Rattle.std.specs.Prelude.{◌≡◌, ℕ, ◌+◌, ℤ, Bool, List, ◌++◌, length}
+use Rattle.std.specs.Prelude.{ℕ, ℤ, Bool, List}
 use Rattle.acn_bits.specs.Reading.{Reading, Reads}
 use Rattle.acn_grammar.specs.Code.{Any, CodingCode}
 use Rattle.acn_grammar.specs.LeafFails.{NoneHas, Reason, LeafFails, CodingFails, out_of_range}

@@ -7,6 +7,7 @@ ghost use Rattle.acn_grammar.specs.declared.node.NumCoding.TheVariants.{Bcd, Bcd
 ghost use Rattle.acn_ints.specs.DigitWrites.{low_digits};
 ghost use Rattle.acn_ints.specs.EndedReads.{digit_codes, sign_code};
 ghost use Rattle.acn_ints.specs.Limits.{CanWrite, DigitsFit, SignedDigitsFit, EndFits};
+ghost use Rattle.acn_bits.specs.declared.word.TheConstants.{WORD_BITS};
 
 use crate::most::digits_of;
 use crate::ordered::pattern_number;
@@ -68,9 +69,9 @@ fn put_digits<const N: usize>(
     }
 }
 
-/// Writes a number of at most 64 bits behind what stands there.
+/// Writes a number of at most `WORD_BITS` bits behind what stands there.
 fn put_bits<const N: usize>(cur: &mut WriteCursor<'_, N>, n: u32, v: u64)
-    requires width { n ≤ 64 }
+    requires width { n ≤ WORD_BITS }
     requires fits { v < 2 ^ n }
     requires room { place_of cur.old + n ≤ 8 * N }
     ensures { Writes cur.old cur.new (place_of cur.old) (low_bits n v) (place_of cur.old + n) }

@@ -4,6 +4,7 @@ ghost use Rattle.acn_grammar.specs.Code.{IsMinimal};
 ghost use Rattle.acn_grammar.specs.ReadFaults.{reason_of};
 ghost use Rattle.acn_ints.specs.EndedReads.{AreSoFar, PassedCharacter, PassedRest, PassedEnded, RestWrong, CharacterWrong, EndedWrong};
 ghost use Rattle.acn_bits.specs.Reading.{Stays};
+ghost use Rattle.acn_grammar.specs.declared.limits.TheConstants.{MOST_PATTERN_BITS};
 
 use crate::fixed::bits_of;
 use crate::ordered::pattern_number;
@@ -40,7 +41,7 @@ fn rest_of_end(
     end: &[bool],
 ) -> Result<(), ReadFault>
     requires long { size ≤ length end.now }
-    requires few { length end.now ≤ 64 }
+    requires few { length end.now ≤ MOST_PATTERN_BITS }
     ensures end { OnOk result (PassedRest size front end.now cur.old cur.new) }
     ensures wrong { IfErr result (λ e. RestWrong size front end.now cur.old.rest (reason_of e)) }
     ensures stays { OnErr result (Stays cur.old cur.new) }
@@ -86,7 +87,7 @@ fn next_character(
     requires size { size ≤ 8 }
     requires zero_digit { zero_digit ≤ 48 }
     requires long { size ≤ length end.now }
-    requires few { length end.now ≤ 64 }
+    requires few { length end.now ≤ MOST_PATTERN_BITS }
     ensures character { IfOk result (λ it. PassedCharacter size zero_digit end.now cur.old cur.new it) }
     ensures wrong { IfErr result (λ e. CharacterWrong size zero_digit end.now cur.old.rest (reason_of e)) }
     ensures stays { OnErr result (Stays cur.old cur.new) }
@@ -154,7 +155,7 @@ pub fn read_ended(
     requires zero_digit { zero_digit + 10 ≤ 2 ^ size }
     requires code { zero_digit ≤ 48 }
     requires long { size ≤ length end.now }
-    requires few { length end.now ≤ 64 }
+    requires few { length end.now ≤ MOST_PATTERN_BITS }
     requires most { most ≤ 20 }
     ensures read { IfOk result (λ n. PassedEnded size zero_digit end.now most cur.old cur.new n.magnitude n.minimal) }
     ensures small { IfOk result (λ n. n.magnitude < 10 ^ 20) }

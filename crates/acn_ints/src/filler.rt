@@ -6,6 +6,7 @@ ghost use Rattle.acn_grammar.specs.Code.{Code, Written};
 ghost use Rattle.acn_grammar.specs.Interval.{width_of};
 ghost use Rattle.acn_grammar.specs.Leaves.{num_fine};
 ghost use Rattle.acn_grammar.specs.Length.{num_length};
+ghost use Rattle.acn_bits.specs.declared.word.TheConstants.{WORD_BITS};
 
 use crate::writer::{check_permitted, put_num};
 use acn_bits::{Hole, ReadCursor, WriteCursor};
@@ -30,7 +31,7 @@ fn write_alone<const M: usize>(buf: &mut [u8; M], leaf: &NumLeaf, x: i128) -> u6
 
 /// The number that the first bits of a buffer spell.
 fn number_at_front(buf: &[u8; 8], width: u32) -> u64
-    requires { width ≤ 64 }
+    requires { width ≤ WORD_BITS }
     ensures { result ≡ number (take width (bits buf.now)) }
 {
     let mut bits = ReadCursor::new(buf, 64);
@@ -45,7 +46,7 @@ fn code_number(leaf: &NumLeaf, x: i128, width: u32) -> u64
     requires fine { IsTrue (num_fine leaf.now) }
     requires permitted { In leaf.now.set x }
     requires width { num_length leaf.now x ≡ width }
-    requires small { width ≤ 64 }
+    requires small { width ≤ WORD_BITS }
     ensures fits { result < 2 ^ width }
     ensures code { Code Written leaf.now x (low_bits width result) }
 {

@@ -5,11 +5,12 @@ ghost use Rattle.acn_grammar.specs.Code.{opposite};
 ghost use Rattle.acn_ints.specs.Limits.{CanWrite};
 ghost use Rattle.acn_ints.specs.Limits.{IsEnd, OrderFits, PatternsFit};
 ghost use Rattle.acn_ints.specs.Pieces.{IsPiece, IsBits};
+ghost use Rattle.acn_bits.specs.declared.word.TheConstants.{WORD_BITS};
 
 use crate::ordered::{ordered, pattern_number};
 use acn_grammar::Pattern;
 
-/// A code of at most 64 bits: the lowest bits of a value.
+/// A code of at most `WORD_BITS` bits: the lowest bits of a value.
 #[derive(Clone, Copy, PartialEq, Eq)]
 pub struct Piece {
     pub width: u32,
@@ -19,7 +20,7 @@ pub struct Piece {
 /// An offset from the least number.
 pub fn range_piece(low: &i128, width: u32, little: bool, y: &i128) -> Piece
     requires low { IsEnd low.now }
-    requires width { width ≤ 64 }
+    requires width { width ≤ WORD_BITS }
     requires can { CanWrite (Range low.now width) y.now }
     ensures { IsPiece (Range low.now width) little y.now result.width result.value }
 {
@@ -57,7 +58,7 @@ pub fn twos_piece(n: u32, little: bool, y: &i128) -> Piece
 /// The number that spells y in two's complement.
 pub fn wrapped(n: u32, y: &i128) -> u64
     requires some { 1 ≤ n }
-    requires width { n ≤ 64 }
+    requires width { n ≤ WORD_BITS }
     requires can { CanWrite (Twos n) y.now }
     ensures fits { result < 2 ^ n }
     ensures value { (bs : List Bool) → IsNumber n result bs → signed_number bs ≡ y.now }

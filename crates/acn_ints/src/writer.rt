@@ -9,6 +9,7 @@ ghost use Rattle.acn_grammar.specs.Code.{Code, Written, CodingCode};
 ghost use Rattle.acn_grammar.specs.Length.{coding_length, num_length};
 ghost use Rattle.acn_ints.specs.Limits.{CanWrite, LeafFits, IsEnd};
 ghost use Rattle.acn_ints.specs.Pieces.{CanCode};
+ghost use Rattle.acn_bits.specs.declared.word.TheConstants.{WORD_BITS};
 
 use crate::counted::{octets_for, signed_octets_for};
 use crate::digit_writer::{
@@ -21,9 +22,9 @@ use crate::piece::{
 use acn_bits::WriteCursor;
 use acn_grammar::{NumCoding, NumLeaf};
 
-/// Writes a code of at most 64 bits.
+/// Writes a code of at most `WORD_BITS` bits.
 fn put_piece<const N: usize>(cur: &mut WriteCursor<'_, N>, piece: Piece)
-    requires small { piece.width ≤ 64 }
+    requires small { piece.width ≤ WORD_BITS }
     requires fits { piece.value < 2 ^ piece.width }
     requires room { place_of cur.old + piece.width ≤ 8 * N }
     ensures { Writes cur.old cur.new (place_of cur.old) (low_bits piece.width piece.value) (place_of cur.old + piece.width) }

@@ -1,7 +1,6 @@
 -- Counting tests of numbers that follow each other, and the lengths of images one after another.
 use Rattle.std.proofs.Common.{◌≡◌, ℕ, suc, ◌+◌, ◌-◌, ◌^◌, ◌<◌, ◌≤◌, cond, ℤ, Bool, true, false, List, [], ◌∷◌, ◌++◌, length, get_or, drop, map, Option, Some, None, sym, ap, ◌∙◌, arith}
 use Rattle.std.specs.Prelude.{count_by, int_le, int_lt, nat_eq, neg_ℤ, pos, ◌≤ℤ◌, ◌<ℤ◌, ◌+ℤ◌, ◌-ℤ◌, ◌&&◌, IsTrue}
-use Rattle.std.proofs.lemmas.Bool.Decides.{nat_tests}
 use Rattle.std.proofs.lemmas.Int.{ints}
 use Rattle.acn_num.specs.Ranges.{count}
 use Rattle.acn_grammar.specs.Images.{clipped, images_by, images_of}
@@ -18,6 +17,7 @@ use Rattle.acn_grammar.specs.declared.bounds.Bounds.{Bounds}
 use Rattle.acn_grammar.specs.declared.node.NumCoding.{NumCoding}
 use Rattle.acn_grammar.proofs.Intervals.{same_bounds, hull_assoc}
 use Rattle.std.proofs.lemmas.Bool.{and_parts}
+use Rattle.acn_grammar.proofs.WholeTests.{le_fact, lt_fact, le_test, lt_test}
 
 counts-front : (p : ℕ → Bool) (i m : ℕ) → count_by p (range_with_len i (suc m)) ≡ cond (p i) 1 0 + count_by p (range_with_len (i + 1) m)
 counts-front p i m = sum_by-cons (λ x. cond (p x) 1 0) i (range_with_len (i + 1) m)
@@ -76,26 +76,14 @@ items-end items i h = ap (map alone) (drop_all i items h)
 
 -- Numbers of a line.
 
-le_true : (x y : ℤ) → int_le x y ≡ true → x ≤ℤ y
-le_true x y h = grind (arith, ints, nat_tests)
-
-lt_true : (x y : ℤ) → int_lt x y ≡ true → x <ℤ y
-lt_true x y h = grind (arith, ints, nat_tests)
-
-le_yes : (x y : ℤ) → x ≤ℤ y → int_le x y ≡ true
-le_yes x y h = grind (arith, ints, nat_tests)
-
-lt_yes : (x y : ℤ) → x <ℤ y → int_lt x y ≡ true
-lt_yes x y h = grind (arith, ints, nat_tests)
-
 pub number-low : (x : ℤ) → is_number x ≡ true → neg_ℤ (pos (2 ^ 63)) ≤ℤ x
-number-low x h = le_true _ x (and_parts (int_le (neg_ℤ (pos (2 ^ 63))) x) (int_lt x (pos (2 ^ 64))) h).0
+number-low x h = le_fact _ x (and_parts (int_le (neg_ℤ (pos (2 ^ 63))) x) (int_lt x (pos (2 ^ 64))) h).0
 
 pub number-high : (x : ℤ) → is_number x ≡ true → x <ℤ pos (2 ^ 64)
-number-high x h = lt_true x _ (and_parts (int_le (neg_ℤ (pos (2 ^ 63))) x) (int_lt x (pos (2 ^ 64))) h).1
+number-high x h = lt_fact x _ (and_parts (int_le (neg_ℤ (pos (2 ^ 63))) x) (int_lt x (pos (2 ^ 64))) h).1
 
 is-number : (x : ℤ) → neg_ℤ (pos (2 ^ 63)) ≤ℤ x → x <ℤ pos (2 ^ 64) → is_number x ≡ true
-is-number x low high = rw (le_yes (neg_ℤ (pos (2 ^ 63))) x low, lt_yes x (pos (2 ^ 64)) high)
+is-number x low high = rw (le_test (neg_ℤ (pos (2 ^ 63))) x low, lt_test x (pos (2 ^ 64)) high)
 
 pub record LineNumbers (line : ℤ × ℤ × ℤ) : Type 0 where
   pub first : is_number line.0 ≡ true

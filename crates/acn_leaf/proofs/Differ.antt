@@ -15,19 +15,10 @@ use Rattle.std.proofs.lemmas.List.Sums.{sum_by-cons, sum_by-append}
 use Rattle.acn_grammar.specs.Asks.{same_name}
 use Rattle.acn_grammar.specs.Leaves.{all_differ}
 use Rattle.acn_leaf.specs.Neighbours.{neighbours_differ}
+use Rattle.acn_grammar.proofs.Characters.{same_name-is}
+use Rattle.acn_grammar.proofs.WholeTests.{eq_fact}
 
 -- Names are told apart by the order of their octets.
-
-pub same_is : (xs ys : List ℕ) → same_name xs ys ≡ true → xs ≡ ys
-same_is [] [] h = refl
-same_is [] (y ∷ ys) h = cc
-same_is (x ∷ xs) [] h = cc
-same_is (x ∷ xs) (y ∷ ys) h =
-    let f = and_parts (nat_eq x y) (same_name xs ys) h in
-    let g = f.0 in
-    let e : x ≡ y = grind (arith, nat_tests, g) in
-    let rest = same_is xs ys f.1 in
-    cc (e, rest)
 
 pub same_by_order : (xs ys : List ℕ) → same_name xs ys ≡ is_eq (slice_cmp nat_cmp xs ys)
 same_by_order xs ys = sym (same_from_slice_cmp nat_cmp is_eq same_name refl (λ y ys. refl) (λ x xs. refl) (λ x y xs ys o h. grind (arith, nat_tests)) xs ys _ refl)
@@ -41,17 +32,14 @@ pub record Tells {K : Type 0} (R : K → K → Ordering) (same : K → K → Boo
 
 -- Numbers are told apart by their order.
 
-int_eq_is : (x y : ℤ) → int_eq x y ≡ true → x ≡ y
-int_eq_is x y h = grind (arith, ints)
-
 pub by_numbers : Tells int_cmp int_eq
-by_numbers = record { total = int_cmp_total; ties = λ x y. tied x y; is = int_eq_is }
+by_numbers = record { total = int_cmp_total; ties = λ x y. tied x y; is = eq_fact }
   where
     tied : (x y : ℤ) → int_eq x y ≡ is_eq (int_cmp x y)
     tied x y = grind (arith, ints)
 
 pub by_octets : Tells (slice_cmp nat_cmp) same_name
-by_octets = record { total = nat_list_cmp_total; ties = same_by_order; is = same_is }
+by_octets = record { total = nat_list_cmp_total; ties = same_by_order; is = same_name-is }
 
 module _ {K : Type 0} (R : K → K → Ordering) (same : K → K → Bool) (tells : Tells R same) where
   same_symm : (x y : K) → same x y ≡ same y x

@@ -1,18 +1,13 @@
 -- Sets in order and least widths, as tests.
 use Rattle.std.proofs.Common.{◌≡◌, ℕ, ◌-◌, ◌^◌, ◌<◌, ◌≤◌, ℤ, pos, true, false, List, [], ◌∷◌, length, refl, arith}
-use Rattle.std.specs.Prelude.{int_le, int_lt, ◌+ℤ◌, ◌≤ℤ◌, ◌<ℤ◌}
+use Rattle.std.specs.Prelude.{int_le, ◌+ℤ◌, ◌<ℤ◌}
 use Rattle.std.proofs.lemmas.Bool.Decides.{nat_tests}
 use Rattle.std.proofs.lemmas.Int.{ints}
 use Rattle.std.proofs.Math.Nat.{pow-le-pow_right}
 use Rattle.acn_num.specs.Bits.{is_least_width}
 use Rattle.acn_num.specs.Ranges.{Above, AreRanges, are_ranges, are_ranges_above, count}
 use Rattle.acn_grammar.specs.Leaves.{holds_characters}
-
-lt_test : (x y : ℤ) → x <ℤ y → int_lt x y ≡ true
-lt_test x y h = grind (arith, ints)
-
-le_test : (x y : ℤ) → x ≤ℤ y → int_le x y ≡ true
-le_test x y h = grind (arith, ints)
+use Rattle.acn_grammar.proofs.WholeTests.{lt_test, le_test}
 
 above_test : (b : ℤ) (rs : List (ℤ × ℤ)) → Above b rs → are_ranges_above b rs ≡ true
 above_test b [] h = refl

@@ -12,6 +12,8 @@ use Rattle.acn_grammar.specs.Images.{ends, ends_from, clipped}
 use Rattle.acn_grammar.specs.Leaves.{all_differ, line_fine, is_number}
 use Rattle.acn_leaf.specs.Taken.{left_of}
 use Rattle.std.proofs.lemmas.Bool.{and_parts}
+use Rattle.acn_grammar.proofs.WholeTests.{le_fact, lt_fact, le_test, lt_test, gt_test}
+use Rattle.acn_grammar.proofs.HasImage.{count-append}
 
 -- Numbers of a line.
 
@@ -25,26 +27,11 @@ pub record LineFacts (line : ℤ × ℤ × ℤ) : Type 0 where
   pub image_low : neg_ℤ (pos (2 ^ 63)) ≤ℤ line.2
   pub image_high : line.2 <ℤ pos (2 ^ 64)
 
-pub le_true : (x y : ℤ) → int_le x y ≡ true → x ≤ℤ y
-le_true x y h = grind (arith, ints)
-
-pub lt_true : (x y : ℤ) → int_lt x y ≡ true → x <ℤ y
-lt_true x y h = grind (arith, ints)
-
-pub le_yes : (x y : ℤ) → x ≤ℤ y → int_le x y ≡ true
-le_yes x y h = grind (arith, ints)
-
-pub lt_yes : (x y : ℤ) → x <ℤ y → int_lt x y ≡ true
-lt_yes x y h = grind (arith, ints)
-
-pub le_no : (x y : ℤ) → y <ℤ x → int_le x y ≡ false
-le_no x y h = grind (arith, ints)
-
 pub number_low : (x : ℤ) → is_number x ≡ true → neg_ℤ (pos (2 ^ 63)) ≤ℤ x
-number_low x h = le_true _ x (and_parts (int_le (neg_ℤ (pos (2 ^ 63))) x) (int_lt x (pos (2 ^ 64))) h).0
+number_low x h = le_fact _ x (and_parts (int_le (neg_ℤ (pos (2 ^ 63))) x) (int_lt x (pos (2 ^ 64))) h).0
 
 pub number_high : (x : ℤ) → is_number x ≡ true → x <ℤ pos (2 ^ 64)
-number_high x h = lt_true x _ (and_parts (int_le (neg_ℤ (pos (2 ^ 63))) x) (int_lt x (pos (2 ^ 64))) h).1
+number_high x h = lt_fact x _ (and_parts (int_le (neg_ℤ (pos (2 ^ 63))) x) (int_lt x (pos (2 ^ 64))) h).1
 
 pub line_facts : (line : ℤ × ℤ × ℤ) → line_fine line ≡ true → LineFacts line
 line_facts line h =
@@ -52,10 +39,10 @@ line_facts line h =
     let b = and_parts (is_number line.0) (is_number line.1 && (is_number line.2 && is_number (line.2 +ℤ (line.1 -ℤ line.0)))) a.1 in
     let c = and_parts (is_number line.1) (is_number line.2 && is_number (line.2 +ℤ (line.1 -ℤ line.0))) b.1 in
     let d = and_parts (is_number line.2) (is_number (line.2 +ℤ (line.1 -ℤ line.0))) c.1 in
-    record { order = le_true line.0 line.1 a.0; low = number_low line.0 b.0; high = number_high line.1 c.0; image_low = number_low line.2 d.0; image_high = number_high line.2 d.0 }
+    record { order = le_fact line.0 line.1 a.0; low = number_low line.0 b.0; high = number_high line.1 c.0; image_low = number_low line.2 d.0; image_high = number_high line.2 d.0 }
 
 pub is_number_from : (x : ℤ) → neg_ℤ (pos (2 ^ 63)) ≤ℤ x → x <ℤ pos (2 ^ 64) → is_number x ≡ true
-is_number_from x low high = rw (le_yes (neg_ℤ (pos (2 ^ 63))) x low, lt_yes x (pos (2 ^ 64)) high) refl
+is_number_from x low high = rw (le_test (neg_ℤ (pos (2 ^ 63))) x low, lt_test x (pos (2 ^ 64)) high) refl
 
 pub key_is_number : (line : ℤ × ℤ × ℤ) (key : ℤ) → line_fine line ≡ true → line.0 ≤ℤ key → key ≤ℤ line.1 → is_number key ≡ true
 key_is_number line key h low high = (let f = line_facts line h in is_number_from key (omega (arith, ints)) (omega (arith, ints)))
@@ -79,19 +66,15 @@ same_distance l low high first =
     ap nat_abs e
 
 pub clipped_some : (r : ℤ × ℤ) (line : ℤ × ℤ × ℤ) → int_max r.0 line.0 ≤ℤ int_min r.1 line.1 → clipped r line ≡ (line.2 +ℤ (int_max r.0 line.0 -ℤ line.0), line.2 +ℤ (int_min r.1 line.1 -ℤ line.0)) ∷ []
-clipped_some r line h = rw (le_yes (int_max r.0 line.0) (int_min r.1 line.1) h) refl
+clipped_some r line h = rw (le_test (int_max r.0 line.0) (int_min r.1 line.1) h) refl
 
 pub clipped_none : (r : ℤ × ℤ) (line : ℤ × ℤ × ℤ) → int_min r.1 line.1 <ℤ int_max r.0 line.0 → clipped r line ≡ []
-clipped_none r line h = rw (le_no (int_max r.0 line.0) (int_min r.1 line.1) h) refl
+clipped_none r line h = rw (gt_test (int_max r.0 line.0) (int_min r.1 line.1) h) refl
 
 pub count_one : (r : ℤ × ℤ) (line : ℤ × ℤ × ℤ) → int_max r.0 line.0 ≤ℤ int_min r.1 line.1 → count (clipped r line) ≡ distance (int_max r.0 line.0) (int_min r.1 line.1) + 1
 count_one r line h = rw (clipped_some r line h) (let k = same_distance line.2 (int_max r.0 line.0) (int_min r.1 line.1) line.0 in omega arith)
 
 -- Counts taken one after the other.
-
-count-append : (xs ys : List (ℤ × ℤ)) → count (xs ++ ys) ≡ count xs + count ys
-count-append [] ys = omega arith
-count-append (x ∷ xs) ys = (let k = count-append xs ys in omega arith)
 
 abbrev pub then_left : Option ℕ → ℕ → Option ℕ
 then_left None n = None
@@ -182,14 +165,14 @@ pub line_left : (r : ℤ × ℤ) (line : ℤ × ℤ × ℤ) (low high : ℤ) →
     → (distance low high < 2 ^ 66) × (count (clipped r line) ≡ distance low high + 1)
 line_left r line low high fine e f h =
     let k : int_le (int_max r.0 line.0) (int_min r.1 line.1) ≡ true = rw (← e, ← f) h in
-    let some = le_true (int_max r.0 line.0) (int_min r.1 line.1) k in
+    let some = le_fact (int_max r.0 line.0) (int_min r.1 line.1) k in
     rw (e, f) (small_distance r line fine some, count_one r line some)
 
 pub line_image : (r : ℤ × ℤ) (line : ℤ × ℤ × ℤ) (low high : ℤ) → low ≡ int_max r.0 line.0 → high ≡ int_min r.1 line.1 → int_le low high ≡ true
     → (clipped r line ≡ (line.2 +ℤ (low -ℤ line.0), line.2 +ℤ (high -ℤ line.0)) ∷ []) × (line.0 ≤ℤ low) × (low ≤ℤ high) × (high ≤ℤ line.1)
 line_image r line low high e f h =
     let k : int_le (int_max r.0 line.0) (int_min r.1 line.1) ≡ true = rw (← e, ← f) h in
-    let some = le_true (int_max r.0 line.0) (int_min r.1 line.1) k in
+    let some = le_fact (int_max r.0 line.0) (int_min r.1 line.1) k in
     rw (e, f) (clipped_some r line some, max_above r.0 line.0, some, min_below r.1 line.1)
 
 pub line_none : (r : ℤ × ℤ) (line : ℤ × ℤ × ℤ) (low high : ℤ) → low ≡ int_max r.0 line.0 → high ≡ int_min r.1 line.1 → int_le low high ≡ false → clipped r line ≡ []

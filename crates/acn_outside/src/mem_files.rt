@@ -189,18 +189,29 @@ mod tests {
     use super::*;
     use std::test::Fail;
 
+    // Whether a read of the file at its front fails.
+    fn fails_at_front(files: &mut MemFiles, name: &str) -> bool {
+        files.read_at(name, 0, &mut [0u8; 4]) == Err(Failed)
+    }
+
+    // Whether there is one file, which has two faults, and three are counted for the others.
+    fn are_counted(files: &MemFiles) -> bool {
+        match files.entries.as_slice() {
+            [only] => only.faults == 2 && files.others == 3,
+            _ => false,
+        }
+    }
+
     #[test]
     fn a_new_name_begins_with_the_count_of_the_others(rt: HostRuntime) -> Result<(), Fail> {
+        let name = Name::copy(rt.alloc(), b"m.asn")?;
         let mut files = MemFiles::new(rt.alloc(), vec![in rt.alloc(); 2]?);
-        let mut piece = [0u8; 4];
-        assert_eq!(rt; files.read_at("m.asn", 0, &mut piece), Err(Failed));
-        files.add(Name::copy(rt.alloc(), b"m.asn")?, Vec::new(rt.alloc()))?;
-        assert_eq!(rt; files.read_at("m.acn", 0, &mut piece), Err(Failed));
-        assert_eq!(rt; files.read_at("m.asn", 0, &mut piece), Err(Failed));
-        assert_eq!(rt; files.read_at("m.map", 0, &mut piece), Err(Failed));
-        assert_eq!(rt; files.others, 3);
-        assert_eq!(rt; files.entries.len(), 1);
-        assert_eq!(rt; files.entries[0].faults, 2);
+        assert!(rt; fails_at_front(&mut files, "m.asn"));
+        files.add(name, Vec::new(rt.alloc()))?;
+        let others = fails_at_front(&mut files, "m.acn")
+            && fails_at_front(&mut files, "m.asn")
+            && fails_at_front(&mut files, "m.map");
+        assert!(rt; others && are_counted(&files));
         Ok(())
     }
 }

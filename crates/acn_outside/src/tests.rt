@@ -17,34 +17,53 @@ fn bytes_of(alloc: Global, text: &str) -> Result<Vec<u8>, AllocError> {
     Vec::from_slice(alloc, text.as_bytes())
 }
 
+// Adds a file with this text.
+fn add(alloc: Global, files: &mut MemFiles, name: &str, text: &str) -> Result<(), Fail> {
+    Ok(files.add(named(alloc, name)?, bytes_of(alloc, text)?)?)
+}
+
+// Whether the file, read whole, has these bytes.
+fn reads<F: Files>(alloc: Global, files: &mut F, name: &str, want: &[u8]) -> bool {
+    match read_whole(alloc, files, name) {
+        Ok(bytes) => bytes.as_slice() == want,
+        Err(_) => false,
+    }
+}
+
+// Whether a read of the file fails.
+fn is_unread<F: Files>(alloc: Global, files: &mut F, name: &str) -> bool {
+    matches!(read_whole(alloc, files, name), Err(WholeFault::Failed))
+}
+
 #[test]
 fn a_file_added_twice_has_the_new_bytes(rt: HostRuntime) -> Result<(), Fail> {
     let mut files = MemFiles::new(rt.alloc(), Vec::new(rt.alloc()));
-    files.add(
-        named(rt.alloc(), "m.asn")?,
-        bytes_of(rt.alloc(), "old text")?,
-    )?;
-    files.add(named(rt.alloc(), "m.acn")?, bytes_of(rt.alloc(), "beside")?)?;
-    files.add(named(rt.alloc(), "m.asn")?, bytes_of(rt.alloc(), "new")?)?;
-    let first = read_whole(rt.alloc(), &mut files, "m.asn")?;
-    assert_eq!(rt; first.as_slice(), b"new".as_slice());
-    let second = read_whole(rt.alloc(), &mut files, "m.acn")?;
-    assert_eq!(rt; second.as_slice(), b"beside".as_slice());
-    let absent = read_whole(rt.alloc(), &mut files, "m.map");
-    assert!(rt; matches!(absent, Err(WholeFault::Failed)));
+    add(rt.alloc(), &mut files, "m.asn", "old text")?;
+    add(rt.alloc(), &mut files, "m.acn", "beside")?;
+    add(rt.alloc(), &mut files, "m.asn", "new")?;
+    assert!(rt; reads(rt.alloc(), &mut files, "m.asn", b"new"));
+    assert!(rt; reads(rt.alloc(), &mut files, "m.acn", b"beside"));
+    assert!(rt; is_unread(rt.alloc(), &mut files, "m.map"));
     Ok(())
+}
+
+// What four reads of a file of four bytes answer, where the second fails and is tried again.
+fn four_reads(files: &mut MemFiles, piece: &mut [u8; 3]) -> [Result<usize, Failed>; 4] {
+    [
+        files.read_at("m.asn", 0, piece),
+        files.read_at("m.asn", 3, piece),
+        files.read_at("m.asn", 3, piece),
+        files.read_at("m.asn", 4, piece),
+    ]
 }
 
 #[test]
 fn a_listed_read_of_a_file_fails_and_the_next_goes_on(rt: HostRuntime) -> Result<(), Fail> {
     let mut files = MemFiles::new(rt.alloc(), vec![in rt.alloc(); 1]?);
-    files.add(named(rt.alloc(), "m.asn")?, bytes_of(rt.alloc(), "text")?)?;
+    add(rt.alloc(), &mut files, "m.asn", "text")?;
     let mut piece = [0u8; 3];
-    assert_eq!(rt; files.read_at("m.asn", 0, &mut piece), Ok(3));
-    assert_eq!(rt; files.read_at("m.asn", 3, &mut piece), Err(Failed));
-    assert_eq!(rt; files.read_at("m.asn", 3, &mut piece), Ok(1));
-    assert_eq!(rt; piece[0], b't');
-    assert_eq!(rt; files.read_at("m.asn", 4, &mut piece), Ok(0));
+    let answers = four_reads(&mut files, &mut piece);
+    assert!(rt; answers == [Ok(3), Err(Failed), Ok(1), Ok(0)] && piece[0] == b't');
     Ok(())
 }
 
@@ -62,65 +81,78 @@ fn write_surely(out: &mut SureSink, bytes: &[u8]) -> Result<(), Failed>
     write_all(out, bytes)
 }
 
+// Files that never fail, of which one has these bytes.
+fn sure_files(alloc: Global, name: &str, bytes: Vec<u8>) -> Result<SureFiles, Fail> {
+    let mut files = SureFiles::new(alloc);
+    files.add(named(alloc, name)?, bytes)?;
+    Ok(files)
+}
+
+// How many bytes a file that never fails has.
+fn sure_length(alloc: Global, files: &mut SureFiles, name: &str) -> Result<usize, Fail> {
+    Ok(read_surely(alloc, files, name)?.len())
+}
+
 #[test]
-fn sure_devices_read_and_write_all(rt: HostRuntime) -> Result<(), Fail> {
-    let mut files = SureFiles::new(rt.alloc());
-    files.add(named(rt.alloc(), "m.asn")?, bytes_of(rt.alloc(), "text")?)?;
-    let text = read_surely(rt.alloc(), &mut files, "m.asn")?;
-    assert_eq!(rt; text.as_slice(), b"text".as_slice());
-    let absent = read_surely(rt.alloc(), &mut files, "m.acn")?;
-    assert_eq!(rt; absent.len(), 0);
-    let mut source = SureSource::new(text, 3);
+fn sure_files_are_read_and_an_absent_one_is_empty(rt: HostRuntime) -> Result<(), Fail> {
+    let mut files = sure_files(rt.alloc(), "m.asn", bytes_of(rt.alloc(), "text")?)?;
+    assert!(rt; reads(rt.alloc(), &mut files, "m.asn", b"text"));
+    assert_eq!(rt; sure_length(rt.alloc(), &mut files, "m.acn")?, 0);
+    Ok(())
+}
+
+// What three reads of an input answer.
+fn three_reads<S: Source>(source: &mut S) -> [Result<usize, Failed>; 3] {
     let mut piece = [0u8; 9];
-    assert_eq!(rt; source.read(&mut piece), Ok(3));
-    assert_eq!(rt; source.read(&mut piece), Ok(1));
-    assert_eq!(rt; source.read(&mut piece), Ok(0));
+    [
+        source.read(&mut piece),
+        source.read(&mut piece),
+        source.read(&mut piece),
+    ]
+}
+
+#[test]
+fn a_sure_input_ends(rt: HostRuntime) -> Result<(), Fail> {
+    let mut source = SureSource::new(bytes_of(rt.alloc(), "text")?, 3);
+    assert_eq!(rt; three_reads(&mut source), [Ok(3), Ok(1), Ok(0)]);
+    Ok(())
+}
+
+#[test]
+fn a_sure_output_takes_all(rt: HostRuntime) -> Result<(), Fail> {
     let mut sink = SureSink::new(vec![in rt.alloc(); 0; 4]?, 3);
-    write_surely(&mut sink, b"four")?;
-    assert_eq!(rt; sink.bytes(), Some(b"four".as_slice()));
+    let written = write_surely(&mut sink, b"four");
+    assert!(rt; written == Ok(()) && sink.bytes() == Some(b"four".as_slice()));
     Ok(())
 }
 
 #[test]
 fn an_input_in_pieces_of_one_octet_fails_in_the_middle(rt: HostRuntime) -> Result<(), Fail> {
     let mut source = MemSource::new(bytes_of(rt.alloc(), "abc")?, 1, vec![in rt.alloc(); 2]?);
+    assert_eq!(rt; three_reads(&mut source), [Ok(1), Ok(1), Err(Failed)]);
     let mut piece = [0u8; 4];
-    for want in [Ok(1), Ok(1), Err(Failed), Ok(1), Ok(0)] {
-        assert_eq!(rt; source.read(&mut piece), want);
-    }
-    assert_eq!(rt; piece[0], b'c');
+    let last = source.read(&mut piece);
+    assert!(rt; last == Ok(1) && piece[0] == b'c' && source.read(&mut piece) == Ok(0));
     Ok(())
 }
 
 #[test]
 fn an_output_keeps_what_it_took_before_a_failing_call(rt: HostRuntime) -> Result<(), Fail> {
     let mut sink = MemSink::new(vec![in rt.alloc(); 0; 8]?, 1, vec![in rt.alloc(); 2]?);
-    assert_eq!(rt; write_all(&mut sink, b"abcd"), Err(Failed));
-    assert_eq!(rt; sink.bytes(), Some(b"ab".as_slice()));
-    write_all(&mut sink, b"xyz")?;
-    assert_eq!(rt; sink.bytes(), Some(b"abxyz".as_slice()));
+    let failed = write_all(&mut sink, b"abcd");
+    assert!(rt; failed == Err(Failed) && sink.bytes() == Some(b"ab".as_slice()));
+    let written = write_all(&mut sink, b"xyz");
+    assert!(rt; written == Ok(()) && sink.bytes() == Some(b"abxyz".as_slice()));
     Ok(())
 }
 
 #[test]
 fn an_output_tells_its_bytes_while_they_fit(rt: HostRuntime) -> Result<(), Fail> {
     let mut sink = MemSink::new(vec![in rt.alloc(); 0; 3]?, 2, Vec::new(rt.alloc()));
-    write_all(&mut sink, b"abc")?;
-    assert_eq!(rt; sink.bytes(), Some(b"abc".as_slice()));
-    write_all(&mut sink, b"d")?;
-    assert_eq!(rt; sink.bytes(), None);
-    Ok(())
-}
-
-#[test]
-fn a_file_of_the_system_is_read_whole_and_an_absent_one_fails(rt: HostRuntime) -> Result<(), Fail> {
-    std::fs::write(&rt, "three.txt", "abc")?;
-    let mut files = StdFiles::new(rt.alloc(), &rt);
-    let text = read_whole(rt.alloc(), &mut files, "three.txt")?;
-    std::fs::remove_file(&rt, "three.txt")?;
-    assert_eq!(rt; text.as_slice(), b"abc".as_slice());
-    let absent = read_whole(rt.alloc(), &mut files, "absent.txt");
-    assert!(rt; matches!(absent, Err(WholeFault::Failed)));
+    let fitting = write_all(&mut sink, b"abc");
+    assert!(rt; fitting == Ok(()) && sink.bytes() == Some(b"abc".as_slice()));
+    let beyond = write_all(&mut sink, b"d");
+    assert!(rt; beyond == Ok(()) && sink.bytes() == None);
     Ok(())
 }
 
@@ -133,38 +165,41 @@ fn many_bytes(alloc: Global, count: usize) -> Result<Vec<u8>, AllocError> {
     Ok(bytes)
 }
 
+// Whether files of the system are read whole, in several pieces and one after the other, and an absent one fails.
+fn reads_of_the_system(rt: &HostRuntime, bytes: &[u8]) -> bool {
+    let mut files = StdFiles::new(rt.alloc(), rt);
+    reads(rt.alloc(), &mut files, "pieces.bin", bytes)
+        && reads(rt.alloc(), &mut files, "other.bin", b"other")
+        && reads(rt.alloc(), &mut files, "pieces.bin", bytes)
+        && is_unread(rt.alloc(), &mut files, "absent.bin")
+}
+
 #[test]
-fn a_file_of_the_system_is_read_in_several_pieces(rt: HostRuntime) -> Result<(), Fail> {
+fn files_of_the_system_are_read_in_several_pieces(rt: HostRuntime) -> Result<(), Fail> {
     let bytes = many_bytes(rt.alloc(), 150_000)?;
     std::fs::write(&rt, "pieces.bin", bytes.as_slice())?;
     std::fs::write(&rt, "other.bin", "other")?;
-    let mut files = StdFiles::new(rt.alloc(), &rt);
-    let first = read_whole(rt.alloc(), &mut files, "pieces.bin")?;
-    let other = read_whole(rt.alloc(), &mut files, "other.bin")?;
-    let again = read_whole(rt.alloc(), &mut files, "pieces.bin")?;
+    assert!(rt; reads_of_the_system(&rt, &bytes));
     std::fs::remove_file(&rt, "pieces.bin")?;
     std::fs::remove_file(&rt, "other.bin")?;
-    assert!(rt; first.as_slice() == bytes.as_slice());
-    assert_eq!(rt; other.as_slice(), b"other".as_slice());
-    assert!(rt; again.as_slice() == bytes.as_slice());
     Ok(())
+}
+
+// Files of which one has this many bytes.
+fn even_files(alloc: Global, count: usize) -> Result<SureFiles, Fail> {
+    sure_files(alloc, "m.asn", vec![in alloc; 7u8; count]?)
 }
 
 #[test]
 fn the_longest_file_is_read_and_one_byte_more_is_refused(rt: HostRuntime) -> Result<(), Fail> {
-    let mut files = SureFiles::new(rt.alloc());
-    files.add(
-        named(rt.alloc(), "most")?,
-        vec![in rt.alloc(); 7u8; MOST_FILE_BYTES]?,
-    )?;
-    files.add(
-        named(rt.alloc(), "more")?,
-        vec![in rt.alloc(); 7u8; MOST_FILE_BYTES + 1]?,
-    )?;
-    let most = read_whole(rt.alloc(), &mut files, "most")?;
-    assert_eq!(rt; most.len(), MOST_FILE_BYTES);
-    let more = read_whole(rt.alloc(), &mut files, "more");
-    assert!(rt; matches!(more, Err(WholeFault::TooLong)));
+    let mut most = even_files(rt.alloc(), MOST_FILE_BYTES)?;
+    assert_eq!(rt;
+        sure_length(rt.alloc(), &mut most, "m.asn")?,
+        MOST_FILE_BYTES
+    );
+    let mut more = even_files(rt.alloc(), MOST_FILE_BYTES + 1)?;
+    let refused = read_whole(rt.alloc(), &mut more, "m.asn");
+    assert!(rt; matches!(refused, Err(WholeFault::TooLong)));
     Ok(())
 }
 

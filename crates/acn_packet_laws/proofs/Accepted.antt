@@ -16,7 +16,8 @@ use Rattle.acn_grammar.specs.declared.node.ChoiceRule.{ChoiceRule}
 use Rattle.acn_grammar.specs.declared.node.ChoiceRule.TheVariants.{Index, Tests, Item}
 use Rattle.acn_packet_laws.proofs.Overlaps.{no_overlap}
 use Rattle.acn_packet_laws.proofs.Placed.{here_at, place_fine, to_fields, to_one, to_cases, first_component, next_component, first_inserted, next_inserted, first_case, next_case, any_left, field_is, root_place}
-use Rattle.acn_packet_laws.proofs.Scoping.{At, FieldsAt, CasesAt, numbers, rules, Knows, own_known, form_known, step_in, fields_in, knows_left, knows_right, component_behind, inserted_behind, inserted_is, only_slot, not_home, tests_in, presence_in, rule_in, names_are, get_here, same_eq}
+use Rattle.acn_packet_laws.proofs.Scoping.{At, FieldsAt, CasesAt, numbers, rules, Knows, own_known, form_known, step_in, fields_in, knows_left, knows_right, component_behind, inserted_behind, inserted_is, only_slot, not_home, tests_in, presence_in, rule_in, names_are, get_here}
+use Rattle.acn_grammar.proofs.SlotLists.{same_eq}
 
 module _ (root : Grammar) (tree : IsTree root) (sound : (f : CheckFault) → Undecodable root f → ⊥) where
   -- each alternative's conditions name known slots

@@ -10,11 +10,11 @@ use Rattle.acn_grammar.specs.Tree.{IsTree, holds, same_numbers, slots_of, is_slo
 use Rattle.acn_grammar.specs.Walk.{Stand, Role, component_role, an_inserted, alternative_role, an_element, a_content, root_node, nodes, nodes_of, form_nodes, field_nodes, alternative_nodes}
 use Rattle.acn_grammar.specs.declared.node.ChoiceRule.{ChoiceRule}
 use Rattle.acn_grammar.specs.declared.node.Presence.{Presence}
-use Rattle.acn_grammar.proofs.Texts.{either}
 use Rattle.acn_grammar.proofs.TreeRules.{stand_fine, list_all-append}
 use Rattle.acn_packet_laws.proofs.Homes.{truth}
 use Rattle.acn_packet_laws.proofs.Placed.{any-append, here_at, home_near, home_is, near_parts, near_if_when, tree_numbered, tree_rules}
-use Rattle.acn_packet_laws.proofs.Scoping.{same_eq}
+use Rattle.acn_grammar.proofs.WholeTests.{either}
+use Rattle.acn_grammar.proofs.SlotLists.{same_eq}
 
 -- The slot whose field is at these steps, through SEQUENCEs alone.
 

@@ -1,7 +1,6 @@
 -- The same of numbers with a count octet in front.
-use Rattle.std.proofs.Common.{◌≡◌, ℕ, zero, suc, ◌+◌, ◌-◌, ◌*◌, ◌^◌, ◌<◌, ◌≤◌, ℤ, pos, ◌+ℤ◌, Bool, true, List, ◌++◌, length, take, drop, Some, refl, sym, ap, ◌∙◌, arith, append_assoc, length-append, take-append-drop, inl, inr, ◌⊎◌, subst, IsTrue}
+use Rattle.std.proofs.Common.{◌≡◌, ℕ, zero, suc, ◌+◌, ◌*◌, ◌^◌, ◌<◌, ◌≤◌, ℤ, pos, ◌+ℤ◌, Bool, true, List, ◌++◌, length, take, drop, Some, refl, sym, ap, ◌∙◌, arith, append_assoc, length-append, take-append-drop, inl, inr, ◌⊎◌, subst, IsTrue}
 use Rattle.std.specs.Prelude.{nat_abs}
-use Rattle.std.proofs.lemmas.Int.{ints}
 use Rattle.std.proofs.lemmas.List.{length-take-le, length-drop}
 use Rattle.std.proofs.Math.Nat.{pow-le-pow_right}
 use Rattle.acn_num.specs.Bits.{number, signed_number, IsNumber, IsSigned}
@@ -13,11 +12,12 @@ use Rattle.acn_grammar.specs.Length.{least_octets, least_signed_octets, fits_oct
 use Rattle.acn_grammar.specs.declared.node.NumCoding.{NumCoding}
 use Rattle.acn_grammar.specs.declared.node.NumCoding.TheVariants.{CountedFrom, CountedSigned}
 use Rattle.acn_grammar.specs.declared.node.NumLeaf.{NumLeaf}
-use Rattle.acn_grammar.proofs.Counts.{counted-octets, counted-signed, code_fits, fits_is, fits_true}
-use Rattle.acn_grammar.proofs.Numbers.{number-below}
+use Rattle.acn_grammar.proofs.Counts.{counted-octets, counted-signed, code_fits, fits_more}
 use Rattle.acn_packet_laws.specs.Laws.{CodeAtFront}
 use Rattle.acn_packet_laws.proofs.HasCode.{counted_code, counted_signed_code}
-use Rattle.acn_packet_laws.proofs.LeafTotal.{is_or_not, less_or_not, image_or_none}
+use Rattle.acn_packet_laws.proofs.LeafTotal.{is_or_not, image_or_none}
+use Rattle.acn_num.proofs.BitLists.{number_below}
+use Rattle.acn_grammar.proofs.FirstPlaces.{less_or_not}
 
 -- The least count.
 
@@ -41,15 +41,9 @@ signed_at y small c other p s =
     let least = (t.1).least c other p s in
     omega arith
 
-fits_more : (y : ℤ) (c d : ℕ) → c ≤ d → fits_octets y c ≡ true → fits_octets y d ≡ true
-fits_more y c d h f =
-    let p = fits_is y c f in
-    let m = pow-le-pow_right {n = 2} (omega arith) {i = 8 * c - 1} {j = 8 * d - 1} (omega arith) in
-    fits_true y d (omega (arith, ints)) (omega (arith, ints))
-
 small_number : (c : ℕ) (body : List Bool) → c ≤ 8 → length body ≡ 8 * c → number body < 2 ^ 64
 small_number c body few l =
-    let b = number-below body in
+    let b = number_below body in
     let m = pow-le-pow_right {n = 2} (omega arith) {i = length body} {j = 64} (omega arith) in
     omega arith
 

@@ -5,8 +5,8 @@ use Rattle.acn_num.specs.Ranges.{In}
 use Rattle.acn_grammar.specs.Code.{image_of, decimal_number, IsMinimal}
 use Rattle.acn_grammar.specs.LeafFails.{Reason, short, out_of_range, not_minimal, bad_digit, too_long, NoneHas, DigitAt, EndAt, CharacterFails, cut, end_cut, digit_too_many, no_digit_no_end, end_alone, not_shortest, not_permitted, EndedFails}
 use Rattle.acn_grammar.specs.declared.node.NumLeaf.{NumLeaf}
-use Rattle.acn_packet_laws.proofs.Exclusion.{take_front}
 use Rattle.acn_grammar.proofs.Prefix.{same_front}
+use Rattle.std.proofs.Math.Seq.{take-append_seam}
 
 abbrev pub Digits : List ℕ → Type 0
 Digits ds = AllByRecursion (λ d. d < 10) ds
@@ -38,7 +38,7 @@ module _ (code : List ℕ → List Bool) (size : ℕ) (end : List Bool) (coded :
   one_code d = coded.step d [] ∙ (ap (λ l. coded.one d ++ l) coded.none ∙ append-nil (coded.one d))
 
   front_at : (b : List Bool) → Front b → DigitAt code b
-  front_at b f = record { digit = f.digit; below = f.below; stands = ap (λ l. take (length l) b) (one_code f.digit) ∙ (ap (take (length (coded.one f.digit))) f.is ∙ (take_front (coded.one f.digit) f.more ∙ sym (one_code f.digit))) }
+  front_at b f = record { digit = f.digit; below = f.below; stands = ap (λ l. take (length l) b) (one_code f.digit) ∙ (ap (take (length (coded.one f.digit))) f.is ∙ (take-append_seam (coded.one f.digit) f.more ∙ sym (one_code f.digit))) }
 
   at_front : (b : List Bool) → DigitAt code b → Front b
   at_front b f = record { digit = f.digit; below = f.below; more = drop (length (code (f.digit ∷ []))) b; is = sym (take-drop (length (code (f.digit ∷ []))) b) ∙ ap (λ l. l ++ drop (length (code (f.digit ∷ []))) b) (f.stands ∙ one_code f.digit) }
@@ -159,7 +159,7 @@ module _ (code : List ℕ → List Bool) (size : ℕ) (end : List Bool) (coded :
     ended_excl ds r x y reason reach are minimal few value p m f = by (split ds f.digits (end ++ r) f.behind are f.are f.whole)
       where
         ends : EndAt end (end ++ r)
-        ends = take_front end r
+        ends = take-append_seam end r
 
         long : length (end ++ r) ≡ length end + length r
         long = length-append end r

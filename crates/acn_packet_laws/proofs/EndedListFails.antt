@@ -10,8 +10,9 @@ use Rattle.acn_grammar.specs.Spell.{Part, ◌then◌, Exactly, RunPart}
 use Rattle.acn_grammar.specs.declared.node.Sizing.{Sizing}
 use Rattle.acn_grammar.proofs.Prefix.{Law}
 use Rattle.acn_grammar.proofs.SpanLaw.{size_has}
-use Rattle.acn_packet_laws.proofs.EndedLists.{Apart, first_of, alone, take_self}
+use Rattle.acn_packet_laws.proofs.EndedLists.{Apart, first_of, alone}
 use Rattle.acn_packet_laws.proofs.Exclusion.{Excl, Same, whole_of, excl_first, excl_behind, same_behind, clash_behind}
+use Rattle.std.proofs.Math.Seq.{take-append_seam}
 
 module _ (here : Here) (p : List Bool) (sizing : Sizing) (each other : Data → Part) where
   run_ends : (fails : ℕ → Failing) → ((d : Data) (k : ℕ) → Excl (each d) (fails k)) → ((d d' : Data) → Law (each d) (other d') (d ≡ d')) → Apart p each → Apart p other
@@ -25,15 +26,15 @@ module _ (here : Here) (p : List Bool) (sizing : Sizing) (each other : Data → 
       let s = f.0 in
       absurd (omega arith)
   run_ends fails h law x y no_elements zero k m c inside few at a r fault reach t (inr (inr f)) =
-      f.1 (ap (λ z. take (length p) (z ++ r)) (alone p at a t) ∙ take_self p r)
+      f.1 (ap (λ z. take (length p) (z ++ r)) (alone p at a t) ∙ take-append_seam p r)
   run_ends fails h law x y (element d es) zero k m c inside few at a r fault reach t f = absurd (omega arith)
   run_ends fails h law x y no_elements (suc n) k m c inside few at a r fault reach t (inl f) =
       let is : m ≡ k = omega arith in
       f.1 (subst (λ (z : ℕ). In sizing.sizes (pos z)) is inside)
   run_ends fails h law x y no_elements (suc n) k m c inside few at a r fault reach t (inr (inl f)) =
-      f.0 (ap (λ z. take (length p) (z ++ r)) (alone p at a t) ∙ take_self p r)
+      f.0 (ap (λ z. take (length p) (z ++ r)) (alone p at a t) ∙ take-append_seam p r)
   run_ends fails h law x y no_elements (suc n) k m c inside few at a r fault reach t (inr (inr f)) =
-      y f.0 at f.1.front f.1.back f.1.spelled (ap (take (length p)) (sym f.1.whole ∙ ap (λ z. z ++ r) (alone p at a t)) ∙ take_self p r)
+      y f.0 at f.1.front f.1.back f.1.spelled (ap (take (length p)) (sym f.1.whole ∙ ap (λ z. z ++ r) (alone p at a t)) ∙ take-append_seam p r)
   run_ends fails h law x y (element d es) (suc n) k m c inside few at a r fault reach t (inl f) =
       let w = first_of at a t in
       x d at w.front (w.back ++ r) w.first (ap (take (length p)) (sym (whole_of a w.front w.back r w.whole)) ∙ f.0)

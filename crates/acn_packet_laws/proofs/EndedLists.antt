@@ -1,16 +1,13 @@
 -- Lists that are ended by a pattern that no element begins with.
-use Rattle.std.proofs.Common.{◌≡◌, ℕ, Bool, List, [], ◌∷◌, ◌++◌, length, take, refl, sym, ap, ◌∙◌, append_assoc}
+use Rattle.std.proofs.Common.{◌≡◌, ℕ, Bool, List, [], ◌++◌, length, take, refl, sym, ap, ◌∙◌, append_assoc}
 use Rattle.acn_grammar.specs.Grammar.{Data, Elements, no_elements, element}
 use Rattle.acn_grammar.specs.Spell.{Part, ◌then◌, Exactly, RunPart}
 use Rattle.acn_grammar.proofs.Prefix.{Law, then_law}
+use Rattle.std.proofs.Math.Seq.{take-append_seam}
 
 -- nothing that is spelled begins with the pattern
 abbrev pub Apart : List Bool → (Data → Part) → Type 0
 Apart p each = (d : Data) (at : ℕ) (bs r : List Bool) → each d at bs → take (length p) (bs ++ r) ≡ p → ⊥
-
-pub take_self : (p r : List Bool) → take (length p) (p ++ r) ≡ p
-take_self [] r = refl
-take_self (x ∷ p) r = ap (λ l. x ∷ l) (take_self p r)
 
 pub whole_with : (a front back r : List Bool) → a ≡ front ++ back → a ++ r ≡ front ++ (back ++ r)
 whole_with a front back r e = ap (λ x. x ++ r) e ∙ append_assoc front back r
@@ -30,7 +27,7 @@ pub alone : (p : List Bool) (at : ℕ) (bs : List Bool) → (Exactly [] then Exa
 alone p at bs t = t.whole ∙ (ap (λ x. x ++ t.back) t.first ∙ t.second)
 
 begins : {P Q : Part} (p : List Bool) (at : ℕ) (bs r s : List Bool) → (t : (P then Q) at bs) → bs ++ r ≡ p ++ s → take (length p) (t.front ++ (t.back ++ r)) ≡ p
-begins p at bs r s t e = ap (take (length p)) (sym (whole_with bs t.front t.back r t.whole) ∙ e) ∙ take_self p s
+begins p at bs r s t e = ap (take (length p)) (sym (whole_with bs t.front t.back r t.whole) ∙ e) ∙ take-append_seam p s
 
 module _ (p : List Bool) (each other : Data → Part) where
   pub ended_law : ((d d' : Data) → Law (each d) (other d') (d ≡ d')) → Apart p each → Apart p other → (es fs : Elements) → Law (RunPart each es then Exactly p) (RunPart other fs then Exactly p) (es ≡ fs)

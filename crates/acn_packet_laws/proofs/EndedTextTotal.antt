@@ -1,8 +1,5 @@
 -- The same of texts with a terminator, and of all texts.
 use Rattle.std.proofs.Common.{◌≡◌, ℕ, zero, suc, ◌+◌, ◌*◌, ◌/◌, ◌%◌, ◌<◌, ◌≤◌, pos, Bool, true, false, not, ◌&&◌, List, [], ◌∷◌, ◌++◌, length, take, drop, Option, Some, None, refl, sym, ap, ◌∙◌, arith, append_assoc, length-append, take-append-drop, inl, inr, ◌⊎◌, nat_eq, nat_lt, subst}
-use Rattle.std.specs.Prelude.{cond}
-use Rattle.std.specs.List.{find, range_with_len}
-use Rattle.std.proofs.lemmas.Bool.Decides.{nat_tests}
 use Rattle.std.proofs.lemmas.List.{take-append-le, drop-append-le, length-drop, length-take, length-take-le}
 use Rattle.std.proofs.Math.Seq.{take-append_seam, drop-append_seam}
 use Rattle.acn_num.specs.Bits.{bits}
@@ -16,36 +13,15 @@ use Rattle.acn_grammar.specs.Leaves.{sizes_fine, end_fine, width_fine, rule_fine
 use Rattle.acn_grammar.specs.Spell.{CharactersPart, EndsFirst, octet_numbers, EndedPart}
 use Rattle.acn_grammar.specs.declared.node.TextLeaf.{TextLeaf}
 use Rattle.acn_packet_laws.proofs.Envs.{FrontOf, Stuck, says, in_or_not, size_total}
-use Rattle.acn_packet_laws.proofs.LeafTotal.{less_or_not, octets_whole}
+use Rattle.acn_packet_laws.proofs.LeafTotal.{octets_whole}
 use Rattle.acn_packet_laws.proofs.NodeParts.{TextTotal}
 use Rattle.acn_packet_laws.proofs.TextLaws.{characters_octets, whole_octets}
 use Rattle.acn_packet_laws.proofs.TextTotal.{chars_total, one_char, Result, sized_total}
 use Rattle.acn_grammar.proofs.Characters.{same_name-is, same_name-refl}
 use Rattle.std.proofs.lemmas.Bool.{and_parts, not-true, eqb-true}
-
--- The first place that passes.
-
-record Found (p : ℕ → Bool) (a n i : ℕ) : Type 0 where
-  from : a ≤ i
-  inside : i < a + n
-  passes : p i ≡ true
-  first : (j : ℕ) → a ≤ j → j < i → p j ≡ false
-
-find_back : (p : ℕ → Bool) (a n i : ℕ) → find p (range_with_len a n) ≡ Some i → Found p a n i
-find_back p a zero i h = cc
-find_back p a (suc n) i h = by (p a) refl h (λ g. find_back p (a + 1) n i g)
-  where
-    by : (t : Bool) → p a ≡ t → cond t (Some a) (find p (range_with_len (a + 1) n)) ≡ Some i → (find p (range_with_len (a + 1) n) ≡ Some i → Found p (a + 1) n i) → Found p a (suc n) i
-    by true e h f =
-        let same : a ≡ i = cc in
-        record { from = omega (arith, same); inside = omega (arith, same); passes = ap p (sym same) ∙ e; first = λ j u v. absurd (omega (arith, same)) }
-    by false e h f =
-        let r = f h in
-        record { from = omega (arith, r.from); inside = omega (arith, r.inside); passes = r.passes; first = λ j u v. at j u v r (less_or_not a j) }
-      where
-        at : (j : ℕ) → a ≤ j → j < i → Found p (a + 1) n i → (a < j) ⊎ (j ≤ a) → p j ≡ false
-        at j u v r (inl k) = r.first j (omega arith) v
-        at j u v r (inr k) = (let same : a ≡ j = omega arith in ap p (sym same) ∙ e)
+use Rattle.acn_grammar.proofs.Octets.{octets_few}
+use Rattle.acn_grammar.proofs.FirstPlaces.{Found, find_back, less_or_not}
+use Rattle.acn_grammar.proofs.TextRules.{some_bits}
 
 take_twice : (l m : ℕ) (xs : List ℕ) → l ≤ m → take l (take m xs) ≡ take l xs
 take_twice zero m xs h = refl
@@ -58,17 +34,6 @@ window l zero m xs h = take_twice l m xs (omega arith)
 window l (suc i) zero xs h = absurd (omega arith)
 window l (suc i) (suc m) [] h = refl
 window l (suc i) (suc m) (x ∷ xs) h = window l i m xs (omega arith)
-
-octets_long : (bs : List Bool) → 8 * length (octet_values bs) ≤ length bs
-octets_long [] = omega arith
-octets_long (a ∷ []) = omega arith
-octets_long (a ∷ b ∷ []) = omega arith
-octets_long (a ∷ b ∷ c ∷ []) = omega arith
-octets_long (a ∷ b ∷ c ∷ d ∷ []) = omega arith
-octets_long (a ∷ b ∷ c ∷ d ∷ e ∷ []) = omega arith
-octets_long (a ∷ b ∷ c ∷ d ∷ e ∷ f ∷ []) = omega arith
-octets_long (a ∷ b ∷ c ∷ d ∷ e ∷ f ∷ g ∷ []) = omega arith
-octets_long (a ∷ b ∷ c ∷ d ∷ e ∷ f ∷ g ∷ h ∷ rest) = omega (arith, octets_long rest)
 
 module _ (here : Here) (leaf : TextLeaf) (end : List Bool) (eight : leaf.width ≡ 8) (plain : leaf.indexed ≡ false) (within : all_within (pos 0) (pos 127) leaf.alphabet ≡ true) (some : 1 ≤ length end) (whole : length end ≡ 8 * (length end / 8)) (env : Env) (at : ℕ) (rest : List Bool) where
   l_is : length (octet_numbers end) ≡ length end / 8
@@ -96,7 +61,7 @@ module _ (here : Here) (leaf : TextLeaf) (end : List Bool) (eight : leaf.width �
     few = omega (arith, fits, length-take most (octet_values rest))
 
     all : 8 * (i + length (octet_numbers end)) ≤ length rest
-    all = omega (arith, fits, length-take most (octet_values rest), octets_long rest)
+    all = omega (arith, fits, length-take most (octet_values rest), octets_few rest)
 
     left : 8 * i ≤ length rest
     left = omega (arith, all)
@@ -182,9 +147,6 @@ module _ (here : Here) (leaf : TextLeaf) (end : List Bool) (eight : leaf.width �
 
   pub ended_total : Result here (Some end) leaf env at rest
   ended_total = by_found (size_of (greatest leaf.sized.sizes) + length (octet_numbers end)) (found_end (octet_numbers end) (take (size_of (greatest leaf.sized.sizes) + length (octet_numbers end)) (octet_values rest))) refl
-
-some_bits : (end : List Bool) → is_pattern end ≡ true → 1 ≤ length end
-some_bits end h = grind (arith, nat_tests)
 
 pub text_total : TextTotal
 text_total root here leaf fine ks keys known within env good at rest = by leaf.ended refl

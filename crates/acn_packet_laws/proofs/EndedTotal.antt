@@ -13,7 +13,8 @@ use Rattle.acn_grammar.specs.declared.node.NumCoding.TheVariants.{BcdEnded, Asci
 use Rattle.acn_grammar.specs.declared.node.NumLeaf.{NumLeaf}
 use Rattle.acn_packet_laws.specs.Laws.{CodeAtFront}
 use Rattle.acn_packet_laws.proofs.EndedExclusion.{Coded, Digits}
-use Rattle.acn_packet_laws.proofs.LeafTotal.{is_or_not, less_or_not, same_or_not, image_or_none, octet_back, minus_sign}
+use Rattle.acn_packet_laws.proofs.LeafTotal.{is_or_not, same_or_not, image_or_none, octet_back, minus_sign}
+use Rattle.acn_grammar.proofs.FirstPlaces.{less_or_not}
 
 minimal_or_not : (ds : List ℕ) → IsMinimal ds ⊎ (IsMinimal ds → ⊥)
 minimal_or_not [] = inr (λ h. h)

@@ -19,8 +19,8 @@ use Rattle.acn_grammar.specs.Tree.{holds}
 use Rattle.acn_grammar.specs.declared.node.Sizing.{Sizing}
 use Rattle.acn_grammar.specs.declared.node.SizeRule.{SizeRule}
 use Rattle.acn_grammar.specs.declared.node.SizeRule.TheVariants.{Prefix, Slot, Ended}
-use Rattle.acn_packet_laws.proofs.LeafTotal.{less_or_not}
 use Rattle.acn_packet_laws.proofs.Moves.{or_either, self_eq}
+use Rattle.acn_grammar.proofs.FirstPlaces.{less_or_not}
 
 abbrev pub SameKeys : Env → Env → Type 0
 SameKeys [] [] = Unit {0}

@@ -12,7 +12,9 @@ use Rattle.acn_grammar.specs.declared.node.SizeRule.{SizeRule}
 use Rattle.acn_grammar.specs.declared.node.SizeRule.TheVariants.{Prefix, Slot, Ended}
 use Rattle.acn_grammar.specs.declared.node.Sizing.{Sizing}
 use Rattle.acn_grammar.proofs.Prefix.{Law, same_front}
-use Rattle.acn_packet_laws.proofs.PrefixNodes.{rule_law, given_law}
+use Rattle.acn_packet_laws.proofs.PrefixNodes.{rule_law}
+use Rattle.acn_grammar.proofs.Texts.{given_law}
+use Rattle.std.proofs.Math.Seq.{take-append_seam}
 
 -- the part's bits aren't at the front where it fails
 abbrev pub Excl : Part → Failing → Type 0
@@ -26,16 +28,12 @@ Same F G = (at : ℕ) (rest : List Bool) (f g : Fault) (m n : ℕ) → F at rest
 abbrev pub Clash : Failing → Failing → Type 0
 Clash F G = (at : ℕ) (rest : List Bool) (f g : Fault) (m n : ℕ) → F at rest f m → G at rest g n → ⊥
 
-pub take_front : (a r : List Bool) → take (length a) (a ++ r) ≡ a
-take_front [] r = refl
-take_front (x ∷ a) r = ap (λ l. x ∷ l) (take_front a r)
-
 pub drop_front : (a r : List Bool) → drop (length a) (a ++ r) ≡ r
 drop_front [] r = refl
 drop_front (x ∷ a) r = drop_front a r
 
 pub take_n : (n : ℕ) (a r : List Bool) → length a ≡ n → take n (a ++ r) ≡ a
-take_n n a r e = rw (← e) (take_front a r)
+take_n n a r e = rw (← e) (take-append_seam a r)
 
 pub drop_n : (n : ℕ) (a r : List Bool) → length a ≡ n → drop n (a ++ r) ≡ r
 drop_n n a r e = rw (← e) (drop_front a r)

@@ -7,15 +7,15 @@ use Rattle.acn_grammar.specs.Grammar.{Grammar}
 use Rattle.acn_grammar.specs.Meets.{Unfit, conflict, content_size}
 use Rattle.acn_grammar.specs.Refused.{asks_of, IsAsked, Contradicts, Earlier, Says, CanBeMet, FirstUnmet}
 use Rattle.acn_grammar.specs.Slots.{domain_of}
-use Rattle.acn_grammar.proofs.LeafLengths.{eq_fact}
 use Rattle.acn_packet_laws.proofs.Homes.{truth}
-use Rattle.acn_packet_laws.proofs.LeastAnswers.{least_or_none, eq_same}
+use Rattle.acn_packet_laws.proofs.LeastAnswers.{least_or_none}
 use Rattle.acn_packet_laws.proofs.OneRefusals.{EachMet, Splits, at_one, first_before, first_behind, splits}
+use Rattle.acn_grammar.proofs.WholeTests.{eq_fact, eq_self}
 
 -- The ask before it that contradicts one.
 
 same_or_not : (a b : ℤ) → (a ≡ b) ⊎ (a ≡ b → ⊥)
-same_or_not a b = truth {F = (a ≡ b) ⊎ (a ≡ b → ⊥)} (int_eq a b) (λ e. inl (eq_fact a b e)) (λ e. inr (λ same. let yes' = ap (int_eq a) (sym same) ∙ eq_same a in cc))
+same_or_not a b = truth {F = (a ≡ b) ⊎ (a ≡ b → ⊥)} (int_eq a b) (λ e. inl (eq_fact a b e)) (λ e. inr (λ same. let yes' = ap (int_eq a) (sym same) ∙ eq_self a in cc))
 
 negated : {A : Type 0} → A ⊎ (A → ⊥) → (A → ⊥) ⊎ ((A → ⊥) → ⊥)
 negated (inl a) = inr (λ n. n a)

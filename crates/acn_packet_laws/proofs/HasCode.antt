@@ -16,9 +16,11 @@ use Rattle.acn_grammar.specs.Length.{fits_octets}
 use Rattle.acn_grammar.specs.declared.node.NumCoding.{NumCoding}
 use Rattle.acn_grammar.specs.declared.node.NumCoding.TheVariants.{Range, CountedFrom, CountedSigned, PosInt, Twos, Bcd, BcdEnded, Ascii, AsciiEnded, Flag, Fixed}
 use Rattle.acn_grammar.proofs.Counts.{number_bits, signed_bits, signed_of_octets, code_fits}
-use Rattle.acn_grammar.proofs.LeafLengths.{Limits, le_fact, lt_fact, eq_fact, nibbles-length, digit_octets-length}
-use Rattle.acn_grammar.proofs.Numbers.{number-below}
+use Rattle.acn_grammar.proofs.LeafLengths.{Limits, nibbles-length, digit_octets-length, opposite-length}
 use Rattle.std.proofs.lemmas.Bool.{ltb-true, lt-ltb, and_parts, eqb-true, leb-true}
+use Rattle.acn_grammar.proofs.WholeTests.{le_fact, lt_fact, eq_fact}
+use Rattle.acn_num.proofs.BitLists.{number_below}
+use Rattle.acn_grammar.proofs.FineLeaves.{implied}
 
 -- The least positive number that passes.
 
@@ -77,7 +79,7 @@ counted_code k h =
     )
   where
     below : (c : ℕ) (other : List Bool) → IsNumber (8 * c) k other → k < 2 ^ (8 * c)
-    below c other s = rw (← s.width, ← s.value) (number-below other)
+    below c other s = rw (← s.width, ← s.value) (number_below other)
 
 pub counted_signed_code : (y : ℤ) → fits_octets y 8 ≡ true → (bs : List Bool) × Counted (λ c body. IsSigned (8 * c) y body) bs
 counted_signed_code y h =
@@ -153,10 +155,6 @@ ordered true n bs l h =
     let w = swapped (n / 8) bs (l ∙ eight_of n (h refl)) in
     (in_order true bs, w.0 ∙ l, w.1)
 
-pub implied : (little b : Bool) → implies little b ≡ true → little ≡ true → b ≡ true
-implied true b h e = h
-implied false b h e = cc
-
 -- Digits.
 
 pow_ten : (m : ℕ) → 0 < 10 ^ m
@@ -221,10 +219,6 @@ natural (negsuc n) h = absurd (omega (arith, ints))
 
 -- Patterns.
 
-opposite-long : (p : List Bool) → length (opposite p) ≡ length p
-opposite-long [] = refl
-opposite-long (b ∷ p) = ap suc (opposite-long p)
-
 opposite-other : (p : List Bool) → 0 < length p → opposite p ≢ p
 opposite-other [] h e = absurd (omega arith)
 opposite-other (true ∷ p) h e = cc
@@ -232,7 +226,7 @@ opposite-other (false ∷ p) h e = cc
 
 other_pattern : (mode : Mode) (p : List Bool) → is_pattern p ≡ true → OtherPattern mode p (opposite p)
 other_pattern Written p h = refl
-other_pattern Any p h = (opposite-long p, opposite-other p (leb-true 1 (length p) (and_parts (nat_le 1 (length p)) (nat_le (length p) 64) h).0))
+other_pattern Any p h = (opposite-length p, opposite-other p (leb-true 1 (length p) (and_parts (nat_le 1 (length p)) (nat_le (length p) 64) h).0))
 
 flag_code : (mode : Mode) (p q : Option (List Bool)) (y : ℤ) → flag_patterns_fine p q ≡ true → (y ≡ pos 0) ⊎ (y ≡ pos 1) → (bs : List Bool) × FlagCode mode p q y bs
 flag_code mode None None y f (inl e) = (false ∷ [], (0, e, record { width = refl; value = refl }))

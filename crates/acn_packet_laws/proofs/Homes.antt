@@ -9,11 +9,11 @@ use Rattle.acn_grammar.specs.Grammar.{Grammar, Form, Fields, Alternatives, node,
 use Rattle.acn_grammar.specs.Tree.{IsTree, holds, same_numbers, slots_of, is_slot, is_about, is_seq, encloses, is_home, near}
 use Rattle.acn_grammar.specs.Walk.{Stand, Role, component_role, an_inserted, alternative_role, an_element, a_content, root_node, nodes, nodes_of, form_nodes, field_nodes, alternative_nodes, slot_here, Use, slot_of, uses, inside}
 use Rattle.acn_grammar.specs.declared.node.ChoiceRule.{ChoiceRule}
-use Rattle.acn_grammar.proofs.Texts.{either}
-use Rattle.acn_packet_laws.proofs.Overlaps.{contains_holds}
 use Rattle.acn_packet_laws.proofs.Placed.{any_left, any_right, any_either, holds_left, holds_right, holds_either, slots-field, list_all-holds, field_is, has_field, here_at, home_is, place_fine, to_fields, to_one, to_cases, first_component, next_component, first_inserted, next_inserted, first_case, next_case, root_place, is_number}
 use Rattle.acn_packet_laws.proofs.Scoping.{At, FieldsAt, CasesAt, numbers, rules, used, named, not_true, find_field}
 use Rattle.acn_grammar.proofs.Characters.{same_name-is}
+use Rattle.acn_grammar.proofs.WholeTests.{either}
+use Rattle.acn_grammar.proofs.SlotLists.{contains_holds}
 
 pub out : {A B F : Type 0} → A ⊎ B → (A → F) → (B → F) → F
 out (inl a) f g = f a

@@ -10,11 +10,11 @@ use Rattle.acn_grammar.proofs.TreeRules.{tree_fine}
 use Rattle.acn_packet_laws.specs.Laws.{EachInputIsReadOrFails}
 use Rattle.acn_packet_laws.proofs.EndedTextTotal.{text_total}
 use Rattle.acn_packet_laws.proofs.Envs.{SameKeys, FrontOf, Stuck}
-use Rattle.acn_packet_laws.proofs.Exclusion.{take_front}
 use Rattle.acn_packet_laws.proofs.NodeLaws.{accepted_scoped}
 use Rattle.acn_packet_laws.proofs.NodeTotal.{node_total}
 use Rattle.acn_packet_laws.proofs.SoundLaid.{sound_laid}
 use Rattle.acn_packet_laws.proofs.SoundLaws.{accepted_sound_nodes}
+use Rattle.std.proofs.Math.Seq.{take-append_seam}
 
 pub each_input_is_read_or_fails : EachInputIsReadOrFails
 each_input_is_read_or_fails root input accepted =
@@ -31,6 +31,6 @@ each_input_is_read_or_fails root input accepted =
           length f.front,
           record {
             within = omega (arith, ap length f.whole, length-append f.front f.back);
-            spelled = subst (λ (z : List Bool). Spell root Any root [] d 0 z) (sym (ap (take (length f.front)) f.whole ∙ take_front f.front f.back)) f.spelled;
+            spelled = subst (λ (z : List Bool). Spell root Any root [] d 0 z) (sym (ap (take (length f.front)) f.whole ∙ take-append_seam f.front f.back)) f.spelled;
           },
         )

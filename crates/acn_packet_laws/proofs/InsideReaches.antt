@@ -1,5 +1,5 @@
 -- A failure other than the want of bits rests on bits that are there.
-use Rattle.std.proofs.Common.{◌≡◌, ℕ, zero, suc, ◌+◌, ◌*◌, ◌%◌, ◌≤◌, Bool, true, false, not, ◌&&◌, List, [], ◌∷◌, ◌++◌, length, take, drop, Option, Some, None, refl, ap, ◌∙◌, arith, inl, inr, ◌⊎◌, nat_eq, length-append}
+use Rattle.std.proofs.Common.{◌≡◌, ℕ, zero, suc, ◌+◌, ◌*◌, ◌≤◌, Bool, true, false, List, [], ◌∷◌, ◌++◌, length, take, drop, Option, Some, None, refl, ap, ◌∙◌, arith, inl, inr, ◌⊎◌, length-append}
 use Rattle.std.proofs.lemmas.List.{length-take, length-drop}
 use Rattle.acn_num.specs.Ranges.{greatest}
 use Rattle.acn_grammar.specs.Asks.{same_name}
@@ -10,7 +10,7 @@ use Rattle.acn_grammar.specs.Fails.{Fault, Failing, Behind, Here, Short, After, 
 use Rattle.acn_grammar.specs.Grammar.{Grammar, Form, Fields, Alternatives, Data, node, num, octets, bits, text, seq, list, choice, contained, no_fields, component, inserted, no_alternatives, alternative, null}
 use Rattle.acn_grammar.specs.Interval.{size_of}
 use Rattle.acn_grammar.specs.LeafFails.{short, octet_values}
-use Rattle.acn_grammar.specs.Leaves.{end_fine, no_size, is_terminator, is_pattern}
+use Rattle.acn_grammar.specs.Leaves.{end_fine}
 use Rattle.acn_grammar.specs.Length.{index_width, ending}
 use Rattle.acn_grammar.specs.Scoped.{Known, Scoped, FormScoped, FieldsScoped, AlternativesScoped, EndTold, after, choose_known, with_own, with_slot}
 use Rattle.acn_grammar.specs.Spell.{Part, Where, Padding, SizePart, Carries, Spell, SlotField, octet_numbers, with_home}
@@ -26,10 +26,11 @@ use Rattle.acn_packet_laws.proofs.LeadFails.{node_far, field_scoped}
 use Rattle.acn_packet_laws.proofs.LeafReaches.{leaf_steady}
 use Rattle.acn_packet_laws.proofs.NodeLaws.{accepted_scoped}
 use Rattle.acn_packet_laws.proofs.Reaches.{out}
-use Rattle.acn_packet_laws.proofs.TextReaches.{find_from, same_names, octets-short, octets-whole}
-use Rattle.acn_packet_laws.proofs.WrittenSizes.{text_rules}
-use Rattle.std.proofs.lemmas.Bool.{and_parts, eqb-true}
 use Rattle.acn_packet_laws.proofs.Tuples.{first_three, first_two, last_three, last_two, second_three}
+use Rattle.acn_grammar.proofs.Octets.{octets_few, octets_whole}
+use Rattle.acn_grammar.proofs.Characters.{same_name-is}
+use Rattle.acn_grammar.proofs.FirstPlaces.{find_back}
+use Rattle.acn_grammar.proofs.TextRules.{text_rules, end_rules}
 
 abbrev Inside : Failing → Type 0
 Inside F = (at : ℕ) (rest : List Bool) (fault : Fault) (reach : ℕ) → F at rest fault reach → (fault.reason ≡ short → ⊥) → reach ≤ length rest
@@ -104,16 +105,16 @@ characters_inside path place leaf n at rest fault reach (inr t) r = let a = t.0 
 found_inside : (path : List ℕ) (place : ℕ) (leaf : TextLeaf) (end : List Bool) → length end ≡ 8 * length (octet_numbers end) → (most : ℕ) (rest : List Bool) (found : Option ℕ) → found_end (octet_numbers end) (take most (octet_values rest)) ≡ found → (fault : Fault) (reach : ℕ)
     → FoundFails (out path place) leaf (length end) most (length (octet_values rest)) rest found fault reach → (fault.reason ≡ short → ⊥) → reach ≤ length rest
 found_inside path place leaf end whole most rest None is fault reach (inl t) r = absurd (r (ap (λ f. f.reason) t.1))
-found_inside path place leaf end whole most rest None is fault reach (inr t) r = let a = t.0 in let b = t.2 in let l = octets-short rest in omega arith
+found_inside path place leaf end whole most rest None is fault reach (inr t) r = let a = t.0 in let b = t.2 in let l = octets_few rest in omega arith
 found_inside path place leaf end whole most rest (Some i) is fault reach t r =
     let front = take most (octet_values rest) in
-    let f = find_from (λ j. same_name (take (length (octet_numbers end)) (drop j (take most (octet_values rest)))) (octet_numbers end)) 0 (length (take most (octet_values rest))) i is in
-    let stands = ap length (same_names (take (length (octet_numbers end)) (drop i (take most (octet_values rest)))) (octet_numbers end) f.2) in
+    let f = find_back (λ j. same_name (take (length (octet_numbers end)) (drop j (take most (octet_values rest)))) (octet_numbers end)) 0 (length (take most (octet_values rest))) i is in
+    let stands = ap length (same_name-is (take (length (octet_numbers end)) (drop i (take most (octet_values rest)))) (octet_numbers end) f.passes) in
     let here = length-take (length (octet_numbers end)) (drop i (take most (octet_values rest))) in
     let behind = length-drop i (take most (octet_values rest)) in
     let kept = length-take most (octet_values rest) in
-    let l = octets-short rest in
-    let b = f.1 in
+    let l = octets_few rest in
+    let b = f.inside in
     let n = reach_is t in
     omega arith
   where
@@ -126,11 +127,8 @@ text_by None leaf f path place env at rest fault reach t r =
     either_inside (SizeFails (out path place) leaf.sized env) (Sized leaf.sized env (CharactersFail (out path place) leaf)) (rule_inside path place leaf.sized leaf.sized.rule env)
     (sized_inside leaf.sized env (CharactersFail (out path place) leaf) (characters_inside path place leaf)) at rest fault reach t r
 text_by (Some end) leaf f path place env at rest fault reach t r =
-    let a = and_parts (no_size leaf.sized.rule) (nat_eq leaf.width 8 && (not leaf.indexed && is_terminator end)) f in
-    let b = and_parts (nat_eq leaf.width 8) (not leaf.indexed && is_terminator end) a.1 in
-    let c = and_parts (not leaf.indexed) (is_terminator end) b.1 in
-    let d = and_parts (is_pattern end) (nat_eq (length end % 8) 0) c.1 in
-    found_inside path place leaf end (octets-whole end (eqb-true (length end % 8) 0 d.1)) (size_of (greatest leaf.sized.sizes) + length (octet_numbers end)) rest _ refl fault reach t r
+    let q = end_rules leaf end f in
+    found_inside path place leaf end (octets_whole end (omega (arith, q.octets))) (size_of (greatest leaf.sized.sizes) + length (octet_numbers end)) rest _ refl fault reach t r
 
 -- Nodes.
 

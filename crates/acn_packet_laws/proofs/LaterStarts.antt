@@ -7,8 +7,8 @@ use Rattle.acn_grammar.specs.declared.node.SizeRule.{SizeRule}
 use Rattle.acn_grammar.proofs.SpanLaw.{Fine, FormFine, FieldsFine, AlternativesFine}
 use Rattle.acn_packet_laws.specs.Laws.{LaterStartsEndLater}
 use Rattle.acn_packet_laws.proofs.FineNodes.{fine_at}
-use Rattle.acn_packet_laws.proofs.LeafTotal.{less_or_not}
 use Rattle.acn_packet_laws.proofs.Tuples.{last_two}
+use Rattle.acn_grammar.proofs.FirstPlaces.{less_or_not}
 
 -- Padding.
 

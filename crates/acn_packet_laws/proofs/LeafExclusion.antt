@@ -13,14 +13,14 @@ use Rattle.acn_grammar.specs.declared.node.NumCoding.TheVariants.{Range, Counted
 use Rattle.acn_grammar.specs.declared.node.NumLeaf.{NumLeaf}
 use Rattle.acn_grammar.proofs.Codings.{patterns_differ}
 use Rattle.acn_packet_laws.proofs.Exclusion.{take_n, drop_n}
-use Rattle.acn_grammar.proofs.Octets.{low_bits-number}
 use Rattle.std.proofs.lemmas.Bool.{lt-ltb, ne_eqb, and_parts, not-true}
+use Rattle.acn_num.proofs.BitLists.{number-low_bits}
 
 -- Digits come back.
 
 pub nibbles_back : (ds : List ℕ) → AllByRecursion (λ d. d < 10) ds → nibbles_of (nibbles ds) ≡ ds
 nibbles_back [] h = refl
-nibbles_back (d ∷ ds) h = join (low_bits-number 4 d ∙ small d h.0) (nibbles_back ds h.1)
+nibbles_back (d ∷ ds) h = join (number-low_bits 4 d ∙ small d h.0) (nibbles_back ds h.1)
   where
     small : (d : ℕ) → d < 10 → d % 2 ^ 4 ≡ d
     small d h = omega arith
@@ -30,7 +30,7 @@ nibbles_back (d ∷ ds) h = join (low_bits-number 4 d ∙ small d h.0) (nibbles_
 
 pub octets_back : (os : List ℕ) (rest : List Bool) → AllByRecursion (λ o. o < 256) os → octet_values (bits os ++ rest) ≡ os ++ octet_values rest
 octets_back [] rest h = refl
-octets_back (o ∷ os) rest h = join (low_bits-number 8 o ∙ small o h.0) (octets_back os rest h.1)
+octets_back (o ∷ os) rest h = join (number-low_bits 8 o ∙ small o h.0) (octets_back os rest h.1)
   where
     small : (o : ℕ) → o < 256 → o % 2 ^ 8 ≡ o
     small o h = omega arith

@@ -1,5 +1,5 @@
 -- A code and a failure of a leaf that keeps its rules exclude each other, and two failures are one.
-use Rattle.std.proofs.Common.{◌≡◌, ℕ, ◌+◌, ◌%◌, ◌^◌, ◌<◌, ◌≤◌, ℤ, pos, negsuc, ◌+ℤ◌, Bool, true, false, not, List, [], ◌∷◌, ◌++◌, length, take, drop, Some, refl, sym, ap, ◌∙◌, arith, append_assoc, length-append, inl, inr, ◌⊎◌, nat_eq, nat_le, ◌&&◌, subst}
+use Rattle.std.proofs.Common.{◌≡◌, ℕ, ◌+◌, ◌%◌, ◌^◌, ◌<◌, ◌≤◌, ℤ, pos, negsuc, ◌+ℤ◌, Bool, true, false, not, List, [], ◌∷◌, ◌++◌, length, take, drop, Some, refl, sym, ap, ◌∙◌, arith, length-append, inl, inr, ◌⊎◌, nat_eq, nat_le, ◌&&◌, subst}
 use Rattle.std.specs.Prelude.{neg_ℤ, nat_abs, int_le}
 use Rattle.acn_num.specs.Bits.{number, signed_number, low_bits}
 use Rattle.acn_num.specs.Ranges.{In, has}
@@ -12,7 +12,7 @@ use Rattle.acn_grammar.specs.Spell.{octet_numbers}
 use Rattle.acn_grammar.specs.declared.node.NumCoding.{NumCoding}
 use Rattle.acn_grammar.specs.declared.node.NumCoding.TheVariants.{Range, CountedFrom, CountedSigned, PosInt, Twos, Bcd, BcdEnded, Ascii, AsciiEnded, Flag, Fixed}
 use Rattle.acn_grammar.specs.declared.node.NumLeaf.{NumLeaf}
-use Rattle.acn_grammar.proofs.Codings.{nibble_one, digit_octet_one, no_digit}
+use Rattle.acn_grammar.proofs.Codings.{nibble_one, digit_octet_one, no_digit, followed}
 use Rattle.acn_grammar.proofs.Counts.{counted-octets, counted-signed, digits-count}
 use Rattle.acn_packet_laws.proofs.EndedExclusion.{Coded, ended_same, ended_excl}
 use Rattle.acn_packet_laws.proofs.Exclusion.{take_n, drop_n}
@@ -22,10 +22,10 @@ use Rattle.acn_grammar.proofs.LeafLengths.{Limits, limits_of, coding-length, sig
 use Rattle.acn_grammar.proofs.Monotone.{range_has}
 use Rattle.acn_packet_laws.proofs.NodeExclusion.{LeafExcl, LeafSame}
 use Rattle.acn_grammar.proofs.Prefix.{same_front}
-use Rattle.acn_grammar.proofs.Texts.{either}
 use Rattle.acn_packet_laws.proofs.WidthBack.{count-most}
 use Rattle.acn_grammar.proofs.Within.{image_has, between}
 use Rattle.std.proofs.lemmas.Bool.{leb-true, and_parts, not-true, eqb-true}
+use Rattle.acn_grammar.proofs.WholeTests.{either}
 
 pub coded_nibbles : Coded nibbles 4 (low_bits 4 15)
 coded_nibbles = record {
@@ -118,9 +118,6 @@ counted_few k = omega (arith, count-most (λ c. nat_le (256 ^ c) k) 1 7)
 
 signed_few : (y : ℤ) → least_signed_octets y ≤ 8
 signed_few y = omega (arith, count-most (λ c. not (fits_octets y c)) 1 7)
-
-followed : (bs front digits end r : List Bool) → bs ≡ front ++ (digits ++ end) → bs ++ r ≡ front ++ (digits ++ (end ++ r))
-followed bs front digits end r e = ap (λ z. z ++ r) e ∙ (append_assoc front (digits ++ end) r ∙ ap (λ z. front ++ z) (append_assoc digits end r))
 
 sign_value : (y : ℤ) (k : ℕ) (sign rest : List Bool) → SignOctet true y k sign → (((number (take 8 (sign ++ rest)) ≡ 43) × Positive k y) ⊎ ((number (take 8 (sign ++ rest)) ≡ 45) × Negative k y)) × (drop 8 (sign ++ rest) ≡ rest) × (8 ≤ length (sign ++ rest))
 sign_value (pos n) k sign rest h =

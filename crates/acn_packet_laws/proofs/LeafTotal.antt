@@ -3,7 +3,6 @@ use Rattle.std.proofs.Common.{◌≡◌, ℕ, zero, suc, ◌+◌, ◌-◌, ◌*�
 use Rattle.std.specs.Prelude.{neg_ℤ}
 use Rattle.std.specs.List.{AllByRecursion}
 use Rattle.std.proofs.lemmas.List.{length-take-le}
-use native.Mathlib.Decide.{dec_lt}
 use Rattle.acn_num.specs.Bits.{number, low_bits, bits}
 use Rattle.acn_num.specs.Ranges.{has}
 use Rattle.acn_grammar.specs.Code.{Any, CodingCode, nibbles, digit_octets, SignOctet, image_of}
@@ -14,31 +13,21 @@ use Rattle.acn_grammar.specs.Length.{flag_width}
 use Rattle.acn_grammar.specs.declared.node.NumCoding.{NumCoding}
 use Rattle.acn_grammar.specs.declared.node.NumCoding.TheVariants.{Bcd, Ascii, Flag, Fixed}
 use Rattle.acn_grammar.specs.declared.node.NumLeaf.{NumLeaf}
-use Rattle.acn_grammar.proofs.Codings.{patterns_differ}
-use Rattle.acn_grammar.proofs.Numbers.{number-below}
-use Rattle.acn_grammar.proofs.Octets.{low_bits-length, low_bits-number}
+use Rattle.acn_grammar.proofs.Codings.{patterns_differ, same_bits-is}
 use Rattle.acn_grammar.proofs.Within.{image_has}
 use Rattle.acn_packet_laws.specs.Laws.{CodeAtFront}
 use Rattle.acn_packet_laws.proofs.WidthBack.{preimage}
 use Rattle.std.proofs.lemmas.Bool.{eqb-false, eqb-true}
+use Rattle.acn_num.proofs.BitLists.{number_below, number_same, length-low_bits, number-low_bits}
+use Rattle.acn_grammar.proofs.FirstPlaces.{less_or_not}
 
 -- Decisions.
-
-same_is : (a b : List Bool) → same_bits a b ≡ true → a ≡ b
-same_is [] [] h = refl
-same_is [] (y ∷ b) h = cc
-same_is (true ∷ a) [] h = cc
-same_is (false ∷ a) [] h = cc
-same_is (true ∷ a) (true ∷ b) h = ap (λ l. true ∷ l) (same_is a b h)
-same_is (false ∷ a) (false ∷ b) h = ap (λ l. false ∷ l) (same_is a b h)
-same_is (true ∷ a) (false ∷ b) h = cc
-same_is (false ∷ a) (true ∷ b) h = cc
 
 pub same_or_not : (p q : List Bool) → (p ≡ q) ⊎ (p ≡ q → ⊥)
 same_or_not p q = by (same_bits p q) refl
   where
     by : (t : Bool) → same_bits p q ≡ t → (p ≡ q) ⊎ (p ≡ q → ⊥)
-    by true e = inl (same_is p q e)
+    by true e = inl (same_bits-is p q e)
     by false e = inr (patterns_differ p q e)
 
 pub is_or_not : (a b : ℕ) → (a ≡ b) ⊎ (a ≡ b → ⊥)
@@ -47,9 +36,6 @@ is_or_not a b = by (nat_eq a b) refl
     by : (t : Bool) → nat_eq a b ≡ t → (a ≡ b) ⊎ (a ≡ b → ⊥)
     by true e = inl (eqb-true a b e)
     by false e = inr (eqb-false a b e)
-
-pub less_or_not : (a b : ℕ) → (a < b) ⊎ (b ≤ a)
-less_or_not a b = elim (dec_lt a b) [ yes k ↦ inl k | no k ↦ inr (omega arith) ]
 
 pub image_or_none : (leaf : NumLeaf) → IsTrue (num_fine leaf) → (y : ℤ) → ((x : ℤ) × (has leaf.set x ≡ true) × (image_of leaf x ≡ Some y)) ⊎ NoneHas leaf y
 image_or_none leaf fine y = by (has (images_of leaf) y) refl
@@ -70,32 +56,17 @@ digits_or_not z (d ∷ ds) = digits_step z d ds (less_or_not d z) (less_or_not d
 
 -- Bits come back from their numbers.
 
-number_same : (a b : List Bool) → length a ≡ length b → number a ≡ number b → a ≡ b
-number_same [] [] l n = refl
-number_same [] (y ∷ b) l n = absurd (omega arith)
-number_same (x ∷ a) [] l n = absurd (omega arith)
-number_same (x ∷ a) (y ∷ b) l n = by x y n (number_same a b (omega arith))
-  where
-    long : length a ≡ length b
-    long = omega arith
-
-    by : (x y : Bool) → number (x ∷ a) ≡ number (y ∷ b) → (number a ≡ number b → a ≡ b) → x ∷ a ≡ y ∷ b
-    by true true n rest = ap (λ t. true ∷ t) (rest (omega (arith, n, ap (λ (k : ℕ). 2 ^ k) long)))
-    by false false n rest = ap (λ t. false ∷ t) (rest (omega (arith, n)))
-    by true false n rest = absurd (omega (arith, n, number-below b, ap (λ (k : ℕ). 2 ^ k) long))
-    by false true n rest = absurd (omega (arith, n, number-below a, ap (λ (k : ℕ). 2 ^ k) long))
-
 low_back : (n : ℕ) (bs : List Bool) → length bs ≡ n → number bs % 2 ^ n ≡ number bs → low_bits n (number bs) ≡ bs
-low_back n bs l s = number_same (low_bits n (number bs)) bs (low_bits-length n (number bs) ∙ sym l) (low_bits-number n (number bs) ∙ s)
+low_back n bs l s = number_same (low_bits n (number bs)) bs (length-low_bits n (number bs) ∙ sym l) (number-low_bits n (number bs) ∙ s)
 
 nibble_back : (bs : List Bool) → length bs ≡ 4 → low_bits 4 (number bs) ≡ bs
 nibble_back bs l =
-    let below : number bs < 2 ^ 4 = subst (λ (n : ℕ). number bs < 2 ^ n) l (number-below bs) in
+    let below : number bs < 2 ^ 4 = subst (λ (n : ℕ). number bs < 2 ^ n) l (number_below bs) in
     low_back 4 bs l (omega arith)
 
 pub octet_back : (bs : List Bool) → length bs ≡ 8 → low_bits 8 (number bs) ≡ bs
 octet_back bs l =
-    let below : number bs < 2 ^ 8 = subst (λ (n : ℕ). number bs < 2 ^ n) l (number-below bs) in
+    let below : number bs < 2 ^ 8 = subst (λ (n : ℕ). number bs < 2 ^ n) l (number_below bs) in
     low_back 8 bs l (omega arith)
 
 nibbles_whole : (k : ℕ) (bs : List Bool) → length bs ≡ 4 * k → nibbles (map (λ d. d - 0) (nibbles_of bs)) ≡ bs

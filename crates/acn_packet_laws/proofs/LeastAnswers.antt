@@ -8,10 +8,9 @@ use Rattle.std.proofs.lemmas.Bool.Decides.{nat_tests}
 use Rattle.acn_num.specs.Ranges.{has}
 use Rattle.acn_grammar.specs.Asks.{Ask, Equal, Avoid}
 use Rattle.acn_grammar.specs.AsksOn.{MeetsAsk, Answers, Meetable, LeastAnswer}
-use Rattle.acn_grammar.proofs.LeafLengths.{eq_fact, le_fact}
-use Rattle.acn_grammar.proofs.Texts.{either}
 use Rattle.acn_packet_laws.proofs.Homes.{truth}
 use Rattle.acn_packet_laws.proofs.Scoping.{not_true}
+use Rattle.acn_grammar.proofs.WholeTests.{either, eq_fact, le_fact, eq_self}
 
 -- The least number from a bound on that passes, if there is one within a distance.
 
@@ -106,15 +105,12 @@ meets_ask x (Avoid n) = not (int_eq x n)
 abbrev answers : List (ℤ × ℤ) → List Ask → ℤ → Bool
 answers set wanted x = has set x && list_all (meets_ask x) wanted
 
-pub eq_same : (x : ℤ) → int_eq x x ≡ true
-eq_same x = grind (arith, ints, nat_tests)
-
 ask_is : (x : ℤ) (a : Ask) → meets_ask x a ≡ true → MeetsAsk x a
 ask_is x (Equal n) h = eq_fact x n h
-ask_is x (Avoid n) h = λ e. (let no = not-true (int_eq x n) h in let yes' = ap (int_eq x) (sym e) ∙ eq_same x in cc)
+ask_is x (Avoid n) h = λ e. (let no = not-true (int_eq x n) h in let yes' = ap (int_eq x) (sym e) ∙ eq_self x in cc)
 
 is_ask : (x : ℤ) (a : Ask) → MeetsAsk x a → meets_ask x a ≡ true
-is_ask x (Equal n) h = ap (int_eq x) (sym h) ∙ eq_same x
+is_ask x (Equal n) h = ap (int_eq x) (sym h) ∙ eq_self x
 is_ask x (Avoid n) h = not_true (int_eq x n) (false_from_ne_true (int_eq x n) (λ e. h (eq_fact x n e)))
 
 asks_are : (x : ℤ) (wanted : List Ask) → list_all (meets_ask x) wanted ≡ true → AllByRecursion (MeetsAsk x) wanted

@@ -3,7 +3,6 @@ use Rattle.std.proofs.Common.{◌≡◌, ℕ, suc, ℤ, pos, List, [], ◌∷◌
 use Rattle.std.proofs.lemmas.Bool.{or_left, and_parts}
 use Rattle.std.specs.Prelude.{◌≤ℤ◌, int_le}
 use Rattle.std.proofs.lemmas.Int.{ints}
-use Rattle.std.proofs.lemmas.Bool.Decides.{nat_tests}
 use Rattle.acn_num.specs.Ranges.{In, has}
 use Rattle.acn_grammar.specs.Check.{HasWidth, NodeAt}
 use Rattle.acn_grammar.specs.Code.{Any}
@@ -19,21 +18,19 @@ use Rattle.acn_grammar.proofs.FineLeaves.{rules_of}
 use Rattle.acn_grammar.proofs.LeafLengths.{code-length}
 use Rattle.acn_grammar.proofs.SpellLength.{OneWidth, Steady, SteadyForm, SteadyLeaf, SteadyFields, SteadyAlternatives}
 use Rattle.acn_packet_laws.specs.Laws.{IsAccepted, LengthsAreTold, EachLengthIsTold}
-use Rattle.acn_packet_laws.proofs.Codes.{each_number_has_a_code, set_ordered, range_within}
-use Rattle.acn_packet_laws.proofs.HasImage.{Ordered}
+use Rattle.acn_packet_laws.proofs.Codes.{each_number_has_a_code}
 use Rattle.acn_packet_laws.proofs.LengthLaw.{length_law}
 use Rattle.acn_packet_laws.proofs.SoundLaws.{accepted_sound_nodes}
 use Rattle.acn_packet_laws.proofs.SoundNodes.{each_node_sound}
 use Rattle.acn_packet_laws.proofs.Tuples.{first_three, second_three, second_four, third_four, fourth_five, last_two, last_three, last_four, last_five}
+use Rattle.acn_grammar.proofs.HasImage.{set_ordered, range_within, Ordered}
+use Rattle.acn_grammar.proofs.WholeTests.{le_test}
 
 -- Leaves of one width.
 
-le_true : (a b : ℤ) → a ≤ℤ b → int_le a b ≡ true
-le_true a b h = grind (arith, ints, nat_tests)
-
 pub least_there : (set : List (ℤ × ℤ)) (x : ℤ) → Ordered set → has set x ≡ true → has set (least set) ≡ true
 least_there [] x o h = cc
-least_there (r ∷ rs) x o h = or_left (int_le r.0 r.0 && int_le r.0 r.1) (has rs r.0) (rw (le_true r.0 r.0 (omega (arith, ints)), le_true r.0 r.1 o.0) refl)
+least_there (r ∷ rs) x o h = or_left (int_le r.0 r.0 && int_le r.0 r.1) (has rs r.0) (rw (le_test r.0 r.0 (omega (arith, ints)), le_test r.0 r.1 o.0) refl)
 
 -- all codes of one length
 one_width : (leaf : NumLeaf) → IsTrue (num_fine leaf) → (w : ℕ) → HasWidth leaf w → OneWidth leaf

@@ -27,8 +27,6 @@ mod FirstFaults
 mod FirstUnmets
 mod FlagRows
 mod HasCode
--- for acn_check
-pub mod HasImage
 mod Homes
 mod InputTotal
 mod InsideReaches
@@ -84,7 +82,6 @@ mod SoundNodes
 mod SoundRows
 mod SoundSlots
 mod Sounding
-mod Spans
 mod SpelledMeets
 mod TelemetryRows
 mod TextLaws
@@ -103,4 +100,3 @@ mod WorkedRows
 mod WrittenNodes
 mod WrittenParts
 mod WrittenRead
-mod WrittenSizes

@@ -15,7 +15,7 @@ use Rattle.acn_packet_laws.proofs.FirstFaults.{none_without_first}
 use Rattle.acn_packet_laws.proofs.Placed.{here_at, to_fields, to_one, to_cases, first_component, next_component, first_inserted, next_inserted, first_case, next_case, has_field, root_place, inside_near, slots-field}
 use Rattle.acn_packet_laws.proofs.PrefixNodes.{spell_law, slot_law}
 use Rattle.acn_packet_laws.proofs.Scoping.{At, FieldsAt, CasesAt, numbers, rules, Knows, used, named, used_left, used_right, find_field, near_after}
-use Rattle.acn_grammar.proofs.Texts.{either}
+use Rattle.acn_grammar.proofs.WholeTests.{either}
 
 pub accepted_sound : (root : Grammar) → IsAccepted root → (f : CheckFault) → Undecodable root f → ⊥
 accepted_sound root a = none_without_first root a.sound
@@ -126,7 +126,7 @@ slot_fields_prefix_free root g env env' slot at a b r s fine p q e =
     (h.0, h.1 slot (same slot))
   where
     same : (s : ℕ) → (nat_eq s s || false) ≡ true
-    same s = or_left (nat_eq s s) false (Rattle.acn_packet_laws.proofs.Scoping.same_eq s)
+    same s = or_left (nat_eq s s) false (Rattle.acn_grammar.proofs.SlotLists.same_eq s)
 
 pub each_node_prefix_free : EachNodeIsPrefixFree
 each_node_prefix_free root k here env env' d d' at a b r s accepted is_at ok agree p q e =

@@ -30,11 +30,12 @@ use Rattle.acn_grammar.proofs.FineLeaves.{rules_of}
 use Rattle.acn_grammar.proofs.SpanLaw.{Fine, FormFine, FieldsFine, AlternativesFine}
 use Rattle.acn_packet_laws.specs.Laws.{CodeAtFront}
 use Rattle.acn_packet_laws.proofs.Envs.{Good, Moved, unmoved, moved_more, moved_as, move_to, Numbers, some_numbers, good_home, outside, FrontOf, Stuck, says, in_or_not, ASize, size_total}
-use Rattle.acn_packet_laws.proofs.LeafTotal.{less_or_not, same_or_not}
+use Rattle.acn_packet_laws.proofs.LeafTotal.{same_or_not}
 use Rattle.acn_packet_laws.proofs.Moves.{is_own, opens, form_opens, fields_opens, Shut, or_either, self_eq, RuleKnown, SlotLaid, OwnLaid, Others, Laid, FormLaid, FieldsLaid, CasesLaid, after_within, chosen_within, size_moves, own_moves, spell_moves, chosen_moves, CasesKnown, cases_known}
 use Rattle.acn_packet_laws.proofs.NumberTotal.{each_input_is_a_number_or_fails}
 use Rattle.acn_packet_laws.proofs.NodeParts.{join_front, join_stuck, TextTotal, none}
 use Rattle.acn_packet_laws.proofs.ReadParts.{ChosenAt, bits_make, choose, content_makes, flags_away, flags_left, flags_there, index_chosen, is_there_moves, may_be_away, may_be_there, null_is, number_is, octets_make, padded, there_or_not, value_by}
+use Rattle.acn_grammar.proofs.FirstPlaces.{less_or_not}
 
 module _ (root : Grammar) (text_total : TextTotal) where
   -- an env that moved, and under it a value at the front or a failure

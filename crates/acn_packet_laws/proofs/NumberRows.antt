@@ -14,11 +14,11 @@ use Rattle.acn_grammar.specs.declared.node.NumCoding.TheVariants.{Range, Counted
 use Rattle.acn_grammar.specs.declared.node.NumKind.TheVariants.{Integer, Enumerated}
 use Rattle.acn_grammar.specs.declared.node.NumLeaf.{NumLeaf}
 use Rattle.acn_grammar.proofs.Codings.{nibble_one}
-use Rattle.acn_grammar.proofs.Numbers.{number-below}
 use Rattle.acn_packet_laws.specs.NumberRows as rows
 use Rattle.acn_packet_laws.proofs.LeafRows.{integer, leaf_spelled, leaf_fails}
 use Rattle.acn_packet_laws.proofs.OneFault.{some_same}
 use Rattle.acn_packet_laws.proofs.OneWriting.{writing_of_a_tree}
+use Rattle.acn_num.proofs.BitLists.{number_below}
 
 truly : (b : Bool) → b ≡ true → IsFalse b → ⊥
 truly b t f = cc
@@ -74,7 +74,7 @@ two_at_least : (c : ℕ) (other : List Bool) → 0 < c → IsNumber (8 * c) 256 
 two_at_least zero other p s = absurd (omega (arith, p))
 two_at_least (suc zero) other p s =
     let is = s.value in
-    let below : number other < 2 ^ 8 = subst (λ n. number other < 2 ^ n) s.width (number-below other) in
+    let below : number other < 2 ^ 8 = subst (λ n. number other < 2 ^ n) s.width (number_below other) in
     absurd (omega (arith, is, below))
 two_at_least (suc (suc c)) other p s = omega arith
 

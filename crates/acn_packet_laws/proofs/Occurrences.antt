@@ -23,8 +23,8 @@ use Rattle.acn_grammar.specs.declared.node.ChoiceRule.TheVariants.{Index, Tests,
 use Rattle.acn_packet_laws.specs.Laws.{EachOccurrenceAsks}
 use Rattle.acn_packet_laws.proofs.Homes.{truth}
 use Rattle.acn_packet_laws.proofs.AskHomes.{form_slot, field_slot, node_slot, differs, field_leads, near_steps, FormNot, NodeNot, FieldsNot, CasesNot, FormHomes, NodeHomes, FieldsHomes, CasesHomes, tree_homes, if_yes, if_no, some_is}
-use Rattle.acn_packet_laws.proofs.Scoping.{same_eq}
 use Rattle.acn_grammar.proofs.Characters.{same_name-is, same_name-refl}
+use Rattle.acn_grammar.proofs.SlotLists.{same_eq}
 
 -- Lists.
 

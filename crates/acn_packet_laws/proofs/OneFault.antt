@@ -13,13 +13,12 @@ use Rattle.acn_grammar.specs.declared.node.ChoiceRule.{ChoiceRule}
 use Rattle.acn_grammar.specs.declared.node.ChoiceRule.TheVariants.{Tests}
 use Rattle.acn_grammar.specs.declared.node.Test.{Test}
 use Rattle.acn_grammar.specs.declared.node.Test.TheVariants.{Flag, Equals}
-use Rattle.acn_grammar.proofs.Texts.{either}
 use Rattle.acn_packet_laws.specs.Laws.{OneFirstFault}
 use Rattle.acn_packet_laws.proofs.FirstFaults.{five}
 use Rattle.acn_packet_laws.proofs.Homes.{truth}
-use Rattle.acn_packet_laws.proofs.Overlaps.{contains_holds, holds_contains}
 use Rattle.acn_packet_laws.proofs.Placed.{has_field, field_is, twice, tree_numbered, tree_rules}
-use Rattle.acn_packet_laws.proofs.Scoping.{same_eq}
+use Rattle.acn_grammar.proofs.WholeTests.{either}
+use Rattle.acn_grammar.proofs.SlotLists.{contains_holds, holds_contains, same_eq}
 
 -- Numbers of slots in ascending order.
 

@@ -24,36 +24,16 @@ use Rattle.acn_grammar.specs.declared.node.SizeRule.{SizeRule}
 use Rattle.acn_grammar.specs.declared.node.SizeRule.TheVariants.{Prefix, Slot, Ended}
 use Rattle.acn_grammar.specs.declared.node.TextLeaf.{TextLeaf}
 use Rattle.acn_grammar.proofs.Counts.{digits-below}
-use Rattle.acn_grammar.proofs.FineLeaves.{rules_of}
+use Rattle.acn_grammar.proofs.FineLeaves.{rules_of, implied}
 use Rattle.acn_grammar.proofs.LeafLengths.{code-length, nibbles-length, digit_octets-length}
-use Rattle.acn_grammar.proofs.Numbers.{number-below}
 use Rattle.acn_grammar.proofs.SpanLaw.{Fine, FormFine, FieldsFine, AlternativesFine}
 use Rattle.acn_grammar.proofs.SpellLength.{Padding-length, NumberOf-number_of}
 use Rattle.acn_grammar.proofs.TreeRules.{tree_fine}
-use Rattle.acn_packet_laws.proofs.HasCode.{swapped, implied, eight_of}
+use Rattle.acn_packet_laws.proofs.HasCode.{swapped, eight_of}
 use Rattle.acn_packet_laws.specs.Laws.{OneWriting}
+use Rattle.acn_num.proofs.BitLists.{number_below, number_same}
 
 -- Bits of one length that spell one number.
-
-number_one : (as' bs : List Bool) → length as' ≡ length bs → number as' ≡ number bs → as' ≡ bs
-number_one [] [] l e = refl
-number_one [] (b ∷ bs) l e = absurd (omega arith)
-number_one (a ∷ as') [] l e = absurd (omega arith)
-number_one (true ∷ as') (true ∷ bs) l e =
-    let m : length as' ≡ length bs = omega arith in
-    let p : 2 ^ length as' ≡ 2 ^ length bs = ap (λ n. 2 ^ n) m in
-    ap (λ x. true ∷ x) (number_one as' bs m (omega arith))
-number_one (false ∷ as') (false ∷ bs) l e =
-    let m : length as' ≡ length bs = omega arith in
-    ap (λ x. false ∷ x) (number_one as' bs m (omega arith))
-number_one (true ∷ as') (false ∷ bs) l e =
-    let m : length as' ≡ length bs = omega arith in
-    let p : 2 ^ length as' ≡ 2 ^ length bs = ap (λ n. 2 ^ n) m in
-    absurd (omega (arith, number-below bs))
-number_one (false ∷ as') (true ∷ bs) l e =
-    let m : length as' ≡ length bs = omega arith in
-    let p : 2 ^ length as' ≡ 2 ^ length bs = ap (λ n. 2 ^ n) m in
-    absurd (omega (arith, number-below as'))
 
 signed_one : (as' bs : List Bool) → length as' ≡ length bs → signed_number as' ≡ signed_number bs → as' ≡ bs
 signed_one [] [] l e = refl
@@ -63,16 +43,16 @@ signed_one (true ∷ as') (true ∷ bs) l e =
     let m : length as' ≡ length bs = omega arith in
     let p : 2 ^ length as' ≡ 2 ^ length bs = ap (λ n. 2 ^ n) m in
     let q : number as' ≡ number bs = omega (arith, ints) in
-    ap (λ x. true ∷ x) (number_one as' bs m q)
+    ap (λ x. true ∷ x) (number_same as' bs m q)
 signed_one (false ∷ as') (false ∷ bs) l e =
     let m : length as' ≡ length bs = omega arith in
     let q : number as' ≡ number bs = omega (arith, ints) in
-    ap (λ x. false ∷ x) (number_one as' bs m q)
+    ap (λ x. false ∷ x) (number_same as' bs m q)
 signed_one (true ∷ as') (false ∷ bs) l e =
-    let below = number-below as' in
+    let below = number_below as' in
     absurd (omega (arith, ints))
 signed_one (false ∷ as') (true ∷ bs) l e =
-    let below = number-below bs in
+    let below = number_below bs in
     absurd (omega (arith, ints))
 
 -- in either order of octets
@@ -129,7 +109,7 @@ counted_one fits one a b t u =
     let p = t.least u.count u.body u.positive u.spells in
     let q = u.least t.count t.body t.positive t.spells in
     let c : t.count ≡ u.count = omega arith in
-    let front : t.front ≡ u.front = number_one t.front u.front (t.counts.width ∙ sym u.counts.width) (t.counts.value ∙ (c ∙ sym u.counts.value)) in
+    let front : t.front ≡ u.front = number_same t.front u.front (t.counts.width ∙ sym u.counts.width) (t.counts.value ∙ (c ∙ sym u.counts.value)) in
     let moved : fits t.count u.body = rw c u.spells in
     let body : t.body ≡ u.body = one t.count t.body u.body t.spells moved in
     t.whole ∙ (ap (λ x. x ++ t.body) front ∙ (ap (λ x. u.front ++ x) body ∙ sym u.whole))
@@ -139,7 +119,7 @@ flag_one None None y a b l s t =
     let one = s.1 in
     let two = t.1 in
     let k : s.0 ≡ t.0 = omega (arith, ints) in
-    number_one a b l (s.2.value ∙ (k ∙ sym t.2.value))
+    number_same a b l (s.2.value ∙ (k ∙ sym t.2.value))
 flag_one (Some p) (Some q) y a b l (inl s) (inl t) = s.1 ∙ sym t.1
 flag_one (Some p) (Some q) y a b l (inr s) (inr t) = s.1 ∙ sym t.1
 flag_one (Some p) (Some q) y a b l (inl s) (inr t) = let one = s.0 in let two = t.0 in absurd (omega (arith, ints))
@@ -160,16 +140,16 @@ pos_one : (y : ℤ) (j k : ℕ) → y ≡ pos j → y ≡ pos k → j ≡ k
 pos_one y j k p q = omega (arith, ints)
 
 coding_one : (coding : NumCoding) (little : Bool) (y : ℤ) (a b : List Bool) → implies little (can_be_little coding) ≡ true → length a ≡ length b → CodingCode Written coding little y a → CodingCode Written coding little y b → a ≡ b
-coding_one (Range low width) little y a b f l p q = number_one a b l (p.2.value ∙ (offset_one low y p.0 q.0 p.1 q.1 ∙ sym q.2.value))
+coding_one (Range low width) little y a b f l p q = number_same a b l (p.2.value ∙ (offset_one low y p.0 q.0 p.1 q.1 ∙ sym q.2.value))
 coding_one (CountedFrom low) little y a b f l p q =
     let k = offset_one low y p.0 q.0 p.1 q.1 in
     let moved : Counted (λ c body. IsNumber (8 * c) p.0 body) b = rw k q.2 in
-    counted_one (λ c body. IsNumber (8 * c) p.0 body) (λ c s t u v. number_one s t (u.width ∙ sym v.width) (u.value ∙ sym v.value)) a b p.2 moved
+    counted_one (λ c body. IsNumber (8 * c) p.0 body) (λ c s t u v. number_same s t (u.width ∙ sym v.width) (u.value ∙ sym v.value)) a b p.2 moved
 coding_one CountedSigned little y a b f l p q =
     counted_one (λ c body. IsSigned (8 * c) y body) (λ c s t u v. signed_one s t (u.width ∙ sym v.width) (u.value ∙ sym v.value)) a b p q
 coding_one (PosInt n) little y a b f l p q =
     let o = ordered_one little n a b (λ e. eight_of n (implied little _ f e)) p.0 q.0 in
-    o.1 (number_one (in_order little a) (in_order little b) o.0 (pos_one y _ _ p.1 q.1))
+    o.1 (number_same (in_order little a) (in_order little b) o.0 (pos_one y _ _ p.1 q.1))
 coding_one (Twos n) little y a b f l p q =
     let o = ordered_one little n a b (λ e. eight_of n (implied little _ f e)) p.0 q.0 in
     o.1 (signed_one (in_order little a) (in_order little b) o.0 (sym p.1 ∙ q.1))
@@ -230,7 +210,7 @@ exact_one bs at a b p q = p ∙ sym q
 
 rule_one : (rule : SizeRule) (env : Env) (n m : ℕ) → n ≡ m → One (RulePart rule env n) (RulePart rule env m)
 rule_one (Prefix low width) env n m same at a b p q =
-    number_one a b (p.spelled.width ∙ sym q.spelled.width) (p.spelled.value ∙ (ap (λ x. x - low) same ∙ sym q.spelled.value))
+    number_same a b (p.spelled.width ∙ sym q.spelled.width) (p.spelled.value ∙ (ap (λ x. x - low) same ∙ sym q.spelled.value))
 rule_one (Slot s) env n m same at a b p q = p.1 ∙ sym q.1
 rule_one (Ended e) env n m same at a b p q = absurd p.0
 
@@ -239,7 +219,7 @@ size_one sizing env n m same at a b p q = rule_one sizing.rule env n m same at a
 
 characters_one : (leaf : TextLeaf) (cs : List ℕ) → One (CharactersPart leaf cs) (CharactersPart leaf cs)
 characters_one leaf [] at a b p q = p ∙ sym q
-characters_one leaf (c ∷ cs) at a b t u = then_one (λ at' a' b' p q. number_one a' b' (p.spelled.width ∙ sym q.spelled.width) (p.spelled.value ∙ sym q.spelled.value)) (characters_one leaf cs) at a b t u
+characters_one leaf (c ∷ cs) at a b t u = then_one (λ at' a' b' p q. number_same a' b' (p.spelled.width ∙ sym q.spelled.width) (p.spelled.value ∙ sym q.spelled.value)) (characters_one leaf cs) at a b t u
 
 text_one : (end : Option (List Bool)) (leaf : TextLeaf) (env : Env) (cs : List ℕ) → One (EndedPart end leaf env cs) (EndedPart end leaf env cs)
 text_one None leaf env cs at a b p q = then_one (size_one leaf.sized env (length cs) (length cs) refl) (characters_one leaf cs) at a b p q
@@ -265,7 +245,7 @@ window_one content sizing env h n m at a b t u =
     t.whole ∙ (ap (λ x. x ++ t.back) front ∙ (ap (λ x. u.front ++ x) inside ∙ sym u.whole))
 
 index_one : (root : Grammar) (rule : ChoiceRule) (i : ℕ) → One (IndexPart root rule i) (IndexPart root rule i)
-index_one root (Index width) i at a b p q = number_one a b (p.width ∙ sym q.width) (p.value ∙ sym q.value)
+index_one root (Index width) i at a b p q = number_same a b (p.width ∙ sym q.width) (p.value ∙ sym q.value)
 index_one root Tests i at a b p q = p ∙ sym q
 index_one root (Item s) i at a b p q = p ∙ sym q
 

@@ -1,7 +1,7 @@
 -- Without an overlap and a mixed choice no permitted numbers choose two alternatives.
-use Rattle.std.proofs.Common.{◌≡◌, ℕ, zero, suc, ◌<◌, ◌≤◌, ℤ, pos, Bool, true, false, List, [], ◌∷◌, ◌++◌, length, map, Option, Some, refl, sym, ap, ◌∙◌, arith, nat_eq, ◌||◌, inr, get_or}
+use Rattle.std.proofs.Common.{◌≡◌, ℕ, zero, suc, ◌<◌, ◌≤◌, ℤ, pos, Bool, true, false, List, [], ◌∷◌, ◌++◌, length, map, Option, Some, refl, sym, ap, ◌∙◌, arith, nat_eq, ◌||◌, inr}
 use Rattle.std.proofs.lemmas.Bool.{or_left, or_right, ltb-true, eqb-false, eqb-true}
-use Rattle.std.specs.Prelude.{slice_get, Contains, nat_lt, if◌then◌else◌, unwrap_or}
+use Rattle.std.specs.Prelude.{slice_get, nat_lt, if◌then◌else◌, unwrap_or}
 use Rattle.std.specs.List.{AllByRecursion, list_any}
 use Rattle.std.proofs.lemmas.Bool.Decides.{nat_tests}
 use native.Mathlib.Decide.{dec_lt}
@@ -17,7 +17,8 @@ use Rattle.acn_grammar.specs.Walk.{Stand, conditions_of}
 use Rattle.acn_grammar.specs.declared.node.ChoiceRule.TheVariants.{Tests}
 use Rattle.acn_grammar.specs.declared.node.Test.{Test}
 use Rattle.acn_grammar.specs.declared.node.Test.TheVariants.{Flag, Equals}
-use Rattle.acn_grammar.proofs.Texts.{either}
+use Rattle.acn_grammar.proofs.WholeTests.{either}
+use Rattle.acn_grammar.proofs.SlotLists.{same_eq, or_swap, or_twice, contains_holds, holds_contains}
 
 -- Slots in ascending order, each once.
 
@@ -31,9 +32,6 @@ in_order (x ∷ xs) = insert x (in_order xs)
 
 lt_not : (a b : ℕ) → nat_lt a b ≡ false → b ≤ a
 lt_not a b h = grind (arith, nat_tests)
-
-same_eq : (s : ℕ) → nat_eq s s ≡ true
-same_eq s = grind (arith, nat_tests)
 
 abbrev Strict : ℕ → List ℕ → Type 0
 Strict b xs = IsStrictly (b ∷ xs)
@@ -62,16 +60,6 @@ insert_first x (y ∷ ys) s = by (nat_lt x y) (nat_eq x y) (ltb-true x y) (lt_no
         below : (x y : ℕ) → y ≤ x → (x ≡ y → ⊥) → y < x
         below x y h k = grind arith
 
-or_swap : (a b c : Bool) → (b || (a || c)) ≡ (a || (b || c))
-or_swap true true c = refl
-or_swap true false c = refl
-or_swap false true c = refl
-or_swap false false c = refl
-
-or_twice : (b c : Bool) → (b || c) ≡ (b || (b || c))
-or_twice true c = refl
-or_twice false c = refl
-
 insert-holds : (x : ℕ) (ys : List ℕ) (s : ℕ) → holds (insert x ys) s ≡ (nat_eq x s || holds ys s)
 insert-holds x [] s = refl
 insert-holds x (y ∷ ys) s = by (nat_lt x y) (nat_eq x y) (eqb-true x y) (insert-holds x ys s)
@@ -88,20 +76,6 @@ order_strict (x ∷ xs) = insert_first x (in_order xs) (order_strict xs)
 order-holds : (xs : List ℕ) (s : ℕ) → holds (in_order xs) s ≡ holds xs s
 order-holds [] s = refl
 order-holds (x ∷ xs) s = insert-holds x (in_order xs) s ∙ ap (λ b. nat_eq x s || b) (order-holds xs s)
-
-get_holds : (xs : List ℕ) (k s : ℕ) → k < length xs → get_or xs k s ≡ s → holds xs s ≡ true
-get_holds [] k s h e = absurd (omega arith)
-get_holds (x ∷ xs) zero s h e = or_left (nat_eq x s) (holds xs s) (ap (λ y. nat_eq y s) e ∙ same_eq s)
-get_holds (x ∷ xs) (suc k) s h e = or_right (nat_eq x s) (holds xs s) (get_holds xs k s (omega arith) e)
-
-pub contains_holds : (xs : List ℕ) (s : ℕ) → Contains xs s → holds xs s ≡ true
-contains_holds xs s c = get_holds xs c.0 s c.1 c.2
-
-pub holds_contains : (xs : List ℕ) (s : ℕ) → holds xs s ≡ true → Contains xs s
-holds_contains [] s h = cc
-holds_contains (x ∷ xs) s h = either {F = Contains (x ∷ xs) s} (nat_eq x s) (holds xs s) h
-    (λ q. (zero, omega arith, eqb-true x s q))
-    (λ q. let r = holds_contains xs s q in (suc r.0, omega (arith, r.1), r.2))
 
 -- The numbers that an env has for the slots of conditions that hold in it.
 

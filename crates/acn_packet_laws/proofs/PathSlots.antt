@@ -19,9 +19,9 @@ use Rattle.acn_packet_laws.proofs.Homes.{truth}
 use Rattle.acn_packet_laws.proofs.AskHomes.{form_slot, field_slot, node_slot, differs, FormHomes, NodeHomes, FieldsHomes, CasesHomes, if_yes, if_no}
 use Rattle.acn_packet_laws.proofs.Occurrences.{told, field_in, field_out}
 use Rattle.acn_packet_laws.proofs.Placed.{holds_either}
-use Rattle.acn_packet_laws.proofs.Scoping.{same_eq}
 use Rattle.acn_packet_laws.proofs.Used.{each_both, TestFits, TestsFit, PresenceFits, CaseFits, RuleFits, OwnFits, ChoiceFits, NodeUsed, FormUsed, FieldsUsed, CasesUsed}
 use Rattle.acn_packet_laws.proofs.Tuples.{first_four, first_three, first_two, last_four, last_three, last_two, second_four, second_three, third_four}
+use Rattle.acn_grammar.proofs.SlotLists.{same_eq}
 
 abbrev mutual
   -- the slot whose field is at this path

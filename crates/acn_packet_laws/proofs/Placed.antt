@@ -11,16 +11,13 @@ use Rattle.acn_grammar.specs.declared.node.Presence.{Presence}
 use Rattle.acn_grammar.specs.declared.node.Presence.TheVariants.{Always, Bit, When}
 use Rattle.acn_grammar.specs.declared.node.ChoiceRule.{ChoiceRule}
 use Rattle.acn_grammar.specs.declared.node.Test.{Test}
-use Rattle.acn_grammar.proofs.Texts.{either}
 use Rattle.acn_grammar.proofs.TreeRules.{StandFine, stand_fine, list_all-append}
 use Rattle.acn_grammar.proofs.Characters.{same_name-is}
 use Rattle.std.proofs.lemmas.Bool.{and_parts, not-true, eqb-true}
+use Rattle.acn_grammar.proofs.WholeTests.{either}
+use Rattle.acn_grammar.proofs.SlotLists.{holds-append, or_assoc}
 
 -- Tests on lists.
-
-pub or_assoc : (a b c : Bool) → (a || (b || c)) ≡ ((a || b) || c)
-or_assoc true b c = refl
-or_assoc false b c = refl
 
 pub any-append : {A : Type 0} (p : A → Bool) (xs ys : List A) → list_any p (xs ++ ys) ≡ (list_any p xs || list_any p ys)
 any-append p [] ys = refl
@@ -34,10 +31,6 @@ any_right p xs ys h = any-append p xs ys ∙ or_right (list_any p xs) (list_any 
 
 pub any_either : {F A : Type 0} (p : A → Bool) (xs ys : List A) → list_any p (xs ++ ys) ≡ true → (list_any p xs ≡ true → F) → (list_any p ys ≡ true → F) → F
 any_either {F} p xs ys h f g = either {F = F} (list_any p xs) (list_any p ys) (sym (any-append p xs ys) ∙ h) f g
-
-pub holds-append : (xs ys : List ℕ) (s : ℕ) → holds (xs ++ ys) s ≡ (holds xs s || holds ys s)
-holds-append [] ys s = refl
-holds-append (x ∷ xs) ys s = rw (holds-append xs ys s) (or_assoc (nat_eq x s) (holds xs s) (holds ys s))
 
 pub holds_left : (xs ys : List ℕ) (s : ℕ) → holds xs s ≡ true → holds (xs ++ ys) s ≡ true
 holds_left xs ys s h = holds-append xs ys s ∙ or_left (holds xs s) (holds ys s) h

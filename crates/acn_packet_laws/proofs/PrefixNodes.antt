@@ -11,7 +11,7 @@ use Rattle.acn_grammar.specs.Slots.{items_of, domain_of}
 use Rattle.acn_grammar.specs.Scoped.{Known, with_slot, Agree, TestIn, TestsIn, PresenceIn, RuleIn, Apart, FineField, choose_known, with_own, EndTold, after, form_after, fields_after, tests_at, names_of, Permitted, Scoped, FormScoped, FieldsScoped, AlternativesScoped}
 use Rattle.acn_grammar.specs.Tree.{holds}
 use Rattle.acn_grammar.proofs.FineLeaves.{lawful}
-use Rattle.acn_grammar.proofs.Texts.{text_law}
+use Rattle.acn_grammar.proofs.Texts.{text_law, given_law}
 use Rattle.acn_grammar.specs.Grammar.{Grammar, Form, Fields, Alternatives, Data, Places, Elements, node, num, octets, bits, text, seq, list, choice, contained, no_fields, component, inserted, no_alternatives, alternative, int, boolean, item, null, octet_string, bit_string, characters, record_of, list_of, alt, no_places, empty, filled, no_elements, element, element_count}
 use Rattle.acn_grammar.specs.Code.{Any, NumberOf}
 use Rattle.acn_grammar.specs.Env.{Env, at_slot, Holds, AllHold, MayBeThere, MayBeAway}
@@ -137,9 +137,6 @@ extended (k ∷ home) (x ∷ xs) env s h =
 pub agree_inside : (ks : Known) (home : List ℕ) (xs ys : List ℤ) (env env' : Env) → Apart ks home → Agree ks env env' → Agree ks (with_home home xs env) (with_home home ys env')
 agree_inside ks home xs ys env env' apart same s h =
     extended home xs env s (apart s h) ∙ (same s h ∙ sym (extended home ys env' s (apart s h)))
-
-pub given_law : {P Q : Part} {F A B : Type 0} → (A → B → Law P Q F) → Law (Where A P) (Where B Q) F
-given_law h at a b r s p q e = h p.given q.given at a b r s p.spelled q.spelled e
 
 record_is : (ps qs : Places) → ps ≡ qs → record_of ps ≡ record_of qs
 record_is ps qs e = ap record_of e

@@ -26,8 +26,6 @@ use Rattle.acn_grammar.specs.declared.node.Presence.{Presence}
 use Rattle.acn_grammar.specs.declared.node.Presence.TheVariants.{Always, Bit, When}
 use Rattle.acn_grammar.specs.declared.node.Test.{Test}
 use Rattle.acn_grammar.specs.declared.node.Test.TheVariants.{Flag, Equals}
-use Rattle.acn_grammar.proofs.Numbers.{number-below}
-use Rattle.acn_packet_laws.proofs.Codes.{range_within}
 use Rattle.acn_packet_laws.proofs.Moves.{there_moves}
 use Rattle.std.proofs.lemmas.Bool.{and_parts}
 use Rattle.acn_grammar.specs.Slots.{items_of}
@@ -35,6 +33,8 @@ use Rattle.acn_grammar.specs.declared.node.ChoiceRule.{ChoiceRule}
 use Rattle.acn_grammar.specs.declared.node.ChoiceRule.TheVariants.{Index, Tests, Item}
 use Rattle.acn_grammar.specs.declared.node.Sizing.{Sizing}
 use Rattle.acn_packet_laws.proofs.LeafTotal.{octets_whole}
+use Rattle.acn_num.proofs.BitLists.{number_below}
+use Rattle.acn_grammar.proofs.HasImage.{range_within}
 
 -- Padding.
 
@@ -106,7 +106,7 @@ octets_count (suc k) _ l = absurd (omega arith)
 pub octets_are : (k : ℕ) (bs : List Bool) → length bs ≡ 8 * k → are_octets (octet_values bs) ≡ true
 octets_are zero [] l = refl
 octets_are zero (x ∷ bs) l = absurd (omega arith)
-octets_are (suc k) (a ∷ b ∷ c ∷ d ∷ e ∷ f ∷ g ∷ h ∷ rest) l = both (nat_lt (number (a ∷ b ∷ c ∷ d ∷ e ∷ f ∷ g ∷ h ∷ [])) 256) (are_octets (octet_values rest)) (small (number (a ∷ b ∷ c ∷ d ∷ e ∷ f ∷ g ∷ h ∷ [])) (number-below (a ∷ b ∷ c ∷ d ∷ e ∷ f ∷ g ∷ h ∷ []))) (octets_are k rest (omega arith))
+octets_are (suc k) (a ∷ b ∷ c ∷ d ∷ e ∷ f ∷ g ∷ h ∷ rest) l = both (nat_lt (number (a ∷ b ∷ c ∷ d ∷ e ∷ f ∷ g ∷ h ∷ [])) 256) (are_octets (octet_values rest)) (small (number (a ∷ b ∷ c ∷ d ∷ e ∷ f ∷ g ∷ h ∷ [])) (number_below (a ∷ b ∷ c ∷ d ∷ e ∷ f ∷ g ∷ h ∷ []))) (octets_are k rest (omega arith))
   where
     small : (n : ℕ) → n < 2 ^ 8 → nat_lt n 256 ≡ true
     small n h = grind (arith, nat_tests)
@@ -122,7 +122,7 @@ pub int_or_not : (x y : ℤ) → (x ≡ y) ⊎ (x ≡ y → ⊥)
 int_or_not x y = by (int_eq x y) refl
   where
     is : int_eq x y ≡ true → x ≡ y
-    is h = Rattle.acn_grammar.proofs.LeafLengths.eq_fact x y h
+    is h = Rattle.acn_grammar.proofs.WholeTests.eq_fact x y h
 
     differ : int_eq x y ≡ false → x ≡ y → ⊥
     differ h e = absurd (grind (arith, ints, nat_tests))

@@ -34,11 +34,11 @@ use Rattle.acn_packet_laws.proofs.Contents.{content_octets}
 use Rattle.acn_packet_laws.proofs.Lengths.{root_steady}
 use Rattle.acn_packet_laws.proofs.Occurrences.{field_in, field_out, each_occurrence_asks}
 use Rattle.acn_packet_laws.proofs.Placed.{holds_either}
-use Rattle.acn_packet_laws.proofs.Scoping.{same_eq}
 use Rattle.acn_packet_laws.proofs.Unbreached.{unbreached}
 use Rattle.acn_packet_laws.proofs.Used.{each_left, each_right, each_both, TestFits, TestsFit, PresenceFits, CaseFits, RuleFits, OwnFits, ChoiceFits, NodeUsed, FormUsed, FieldsUsed, CasesUsed, accepted_used}
 use Rattle.acn_grammar.proofs.Characters.{same_name-refl}
 use Rattle.acn_packet_laws.proofs.Tuples.{first_four, first_three, first_two, last_four, last_three, last_two, second_four, second_three, third_four}
+use Rattle.acn_grammar.proofs.SlotLists.{same_eq}
 
 -- The asks of a field and of the slot whose field it is come from one occurrence of the slot's home, and one number meets them all.
 pub record Origin (root : Grammar) (whole : Data) (t : ℕ) (field : List ℕ) : Type 0 where

@@ -3,7 +3,6 @@ use Rattle.std.proofs.lemmas.Bool.{and_from, false_from_ne_true, or_left, or_par
 use Rattle.std.proofs.Common.{◌≡◌, ℕ, zero, suc, ◌<◌, Bool, true, false, not, List, [], ◌∷◌, ◌++◌, length, map, Option, Some, None, refl, sym, ap, ◌∙◌, arith, nat_eq, ◌&&◌, ◌||◌}
 use Rattle.std.specs.Prelude.{slice_get}
 use Rattle.std.specs.List.{list_any, list_all, range_with_len}
-use Rattle.std.proofs.lemmas.Bool.Decides.{nat_tests}
 use Rattle.acn_grammar.specs.Check.{CheckFault, forward, Undecodable}
 use Rattle.acn_grammar.specs.Grammar.{Grammar, Form, Fields, Alternatives, node, num, octets, bits, text, seq, list, choice, contained, no_fields, component, inserted, no_alternatives, alternative}
 use Rattle.acn_grammar.specs.Scoped.{Known, with_slot, TestsIn, PresenceIn, RuleIn, FineField, choose_known, with_own, after, fields_after, names_of}
@@ -17,7 +16,8 @@ use Rattle.acn_grammar.specs.declared.node.SizeRule.TheVariants.{Prefix, Slot, E
 use Rattle.acn_grammar.specs.declared.node.Test.{Test}
 use Rattle.acn_grammar.specs.declared.node.Test.TheVariants.{Flag, Equals}
 use Rattle.acn_packet_laws.proofs.Placed.{any_left, any_right, any_either, holds_right, holds_either, list_all-holds, field_is, has_field, near_has, near_if_when, near_parts, own_number, is_number, no_field, twice, fine_at, home_near, home_is, Place, FieldsPlace, CasesPlace, here_at, place_fine, to_fields, first_component, next_component, first_inserted, next_inserted, tree_numbered, tree_rules, slot_in, parts_apart, inserted_number}
-use Rattle.acn_grammar.proofs.Texts.{either}
+use Rattle.acn_grammar.proofs.WholeTests.{either}
+use Rattle.acn_grammar.proofs.SlotLists.{same_eq}
 
 -- Uses and fields by their places.
 
@@ -27,9 +27,6 @@ used s at = holds (map slot_of (uses at)) s
 -- some of the nodes uses the slot
 abbrev pub named : ℕ → List Stand → Bool
 named s nodes' = list_any (used s) nodes'
-
-pub same_eq : (s : ℕ) → nat_eq s s ≡ true
-same_eq s = grind (arith, nat_tests)
 
 pub used_left : (xs ys : List Use) (s : ℕ) → holds (map slot_of xs) s ≡ true → holds (map slot_of (xs ++ ys)) s ≡ true
 used_left [] ys s h = cc

@@ -1,5 +1,5 @@
 -- Bits are wanting only where there are fewer than the greatest packet and the greatest window have.
-use Rattle.std.proofs.Common.{◌≡◌, ℕ, zero, suc, ◌+◌, ◌-◌, ◌*◌, ◌%◌, ◌^◌, ◌<◌, ◌≤◌, ℤ, pos, negsuc, Bool, true, false, not, ◌&&◌, List, [], ◌∷◌, ◌++◌, length, take, drop, Option, Some, None, refl, sym, ap, ◌∙◌, arith, inl, inr, ◌⊎◌, nat_eq, length-append}
+use Rattle.std.proofs.Common.{◌≡◌, ℕ, zero, suc, ◌+◌, ◌-◌, ◌*◌, ◌^◌, ◌<◌, ◌≤◌, ℤ, pos, negsuc, Bool, true, false, List, [], ◌∷◌, ◌++◌, length, take, drop, Option, Some, None, refl, sym, ap, ◌∙◌, arith, inl, inr, ◌⊎◌, length-append}
 use Rattle.std.proofs.Math.Nat.{mul-le-mul_right, suc-mul}
 use Rattle.std.proofs.lemmas.List.{length-drop}
 use Rattle.acn_num.specs.Ranges.{In, greatest}
@@ -10,9 +10,9 @@ use Rattle.acn_grammar.specs.Fails.{Fault, Failing, Behind, Here, Short, Says, s
 use Rattle.acn_grammar.specs.Grammar.{Grammar, Form, Fields, Alternatives, Data, node, num, octets, bits, text, seq, list, choice, contained, no_fields, component, inserted, no_alternatives, alternative, null}
 use Rattle.acn_grammar.specs.Interval.{held, exactly, plus, times, in_octets, span, form_span, fields_span, alternatives_span, num_span, sizes_of, size_of, end_width, list_around, component_span}
 use Rattle.acn_grammar.specs.LeafFails.{Reason, short, out_of_range, not_minimal, bad_digit, bad_character, bad_pattern, too_long, size_out_of_range, no_alternative, content_size, past_content, octet_values}
-use Rattle.acn_grammar.specs.Leaves.{sizes_fine, rule_fine, list_rule_fine, end_fine, no_size, is_terminator, is_pattern}
+use Rattle.acn_grammar.specs.Leaves.{sizes_fine, rule_fine, list_rule_fine, end_fine}
 use Rattle.acn_grammar.specs.Length.{padding, rule_width, index_width, ending, num_length}
-use Rattle.acn_grammar.specs.Spell.{Part, Where, Padding, RulePart, Carries, Spell, SlotField, octet_numbers, with_home}
+use Rattle.acn_grammar.specs.Spell.{Part, Where, Padding, Carries, Spell, SlotField, octet_numbers, with_home}
 use Rattle.acn_grammar.specs.declared.bounds.Bounds.{Bounds}
 use Rattle.acn_grammar.specs.declared.node.ChoiceRule.{ChoiceRule}
 use Rattle.acn_grammar.specs.declared.node.ChoiceRule.TheVariants.{Index, Tests, Item}
@@ -23,19 +23,19 @@ use Rattle.acn_grammar.specs.declared.node.SizeRule.{SizeRule}
 use Rattle.acn_grammar.specs.declared.node.SizeRule.TheVariants.{Prefix, Slot, Ended}
 use Rattle.acn_grammar.specs.declared.node.TextLeaf.{TextLeaf}
 use Rattle.acn_grammar.proofs.LeafLengths.{code-length}
-use Rattle.acn_grammar.proofs.SpanLaw.{Between, Fine, FormFine, FieldsFine, AlternativesFine, size_has, span_between}
+use Rattle.acn_grammar.proofs.SpanLaw.{Fine, FormFine, FieldsFine, AlternativesFine, size_has, span_between, rule_between}
 use Rattle.acn_grammar.proofs.SpellLength.{Padding-length, then-length}
 use Rattle.acn_grammar.proofs.TreeRules.{tree_fine}
 use Rattle.acn_packet_laws.specs.Laws.{IsAccepted, ShortIsNear}
 use Rattle.acn_packet_laws.proofs.NodeLaws.{accepted_sound}
 use Rattle.acn_packet_laws.proofs.ShortLeaves.{leaf_short}
 use Rattle.acn_packet_laws.proofs.Sounding.{at_most}
-use Rattle.acn_packet_laws.proofs.Spans.{exactly_spans, plus_spans, same_spans, moved_spans}
-use Rattle.acn_packet_laws.proofs.TextReaches.{octets-long, octets-whole}
 use Rattle.acn_packet_laws.proofs.ValueLengths.{padding_spans, number_spans}
-use Rattle.acn_packet_laws.proofs.WrittenSizes.{text_rules}
-use Rattle.std.proofs.lemmas.Bool.{and_parts, eqb-true}
+use Rattle.std.proofs.lemmas.Bool.{and_parts}
 use Rattle.acn_packet_laws.proofs.Tuples.{last_two}
+use Rattle.acn_grammar.proofs.Octets.{octets_most, octets_whole}
+use Rattle.acn_grammar.proofs.Spans.{Between, plus_spans, same_spans, moved_spans}
+use Rattle.acn_grammar.proofs.TextRules.{text_rules, end_rules}
 
 -- A reason as it is named: short inside no window alone.
 
@@ -100,11 +100,6 @@ rule_near here sizing (Prefix low width) env at rest fault reach (inr t) e = nev
 rule_near here sizing (Slot s) env at rest fault reach t e = never here (size_out_of_range _) fault (λ q. cc) t.3 e
 rule_near here sizing (Ended end) env at rest fault reach t e = absurd t
 
-size_spans : (rule : SizeRule) (env : Env) (n at : ℕ) (bs : List Bool) → RulePart rule env n at bs → Between (exactly (rule_width rule)) (length bs)
-size_spans (Prefix low width) env n at bs p = moved_spans (exactly width) (length bs) width p.spelled.width (exactly_spans width)
-size_spans (Slot s) env n at bs p = moved_spans (exactly 0) (length bs) 0 (ap length p.1) (exactly_spans 0)
-size_spans (Ended q) env n at bs p = absurd p.0
-
 -- a size in front, and what fails behind it at a permitted size
 sized_near : (here : Here) (sizing : Sizing) (env : Env) (b : Bounds) (F : ℕ → Failing) → ((n : ℕ) → In sizing.sizes (pos n) → Near here.inside b (F n)) → Near here.inside (plus (exactly (rule_width sizing.rule)) b) (λ at rest fault reach. SizeFails here sizing env at rest fault reach ⊎ Sized sizing env F at rest fault reach)
 sized_near here sizing env b F h at rest fault reach (inl t) e =
@@ -112,7 +107,7 @@ sized_near here sizing env b F h at rest fault reach (inl t) e =
 sized_near here sizing env b F h at rest fault reach (inr t) e =
     let k = t.behind in
     let n = h t.n k.spelled.given (at + length k.front) k.back fault k.more k.fails e in
-    let f = size_spans sizing.rule env t.n at k.front k.spelled.spelled in
+    let f = rule_between sizing.rule env t.n at k.front k.spelled.spelled in
     (n.0, λ s. omega (arith, ap length k.whole, length-append k.front k.back, f.high (omega arith), n.1 (omega arith)))
 
 parts_near : (here : Here) (each : ℕ) (sizing : Sizing) (env : Env) → sizes_fine sizing.sizes ≡ true → Near here.inside (plus (exactly (rule_width sizing.rule)) (times (sizes_of sizing.sizes) (exactly each))) (PartsFail here each sizing env)
@@ -189,19 +184,15 @@ text_near None here leaf env s f at' rest' fault' reach' t' e' =
 text_near (Some end) here leaf env s f at rest fault reach t e = by _ t
   where
     eight : leaf.width ≡ 8
-    eight = eqb-true leaf.width 8 (and_parts (nat_eq leaf.width 8) (not leaf.indexed && is_terminator end) (and_parts (no_size leaf.sized.rule) (nat_eq leaf.width 8 && (not leaf.indexed && is_terminator end)) f).1).0
+    eight = (end_rules leaf end f).width
 
     whole : length end ≡ 8 * length (octet_numbers end)
-    whole =
-        let a = and_parts (no_size leaf.sized.rule) (nat_eq leaf.width 8 && (not leaf.indexed && is_terminator end)) f in
-        let b = and_parts (nat_eq leaf.width 8) (not leaf.indexed && is_terminator end) a.1 in
-        let c = and_parts (not leaf.indexed) (is_terminator end) b.1 in
-        octets-whole end (eqb-true (length end % 8) 0 (and_parts (is_pattern end) (nat_eq (length end % 8) 0) c.1).1)
+    whole = octets_whole end (omega (arith, (end_rules leaf end f).octets))
 
     bound : (length (octet_values rest) < size_of (greatest leaf.sized.sizes) + length (octet_numbers end)) → (plus (exactly (rule_width leaf.sized.rule + length end)) (times (sizes_of leaf.sized.sizes) (exactly leaf.width))).greatest < 2 ^ 40
         → length rest < (plus (exactly (rule_width leaf.sized.rule + length end)) (times (sizes_of leaf.sized.sizes) (exactly leaf.width))).greatest + 524288
     bound l small =
-        let long = octets-long rest in
+        let long = octets_most rest in
         let few = size_few (greatest leaf.sized.sizes) in
         let product : size_of (greatest leaf.sized.sizes) * held leaf.width ≡ size_of (greatest leaf.sized.sizes) * 8 = ap (λ w. size_of (greatest leaf.sized.sizes) * held w) eight in
         omega (arith, whole)

@@ -1,9 +1,7 @@
 -- A number leaf that keeps its rules has some number, and a slot permits the numbers of its leaf.
-use Rattle.std.proofs.Common.{◌≡◌, ℕ, ◌-◌, ℤ, pos, ◌&&◌, List, [], ◌∷◌, length, Some, None, refl, sym, ap, ◌∙◌, arith, nat_lt, subst, IsTrue}
+use Rattle.std.proofs.Common.{◌≡◌, ℕ, ◌-◌, ℤ, pos, ◌&&◌, List, [], ◌∷◌, length, Some, None, refl, sym, ap, ◌∙◌, nat_lt, subst, IsTrue}
 use Rattle.std.proofs.lemmas.Bool.{or_left, and_parts}
-use Rattle.std.specs.Prelude.{unwrap_or, option_map, int_le, ◌≤ℤ◌, true}
-use Rattle.std.proofs.lemmas.Int.{ints}
-use Rattle.std.proofs.lemmas.Bool.Decides.{nat_tests}
+use Rattle.std.specs.Prelude.{unwrap_or, option_map, int_le, true}
 use Rattle.acn_num.specs.Ranges.{In, has, are_ranges}
 use Rattle.acn_grammar.specs.Grammar.{Grammar}
 use Rattle.acn_grammar.specs.Leaves.{num_fine, set_fine, is_range, no_items, items_fine, integer_set_fine}
@@ -14,14 +12,8 @@ use Rattle.acn_grammar.specs.declared.node.NumKind.TheVariants.{Integer, Boolean
 use Rattle.acn_grammar.specs.declared.node.NumLeaf.{NumLeaf}
 use Rattle.acn_grammar.proofs.FineLeaves.{rules_of}
 use Rattle.acn_grammar.proofs.LeafLengths.{int_ends}
-use Rattle.acn_packet_laws.proofs.Codes.{set_ordered}
-use Rattle.acn_packet_laws.proofs.HasImage.{Ordered}
-
-self_le : (a : ℤ) → int_le a a ≡ true
-self_le a = grind (arith, ints, nat_tests)
-
-le_true : (a b : ℤ) → a ≤ℤ b → int_le a b ≡ true
-le_true a b h = grind (arith, ints, nat_tests)
+use Rattle.acn_grammar.proofs.HasImage.{set_ordered, Ordered}
+use Rattle.acn_grammar.proofs.WholeTests.{le_self, le_test}
 
 no_set : (leaf : NumLeaf) (kind : NumKind) → set_fine kind leaf.coding leaf.items leaf.table [] ≡ true → ⊥
 no_set leaf Integer h = (let e = int_ends leaf.coding None (and_parts (integer_set_fine leaf.coding None) (no_items leaf.items) (and_parts (are_ranges []) (integer_set_fine leaf.coding None && no_items leaf.items) h).1).0 in let n = e.1 in cc)
@@ -36,7 +28,7 @@ some_number leaf fine = by leaf.set refl
     by [] e = absurd (no_set leaf leaf.kind (ap (set_fine leaf.kind leaf.coding leaf.items leaf.table) (sym e) ∙ (rules_of leaf fine).set))
     by (r ∷ rs) e =
         let o = subst Ordered e (set_ordered leaf.kind leaf.coding leaf.items leaf.table leaf.set (rules_of leaf fine).set) in
-        (r.0, subst (λ (z : List (ℤ × ℤ)). In z r.0) (sym e) (or_left (int_le r.0 r.0 && int_le r.0 r.1) (has rs r.0) (rw (self_le r.0, le_true r.0 r.1 o.0) refl)))
+        (r.0, subst (λ (z : List (ℤ × ℤ)). In z r.0) (sym e) (or_left (int_le r.0 r.0 && int_le r.0 r.1) (has rs r.0) (rw (le_self r.0, le_test r.0 r.1 o.0) refl)))
 
 pub domain_is : (root : Grammar) (s : ℕ) (leaf : NumLeaf) → slot_leaf root s ≡ Some leaf → domain_of root s ≡ leaf.set
 domain_is root s leaf e = ap (λ o. unwrap_or (option_map (λ l. l.set) o) []) e

@@ -8,13 +8,13 @@ use Rattle.acn_grammar.specs.Sound.{NothingLeaves, IsNull, SaysSlot, OwnSound, S
 use Rattle.acn_grammar.specs.Tree.{holds}
 use Rattle.acn_grammar.specs.declared.node.Presence.{Presence}
 use Rattle.acn_grammar.specs.declared.node.Presence.TheVariants.{Always, Bit, When}
-use Rattle.acn_grammar.proofs.Texts.{either}
 use Rattle.acn_packet_laws.specs.Laws.{KnownStays, SlotsPermitWhatTheirFieldsSay}
 use Rattle.acn_packet_laws.proofs.Moves.{is_own, opens, fields_opens, Shut, Others, SlotLaid, OwnLaid, Laid, FormLaid, FieldsLaid, CasesLaid}
-use Rattle.acn_packet_laws.proofs.Placed.{holds-append}
 use Rattle.acn_packet_laws.proofs.Scoping.{own_second, not_true}
 use Rattle.acn_packet_laws.proofs.SlotNumbers.{domain_is}
 use Rattle.acn_packet_laws.proofs.Tuples.{first_two, first_three, first_four, second_three, second_five, third_four, third_five, fourth_five, last_two, last_three, last_four, last_five}
+use Rattle.acn_grammar.proofs.WholeTests.{either}
+use Rattle.acn_grammar.proofs.SlotLists.{holds-append}
 
 own_true : (own : Option ℕ) (ks : Known) (s : ℕ) → is_own own s ≡ true → with_own own ks s ≡ true
 own_true None ks s h = cc

@@ -13,9 +13,9 @@ use Rattle.acn_grammar.specs.declared.node.Test.TheVariants.{Equals}
 use Rattle.acn_packet_laws.specs.RequestRows.{IsSound, behind_len, octets_by_len, UnsoundNodesAreTold}
 use Rattle.acn_packet_laws.specs.WorkedRows.{u8}
 use Rattle.acn_packet_laws.proofs.Sounding.{got_name}
-use Rattle.acn_grammar.proofs.Texts.{either}
 use Rattle.acn_grammar.proofs.WidthLaw.{width_holds}
 use Rattle.acn_packet_laws.proofs.Tuples.{first_five, first_four, first_three, first_two, fourth_five, last_four, last_three, last_two, third_five, third_four}
+use Rattle.acn_grammar.proofs.WholeTests.{either}
 
 abbrev shared : Fields
 shared = octets_by_len 120 (octets_by_len 121 no_fields)

@@ -11,11 +11,11 @@ use Rattle.acn_grammar.specs.Tree.{holds, is_slot}
 use Rattle.acn_grammar.specs.declared.node.NumLeaf.{NumLeaf}
 use Rattle.acn_grammar.specs.declared.node.Presence.{Presence}
 use Rattle.acn_grammar.specs.declared.node.Presence.TheVariants.{Always, Bit, When}
-use Rattle.acn_grammar.proofs.Texts.{either}
 use Rattle.acn_packet_laws.proofs.Homes.{truth}
 use Rattle.acn_packet_laws.proofs.Scoping.{own_either}
 use Rattle.acn_packet_laws.proofs.SlotNumbers.{leaf_some}
 use Rattle.acn_packet_laws.proofs.Tuples.{first_four, last_two, last_three, last_four, last_five, second_five, third_four, fourth_five}
+use Rattle.acn_grammar.proofs.WholeTests.{either}
 
 module _ (root : Grammar) where
   abbrev pub HasLeaf : ℕ → Type 0

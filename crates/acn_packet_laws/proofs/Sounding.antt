@@ -21,12 +21,11 @@ use Rattle.acn_grammar.specs.declared.node.ChoiceRule.TheVariants.{Index, Tests,
 use Rattle.acn_grammar.specs.declared.node.Presence.{Presence}
 use Rattle.acn_grammar.specs.declared.node.Presence.TheVariants.{Always, Bit, When}
 use Rattle.acn_grammar.specs.declared.node.Test.{Test}
-use Rattle.acn_grammar.proofs.Texts.{either}
 use Rattle.acn_packet_laws.proofs.Accepted.{tests_known, end_told}
 use Rattle.acn_packet_laws.proofs.Homes.{out, truth, Homed, root_homed, in_fields, in_one, in_left, in_right, slot_open, whole_node, whole_fields, whole_cases}
 use Rattle.acn_packet_laws.proofs.Overlaps.{no_overlap}
 use Rattle.acn_packet_laws.proofs.Placed.{here_at, twice, slot_in, cond_holds, range-above, holds_left, home_near, place_fine, to_fields, to_one, to_cases, first_component, next_component, first_inserted, next_inserted, first_case, next_case, any_left, field_is, has_field, root_place, holds_either, inside_near, is_number, own_number, inserted_number}
-use Rattle.acn_packet_laws.proofs.Scoping.{At, FieldsAt, CasesAt, numbers, rules, Knows, Fresh, own_known, form_known, step_in, fields_in, knows_left, knows_right, component_behind, inserted_behind, inserted_is, only_slot, not_home, outer_home, tests_in, rule_in, get_here, same_eq, after_from, keeps, fields_near_after, optional_none}
+use Rattle.acn_packet_laws.proofs.Scoping.{At, FieldsAt, CasesAt, numbers, rules, Knows, Fresh, own_known, form_known, step_in, fields_in, knows_left, knows_right, component_behind, inserted_behind, inserted_is, only_slot, not_home, outer_home, tests_in, rule_in, get_here, after_from, keeps, fields_near_after, optional_none}
 use Rattle.acn_packet_laws.proofs.SlotLeaves.{Leafed, below, no_fields_leaf, no_cases_leaf, leafed_one, leafed_first, leafed_next, leafed_case, leafed_next_case, leafed_here}
 use Rattle.acn_packet_laws.proofs.WidthBack.{width_is}
 use Rattle.acn_grammar.proofs.WidthLaw.{width_holds}
@@ -34,6 +33,8 @@ use Rattle.acn_grammar.proofs.Characters.{same_name-is}
 use Rattle.acn_packet_laws.proofs.SlotNumbers.{only_null}
 use Rattle.acn_packet_laws.proofs.SoundSlots.{some_behind}
 use Rattle.acn_packet_laws.proofs.Tuples.{first_four, fourth_five, last_five, last_four, last_three, last_two, second_five}
+use Rattle.acn_grammar.proofs.WholeTests.{either}
+use Rattle.acn_grammar.proofs.SlotLists.{same_eq}
 
 -- Numbers.
 

@@ -24,10 +24,9 @@ use Rattle.acn_grammar.proofs.FineLeaves.{rules_of}
 use Rattle.acn_grammar.proofs.SpanLaw.{Fine, FormFine, FieldsFine, AlternativesFine}
 use Rattle.acn_grammar.proofs.TreeRules.{tree_fine}
 use Rattle.acn_packet_laws.specs.Laws.{SpelledValuesMeet}
-use Rattle.acn_packet_laws.proofs.Codes.{range_within}
-use Rattle.acn_packet_laws.proofs.TextTotal.{in_below}
 use Rattle.acn_packet_laws.proofs.Unbreached.{unbreached}
-use Rattle.acn_packet_laws.proofs.WrittenSizes.{text_rules}
+use Rattle.acn_grammar.proofs.TextRules.{text_rules, small_character}
+use Rattle.acn_grammar.proofs.HasImage.{range_within}
 
 -- Numbers.
 
@@ -54,7 +53,7 @@ char_octet c h = grind (arith, nat_tests)
 
 chars_octets : (leaf : TextLeaf) → all_within (pos 0) (pos 127) leaf.alphabet ≡ true → (cs : List ℕ) (at : ℕ) (bs : List Bool) → CharactersPart leaf cs at bs → are_octets cs ≡ true
 chars_octets leaf w [] at bs t = refl
-chars_octets leaf w (c ∷ cs) at bs t = and_from (nat_lt c 256) (are_octets cs) (char_octet c (in_below leaf.alphabet c w t.first.given)) (chars_octets leaf w cs (at + length t.front) t.back t.second)
+chars_octets leaf w (c ∷ cs) at bs t = and_from (nat_lt c 256) (are_octets cs) (char_octet c (small_character leaf.alphabet c w t.first.given)) (chars_octets leaf w cs (at + length t.front) t.back t.second)
 
 text_octets : (leaf : TextLeaf) → all_within (pos 0) (pos 127) leaf.alphabet ≡ true → (end : Option (List Bool)) (env : Env) (cs : List ℕ) (at : ℕ) (bs : List Bool) → EndedPart end leaf env cs at bs → are_octets cs ≡ true
 text_octets leaf w None env cs at bs t = chars_octets leaf w cs (at + length t.front) t.back t.second

@@ -1,23 +1,24 @@
 -- An ended text and a failure exclude each other, and two failures are one.
-use Rattle.std.proofs.Common.{◌≡◌, ℕ, zero, suc, ◌+◌, ◌-◌, ◌*◌, ◌/◌, ◌%◌, ◌<◌, ◌≤◌, pos, Bool, true, false, not, List, [], ◌∷◌, ◌++◌, length, take, drop, Option, Some, None, refl, sym, ap, ◌∙◌, arith, append_assoc, length-append, inl, inr, nat_eq, nat_lt, nat_le, ◌&&◌, subst}
-use Rattle.std.proofs.lemmas.Bool.{false_from_ne_true, leb-true, and_parts, not-true, eqb-true}
-use Rattle.std.specs.Prelude.{cond}
-use Rattle.std.specs.List.{find, range_with_len}
+use Rattle.std.proofs.Common.{◌≡◌, ℕ, zero, suc, ◌+◌, ◌-◌, ◌*◌, ◌/◌, ◌<◌, ◌≤◌, pos, Bool, false, List, [], ◌∷◌, ◌++◌, length, take, drop, Option, Some, None, refl, sym, ap, ◌∙◌, arith, append_assoc, length-append, inl, inr, subst}
+use Rattle.std.proofs.lemmas.Bool.{false_from_ne_true}
 use Rattle.std.proofs.lemmas.List.{take-append-le, drop-append-le, length-drop}
 use Rattle.std.proofs.Math.Seq.{take-append_seam, take-append-add, drop-append_seam}
 use Rattle.acn_num.specs.Bits.{number}
-use Rattle.acn_num.specs.Ranges.{In, greatest, are_ranges, all_within}
+use Rattle.acn_num.specs.Ranges.{In, greatest}
 use Rattle.acn_grammar.specs.Asks.{same_name}
 use Rattle.acn_grammar.specs.Fails.{Fault, Here, NoText, found_end, FoundFails}
 use Rattle.acn_grammar.specs.Interval.{size_of}
 use Rattle.acn_grammar.specs.LeafFails.{octet_values}
-use Rattle.acn_grammar.specs.Leaves.{sizes_fine, end_fine, no_size, is_terminator, is_pattern}
+use Rattle.acn_grammar.specs.Leaves.{end_fine}
 use Rattle.acn_grammar.specs.Spell.{CharactersPart, EndsFirst, octet_numbers}
 use Rattle.acn_grammar.specs.declared.node.TextLeaf.{TextLeaf}
 use Rattle.acn_packet_laws.proofs.Exclusion.{take_n, whole_of}
 use Rattle.acn_packet_laws.proofs.NodeExclusion.{TextExcl, TextSame}
 use Rattle.acn_grammar.proofs.SpanLaw.{size_has}
 use Rattle.acn_grammar.proofs.Characters.{same_name-is, same_name-refl, characters_long}
+use Rattle.acn_grammar.proofs.Octets.{octet_first}
+use Rattle.acn_grammar.proofs.FirstPlaces.{find_first}
+use Rattle.acn_grammar.proofs.TextRules.{text_rules, end_rules}
 
 found_same : (here : Here) (leaf : TextLeaf) (ending most available : ℕ) (rest : List Bool) (o : Option ℕ) (f g : Fault) (m n : ℕ) → FoundFails here leaf ending most available rest o f m → FoundFails here leaf ending most available rest o g n → (f ≡ g) × (m ≡ n)
 found_same here leaf ending most available rest None f g m n (inl p) (inl q) = (p.1 ∙ sym q.1, p.2 ∙ sym q.2)
@@ -36,10 +37,6 @@ text_same here leaf end env env' at rest f g m n p q =
 
 -- Octets of what is written.
 
-octet_first : (f rest : List Bool) → length f ≡ 8 → octet_values (f ++ rest) ≡ number f ∷ octet_values rest
-octet_first (a ∷ b ∷ c ∷ d ∷ e ∷ f ∷ g ∷ h ∷ []) rest l = refl
-octet_first _ rest l = absurd (omega arith)
-
 pub characters_octets : (leaf : TextLeaf) → leaf.width ≡ 8 → leaf.indexed ≡ false → (cs : List ℕ) (at : ℕ) (bs rest : List Bool) → CharactersPart leaf cs at bs → octet_values (bs ++ rest) ≡ cs ++ octet_values rest
 characters_octets leaf w i [] at bs rest e = ap (λ z. octet_values (z ++ rest)) e
 characters_octets leaf w i (c ∷ cs) at bs rest t =
@@ -55,28 +52,6 @@ whole_octets zero [] rest l = (refl, refl)
 whole_octets zero (x ∷ bs) rest l = absurd (omega arith)
 whole_octets (suc k) (a ∷ b ∷ c ∷ d ∷ e ∷ f ∷ g ∷ h ∷ bs) rest l = let r = whole_octets k bs rest (omega arith) in (ap (λ z. number (a ∷ b ∷ c ∷ d ∷ e ∷ f ∷ g ∷ h ∷ []) ∷ z) r.0, ap suc r.1)
 whole_octets (suc k) _ rest l = absurd (omega arith)
-
--- The first place that passes.
-
-cond_true : (t : Bool) (a : ℕ) (rest : Option ℕ) → t ≡ true → cond t (Some a) rest ≡ Some a
-cond_true true a rest e = refl
-cond_true false a rest e = cc
-
-cond_false : (t : Bool) (a : ℕ) (rest : Option ℕ) → t ≡ false → cond t (Some a) rest ≡ rest
-cond_false true a rest e = cc
-cond_false false a rest e = refl
-
-find_from : (p : ℕ → Bool) (a n k : ℕ) → k < n → p (a + k) ≡ true → ((j : ℕ) → a ≤ j → j < a + k → p j ≡ false) → find p (range_with_len a n) ≡ Some (a + k)
-find_from p a zero k l h none = absurd (omega arith)
-find_from p a (suc n) zero l h none = let e : a ≡ a + zero = omega arith in cond_true (p a) a (find p (range_with_len (a + 1) n)) (ap p e ∙ h) ∙ ap Some e
-find_from p a (suc n) (suc k) l h none =
-    let e : (a + 1) + k ≡ a + suc k = omega arith in
-    cond_false (p a) a (find p (range_with_len (a + 1) n)) (none a (omega arith) (omega arith)) ∙ (find_from p (a + 1) n k (omega arith) (ap p e ∙ h) (λ j u v. none j (omega arith) (omega arith)) ∙ ap Some e)
-
-find_first : (p : ℕ → Bool) (n k : ℕ) → k < n → p k ≡ true → ((j : ℕ) → j < k → p j ≡ false) → find p (range_with_len 0 n) ≡ Some k
-find_first p n k l h none =
-    let e : 0 + k ≡ k = omega arith in
-    find_from p 0 n k l (ap p e ∙ h) (λ j u v. none j (omega arith)) ∙ ap Some e
 
 -- the terminator is found where the text ends
 found_at : (end cs more : List ℕ) → 0 < length end → EndsFirst end cs → found_end end (cs ++ (end ++ more)) ≡ Some (length cs)
@@ -113,34 +88,20 @@ taken cs end more n h =
 
 pub text_excl : TextExcl
 text_excl here leaf end is fine env env' cs at a r fault reach t f =
-    let p = and_parts (sizes_fine leaf.sized.sizes) (nat_lt 0 (length leaf.alphabet) && (are_ranges leaf.alphabet && (all_within (pos 0) (pos 127) leaf.alphabet && end_fine leaf.ended leaf))) fine in
-    let q = and_parts (nat_lt 0 (length leaf.alphabet)) (are_ranges leaf.alphabet && (all_within (pos 0) (pos 127) leaf.alphabet && end_fine leaf.ended leaf)) p.1 in
-    let s = and_parts (are_ranges leaf.alphabet) (all_within (pos 0) (pos 127) leaf.alphabet && end_fine leaf.ended leaf) q.1 in
-    let u = and_parts (all_within (pos 0) (pos 127) leaf.alphabet) (end_fine leaf.ended leaf) s.1 in
-    let v = and_parts (no_size leaf.sized.rule) (nat_eq leaf.width 8 && (not leaf.indexed && is_terminator end)) (ap (λ z. end_fine z leaf) (sym is) ∙ u.1) in
-    let w = and_parts (nat_eq leaf.width 8) (not leaf.indexed && is_terminator end) v.1 in
-    let x = and_parts (not leaf.indexed) (is_terminator end) w.1 in
-    let y = and_parts (is_pattern end) (nat_eq (length end % 8) 0) x.1 in
-    let eight = eqb-true leaf.width 8 w.0 in
+    let p = text_rules leaf fine in
+    let q = end_rules leaf end (ap (λ z. end_fine z leaf) (sym is) ∙ p.end) in
+    let eight = q.width in
     let spelled = t.spelled in
-    let some = leb-true 1 (length end) (and_parts (nat_le 1 (length end)) (nat_le (length end) 64) y.0).0 in
-    let whole : length end ≡ 8 * (length end / 8) = eights (length end) (eqb-true (length end % 8) 0 y.1) in
-    let octets_end = whole_octets (length end / 8) end r whole in
+    let octets_end = whole_octets (length end / 8) end r q.octets in
     let most = size_of (greatest leaf.sized.sizes) in
-    let few = (size_has leaf.sized.sizes (length cs) p.0 t.given.0).1 in
+    let few = (size_has leaf.sized.sizes (length cs) p.sizes t.given.0).1 in
     let values : octet_values (a ++ r) ≡ cs ++ (octet_numbers end ++ octet_values r) =
     ap octet_values (whole_of a spelled.front spelled.back r spelled.whole) ∙ (ap (λ z. octet_values (spelled.front ++ (z ++ r))) spelled.second
-    ∙ (characters_octets leaf eight (not-true leaf.indexed x.0) cs at spelled.front (end ++ r) spelled.first ∙ ap (λ z. cs ++ z) octets_end.0)) in
+    ∙ (characters_octets leaf eight q.plain cs at spelled.front (end ++ r) spelled.first ∙ ap (λ z. cs ++ z) octets_end.0)) in
     let cut = taken cs (octet_numbers end) (octet_values r) most few in
     let found : found_end (octet_numbers end) (take (most + length (octet_numbers end)) (octet_values (a ++ r))) ≡ Some (length cs) =
-    ap (λ z. found_end (octet_numbers end) (take (most + length (octet_numbers end)) z)) values ∙ (ap (found_end (octet_numbers end)) cut.1 ∙ found_at (octet_numbers end) cs (take cut.0 (octet_values r)) (positive (length end) (length (octet_numbers end)) some whole octets_end.1) t.given.1) in
+    ap (λ z. found_end (octet_numbers end) (take (most + length (octet_numbers end)) z)) values ∙ (ap (found_end (octet_numbers end)) cut.1 ∙ found_at (octet_numbers end) cs (take cut.0 (octet_values r)) (omega (arith, q.some, octets_end.1)) t.given.1) in
     let long : length spelled.front ≡ 8 * length cs = characters_long leaf cs at spelled.front spelled.first ∙ ap (λ k. k * length cs) eight in
     let text : take (8 * length cs) (a ++ r) ≡ spelled.front = ap (take (8 * length cs)) (whole_of a spelled.front spelled.back r spelled.whole) ∙ take_n (8 * length cs) spelled.front (spelled.back ++ r) long in
     none_chosen here leaf (length end) (most + length (octet_numbers end)) (length (octet_values (a ++ r))) (a ++ r) (length cs) (found_end (octet_numbers end) (take (most + length (octet_numbers end)) (octet_values (a ++ r)))) fault reach found t.given.0
     (λ none. none cs at (subst (λ (z : List Bool). CharactersPart leaf cs at z) (sym text) spelled.first)) f
-  where
-    eights : (n : ℕ) → n % 8 ≡ 0 → n ≡ 8 * (n / 8)
-    eights n h = omega arith
-
-    positive : (n k : ℕ) → 1 ≤ n → n ≡ 8 * (n / 8) → k ≡ n / 8 → 0 < k
-    positive n k a b c = omega arith

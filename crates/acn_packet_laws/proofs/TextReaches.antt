@@ -1,57 +1,22 @@
 -- The failures of texts depend on the bits alone on which they rest.
-use Rattle.std.proofs.Common.{◌≡◌, ℕ, zero, suc, ◌+◌, ◌*◌, ◌%◌, ◌<◌, ◌≤◌, pos, Bool, true, false, not, List, [], ◌∷◌, length, take, drop, Option, Some, None, refl, sym, ap, ◌∙◌, arith, inl, inr, nat_eq, nat_lt, ◌&&◌, IsTrue}
+use Rattle.std.proofs.Common.{◌≡◌, ℕ, zero, suc, ◌+◌, ◌*◌, ◌<◌, ◌≤◌, Bool, true, false, List, length, take, drop, Option, Some, None, refl, sym, ap, ◌∙◌, arith, inl, inr, IsTrue}
 use Rattle.std.specs.Prelude.{if◌then◌else◌}
 use Rattle.std.specs.List.{find, range_with_len}
 use Rattle.std.proofs.lemmas.List.{take-take, length-take, length-drop, drop-take}
-use Rattle.acn_num.specs.Bits.{number}
-use Rattle.acn_num.specs.Ranges.{greatest, are_ranges, all_within}
+use Rattle.acn_num.specs.Ranges.{greatest}
 use Rattle.acn_grammar.specs.Asks.{same_name}
 use Rattle.acn_grammar.specs.Env.{Env}
 use Rattle.acn_grammar.specs.Fails.{Fault, SizeFails, Sized, CharactersFail, FoundFails, TextFails, found_end}
 use Rattle.acn_grammar.specs.Interval.{size_of}
 use Rattle.acn_grammar.specs.LeafFails.{short, octet_values}
-use Rattle.acn_grammar.specs.Leaves.{text_fine, sizes_fine, end_fine, no_size, is_terminator, is_pattern}
+use Rattle.acn_grammar.specs.Leaves.{text_fine, end_fine}
 use Rattle.acn_grammar.specs.Spell.{octet_numbers}
 use Rattle.acn_grammar.specs.declared.node.TextLeaf.{TextLeaf}
 use Rattle.acn_packet_laws.proofs.Reaches.{Steady, TextSteady, out, either_steady, sized_steady, rule_steady, same_within, long_enough}
-use Rattle.std.proofs.lemmas.Bool.{and_parts, eqb-true}
-
-pub octets-short : (l : List Bool) → 8 * length (octet_values l) ≤ length l
-octets-short [] = omega arith
-octets-short (a ∷ []) = omega arith
-octets-short (a ∷ b ∷ []) = omega arith
-octets-short (a ∷ b ∷ c ∷ []) = omega arith
-octets-short (a ∷ b ∷ c ∷ d ∷ []) = omega arith
-octets-short (a ∷ b ∷ c ∷ d ∷ e ∷ []) = omega arith
-octets-short (a ∷ b ∷ c ∷ d ∷ e ∷ f ∷ []) = omega arith
-octets-short (a ∷ b ∷ c ∷ d ∷ e ∷ f ∷ g ∷ []) = omega arith
-octets-short (a ∷ b ∷ c ∷ d ∷ e ∷ f ∷ g ∷ h ∷ l) = omega (arith, octets-short l)
-
-pub octets-long : (l : List Bool) → length l < 8 * length (octet_values l) + 8
-octets-long [] = omega arith
-octets-long (a ∷ []) = omega arith
-octets-long (a ∷ b ∷ []) = omega arith
-octets-long (a ∷ b ∷ c ∷ []) = omega arith
-octets-long (a ∷ b ∷ c ∷ d ∷ []) = omega arith
-octets-long (a ∷ b ∷ c ∷ d ∷ e ∷ []) = omega arith
-octets-long (a ∷ b ∷ c ∷ d ∷ e ∷ f ∷ []) = omega arith
-octets-long (a ∷ b ∷ c ∷ d ∷ e ∷ f ∷ g ∷ []) = omega arith
-octets-long (a ∷ b ∷ c ∷ d ∷ e ∷ f ∷ g ∷ h ∷ l) = omega (arith, octets-long l)
-
-eight_more : (m : ℕ) → 8 * suc m ≡ suc (suc (suc (suc (suc (suc (suc (suc (8 * m))))))))
-eight_more m = omega arith
-
-octets-take : (m : ℕ) (l : List Bool) → octet_values (take (8 * m) l) ≡ take m (octet_values l)
-octets-take zero l = refl
-octets-take (suc m) [] = rw (eight_more m) refl
-octets-take (suc m) (a ∷ []) = rw (eight_more m) refl
-octets-take (suc m) (a ∷ b ∷ []) = rw (eight_more m) refl
-octets-take (suc m) (a ∷ b ∷ c ∷ []) = rw (eight_more m) refl
-octets-take (suc m) (a ∷ b ∷ c ∷ d ∷ []) = rw (eight_more m) refl
-octets-take (suc m) (a ∷ b ∷ c ∷ d ∷ e ∷ []) = rw (eight_more m) refl
-octets-take (suc m) (a ∷ b ∷ c ∷ d ∷ e ∷ f ∷ []) = rw (eight_more m) refl
-octets-take (suc m) (a ∷ b ∷ c ∷ d ∷ e ∷ f ∷ g ∷ []) = rw (eight_more m) refl
-octets-take (suc m) (a ∷ b ∷ c ∷ d ∷ e ∷ f ∷ g ∷ h ∷ l) = rw (eight_more m) (ap (λ os. number (a ∷ b ∷ c ∷ d ∷ e ∷ f ∷ g ∷ h ∷ []) ∷ os) (octets-take m l))
+use Rattle.acn_grammar.proofs.Octets.{octets_few, octets_most, octets-take, octets_whole}
+use Rattle.acn_grammar.proofs.Characters.{same_name-is}
+use Rattle.acn_grammar.proofs.FirstPlaces.{find_back}
+use Rattle.acn_grammar.proofs.TextRules.{text_rules, end_rules}
 
 octets_same : (m : ℕ) (a b : List Bool) → take (8 * m) a ≡ take (8 * m) b → take m (octet_values a) ≡ take m (octet_values b)
 octets_same m a b e = sym (octets-take m a) ∙ (ap octet_values e ∙ octets-take m b)
@@ -62,32 +27,15 @@ if_cases : {F : Type 0} (t : Bool) (v i : ℕ) (rest : Option ℕ) → (if t the
 if_cases true v i rest q f g = f refl cc
 if_cases false v i rest q f g = g refl q
 
-pub find_from : (p : ℕ → Bool) (a n i : ℕ) → find p (range_with_len a n) ≡ Some i → (a ≤ i) × (i < a + n) × (p i ≡ true)
-find_from p a zero i e = cc
-find_from p a (suc n) i e =
-    if_cases {F = (a ≤ i) × (i < a + suc n) × (p i ≡ true)} (p a) a i (find p (range_with_len (a + 1) n)) e
-    (λ t v. (omega arith, omega arith, rw (← v) t))
-    (λ t r. let h = find_from p (a + 1) n i r in let one = h.0 in let two = h.1 in (omega arith, omega arith, h.2))
-
 find_too : (p q : ℕ → Bool) (a n m i : ℕ) → ((j : ℕ) → j ≤ i → q j ≡ p j) → i < a + m → find p (range_with_len a n) ≡ Some i → find q (range_with_len a m) ≡ Some i
 find_too p q a zero m i h l e = cc
-find_too p q a (suc n) zero i h l e = let f = find_from p a (suc n) i e in let low = f.0 in absurd (omega arith)
+find_too p q a (suc n) zero i h l e = let f = find_back p a (suc n) i e in let low = f.from in absurd (omega arith)
 find_too p q a (suc n) (suc m) i h l e =
-    let f = find_from p a (suc n) i e in
-    let same = h a f.0 in
+    let f = find_back p a (suc n) i e in
+    let same = h a f.from in
     if_cases {F = find q (range_with_len a (suc m)) ≡ Some i} (p a) a i (find p (range_with_len (a + 1) n)) e
     (λ t v. rw (same, t) (ap Some v))
     (λ t r. rw (same, t) (find_too p q (a + 1) n m i h (omega arith) r))
-
-pub same_names : (a b : List ℕ) → same_name a b ≡ true → a ≡ b
-same_names [] [] h = refl
-same_names [] (y ∷ b) h = cc
-same_names (x ∷ a) [] h = cc
-same_names (x ∷ a) (y ∷ b) h =
-    let f = and_parts (nat_eq x y) (same_name a b) h in
-    let first = eqb-true x y f.0 in
-    let rest = same_names a b f.1 in
-    cc
 
 nearer : {A : Type 0} (m n : ℕ) (a b : List A) → n ≤ m → take m a ≡ take m b → take n a ≡ take n b
 nearer m n a b h e = sym (take-take n m a h) ∙ (ap (take n) e ∙ take-take n m b h)
@@ -111,22 +59,22 @@ module _ (path : List ℕ) (place : ℕ) (leaf : TextLeaf) (end : List Bool) (wh
   found_steady rest fault reach None is (inr t) r =
       let all = t.0 in
       let n = t.2 in
-      let l = octets-short rest in
+      let l = octets_few rest in
       λ other e.
       let bits : take (8 * most) other ≡ take (8 * most) rest = rw (← n) e in
       let same = octets_same most other rest bits in
       let far = long_enough (8 * most) other rest (omega arith) bits in
-      let long = octets-long other in
+      let long = octets_most other in
       let none : found_end (octet_numbers end) (front other) ≡ None = ap (found_end (octet_numbers end)) same ∙ is in
       rw none (inr (omega arith, t.1, t.2))
   found_steady rest fault reach (Some i) is t r =
-      let f = find_from (λ j. same_name (take (length (octet_numbers end)) (drop j (front rest))) (octet_numbers end)) 0 (length (front rest)) i is in
-      let stands = ap length (same_names (take (length (octet_numbers end)) (drop i (front rest))) (octet_numbers end) f.2) in
+      let f = find_back (λ j. same_name (take (length (octet_numbers end)) (drop j (front rest))) (octet_numbers end)) 0 (length (front rest)) i is in
+      let stands = ap length (same_name-is (take (length (octet_numbers end)) (drop i (front rest))) (octet_numbers end) f.passes) in
       let n = reach_is t in
       let here = length-take (length (octet_numbers end)) (drop i (front rest)) in
       let behind = length-drop i (front rest) in
       let kept = length-take most (octet_values rest) in
-      let l = octets-short rest in
+      let l = octets_few rest in
       let place_in : i + length (octet_numbers end) ≤ length (front rest) = omega arith in
       λ other e.
       let k = i + length (octet_numbers end) in
@@ -150,9 +98,6 @@ module _ (path : List ℕ) (place : ℕ) (leaf : TextLeaf) (end : List Bool) (wh
       moved other (inl t) e = inl t
       moved other (inr t) e = inr (t.0, rw e t.1, t.2, t.3)
 
-pub octets-whole : (end : List Bool) → length end % 8 ≡ 0 → length end ≡ 8 * length (octet_numbers end)
-octets-whole end h = let a = octets-short end in let b = octets-long end in omega arith
-
 characters_steady : (path : List ℕ) (place : ℕ) (leaf : TextLeaf) (n : ℕ) → Steady (CharactersFail (out path place) leaf n)
 characters_steady path place leaf n at rest fault reach (inl t) r = absurd (r (ap (λ f. f.reason) t.1))
 characters_steady path place leaf n at rest fault reach (inr t) r =
@@ -167,22 +112,9 @@ by_end None leaf f path place env at rest fault reach t r =
     either_steady (SizeFails (out path place) leaf.sized env) (Sized leaf.sized env (CharactersFail (out path place) leaf)) (rule_steady path place leaf.sized leaf.sized.rule env)
     (sized_steady leaf.sized env (CharactersFail (out path place) leaf) (characters_steady path place leaf)) at rest fault reach t r
 by_end (Some end) leaf f path place env at rest fault reach t r =
-    let a = and_parts (no_size leaf.sized.rule) (nat_eq leaf.width 8 && (not leaf.indexed && is_terminator end)) f in
-    let b = and_parts (nat_eq leaf.width 8) (not leaf.indexed && is_terminator end) a.1 in
-    let c = and_parts (not leaf.indexed) (is_terminator end) b.1 in
-    let d = and_parts (is_pattern end) (nat_eq (length end % 8) 0) c.1 in
-    let w = octets-whole end (eqb-true (length end % 8) 0 d.1) in
-    let p = pattern_long end d.0 in
-    found_steady path place leaf end w (omega arith) (size_of (greatest leaf.sized.sizes) + length (octet_numbers end)) rest fault reach _ refl t r
-  where
-    pattern_long : (p : List Bool) → is_pattern p ≡ true → 0 < length p
-    pattern_long [] h = cc
-    pattern_long (b ∷ p) h = omega arith
+    let q = end_rules leaf end f in
+    let w = octets_whole end (omega (arith, q.octets)) in
+    found_steady path place leaf end w (omega (arith, w, q.octets, q.some)) (size_of (greatest leaf.sized.sizes) + length (octet_numbers end)) rest fault reach _ refl t r
 
 pub text_steady : (leaf : TextLeaf) → IsTrue (text_fine leaf) → TextSteady leaf
-text_steady leaf h path place env =
-    let a = and_parts (sizes_fine leaf.sized.sizes) (nat_lt 0 (length leaf.alphabet) && (are_ranges leaf.alphabet && (all_within (pos 0) (pos 127) leaf.alphabet && end_fine leaf.ended leaf))) h in
-    let b = and_parts (nat_lt 0 (length leaf.alphabet)) (are_ranges leaf.alphabet && (all_within (pos 0) (pos 127) leaf.alphabet && end_fine leaf.ended leaf)) a.1 in
-    let c = and_parts (are_ranges leaf.alphabet) (all_within (pos 0) (pos 127) leaf.alphabet && end_fine leaf.ended leaf) b.1 in
-    let d = and_parts (all_within (pos 0) (pos 127) leaf.alphabet) (end_fine leaf.ended leaf) c.1 in
-    by_end leaf.ended leaf d.1 path place env
+text_steady leaf h path place env = by_end leaf.ended leaf (text_rules leaf h).end path place env

@@ -1,9 +1,8 @@
 -- Texts and lists: what is written, and what can't be read.
 use Rattle.std.proofs.Common.{◌≡◌, ℕ, pos, true, false, [], ◌∷◌, ◌++◌, Some, None, refl, arith, inl, inr}
-use Rattle.std.proofs.Common.{zero, suc, ℤ, ◌∙◌, sym, ap, ◌&&◌, ◌||◌, Bool}
-use Rattle.std.specs.Prelude.{◌-ℤ◌, ◌≤ℤ◌, int_le, nat_abs}
+use Rattle.std.proofs.Common.{zero, suc, ◌∙◌, sym, ap, ◌&&◌, ◌||◌, Bool}
+use Rattle.std.specs.Prelude.{◌-ℤ◌, int_le, nat_abs}
 use Rattle.std.proofs.lemmas.Int.{ints}
-use Rattle.std.proofs.lemmas.Bool.Decides.{nat_tests}
 use Rattle.acn_num.specs.Bits.{low_bits, number, bits as bits_of}
 use Rattle.acn_num.specs.Ranges.{In}
 use Rattle.acn_grammar.proofs.Prefix.{same_front}
@@ -23,6 +22,7 @@ use Rattle.acn_grammar.specs.declared.node.NumLeaf.{NumLeaf}
 use Rattle.acn_grammar.specs.declared.node.NumKind.TheVariants.{Integer}
 use Rattle.acn_grammar.specs.declared.node.NumCoding.TheVariants.{Range}
 use Rattle.acn_grammar.specs.declared.node.SizeRule.TheVariants.{Prefix}
+use Rattle.acn_grammar.proofs.WholeTests.{le_test}
 
 no_padding : (mode : Mode) (at : ℕ) → Padding mode 1 at []
 no_padding mode at = record { aligned = omega arith; fewest = omega arith; zeros = λ _. refl }
@@ -183,9 +183,6 @@ no_fourth c h e =
     or_false : (a : Bool) → (a || false) ≡ true → a ≡ true
     or_false true h = refl
     or_false false h = h
-
-    le_test : (a b : ℤ) → a ≤ℤ b → int_le a b ≡ true
-    le_test a b h = grind (arith, ints, nat_tests)
 
 three_ones : NoText pair_leaf (true ∷ true ∷ false ∷ false ∷ [])
 three_ones [] at t = cc

@@ -16,23 +16,12 @@ use Rattle.acn_grammar.specs.declared.node.TextLeaf.{TextLeaf}
 use Rattle.acn_grammar.proofs.SpanLaw.{size_has}
 use Rattle.acn_packet_laws.proofs.Envs.{FrontOf, Stuck, says, in_or_not, ASize}
 use Rattle.acn_packet_laws.proofs.Exclusion.{take_n, drop_n}
-use Rattle.acn_packet_laws.proofs.LeafTotal.{less_or_not, is_or_not}
+use Rattle.acn_packet_laws.proofs.LeafTotal.{is_or_not}
 use Rattle.acn_packet_laws.proofs.Moves.{or_either}
 use Rattle.std.proofs.lemmas.Bool.{and_parts, eqb-true}
-
-pub in_below : (rs : List (ℤ × ℤ)) (c : ℕ) → all_within (pos 0) (pos 127) rs ≡ true → has rs (pos c) ≡ true → c < 128
-in_below [] c h p = cc
-in_below (r ∷ rs) c h p =
-    let f = and_parts (int_le (pos 0) r.0) (int_le r.1 (pos 127) && all_within (pos 0) (pos 127) rs) h in
-    let g = and_parts (int_le r.1 (pos 127)) (all_within (pos 0) (pos 127) rs) f.1 in
-    by g.0 (or_either (int_le r.0 (pos c) && int_le (pos c) r.1) (has rs (pos c)) p) (λ q. in_below rs c g.1 q)
-  where
-    small : int_le (pos c) r.1 ≡ true → int_le r.1 (pos 127) ≡ true → c < 128
-    small h k = grind (arith, ints, nat_tests)
-
-    by : int_le r.1 (pos 127) ≡ true → ((int_le r.0 (pos c) && int_le (pos c) r.1) ≡ true) ⊎ (has rs (pos c) ≡ true) → (has rs (pos c) ≡ true → c < 128) → c < 128
-    by top (inl q) f = small (and_parts (int_le r.0 (pos c)) (int_le (pos c) r.1) q).1 top
-    by top (inr q) f = f q
+use Rattle.acn_grammar.proofs.WholeTests.{le_self}
+use Rattle.acn_grammar.proofs.TextRules.{small_character}
+use Rattle.acn_grammar.proofs.FirstPlaces.{less_or_not}
 
 abbrev pub IsChar : TextLeaf → ℕ → ℕ → Type 0
 IsChar leaf v c = (has leaf.alphabet (pos c) ≡ true) × (character_number leaf c ≡ v)
@@ -62,7 +51,7 @@ char_or_not leaf within v = by (char_below leaf v 128)
   where
     by : ((c : ℕ) × IsChar leaf v c) ⊎ ((c : ℕ) → c < 128 → IsChar leaf v c → ⊥) → ((c : ℕ) × IsChar leaf v c) ⊎ ((c : ℕ) → IsChar leaf v c → ⊥)
     by (inl f) = inl f
-    by (inr f) = inr (λ c i. f c (in_below leaf.alphabet c within i.0) i)
+    by (inr f) = inr (λ c i. f c (small_character leaf.alphabet c within i.0) i)
 
 -- characters, as many as the bits have
 pub chars_total : (leaf : TextLeaf) → all_within (pos 0) (pos 127) leaf.alphabet ≡ true → (leaf.width ≡ 0 → (c : ℕ) × IsChar leaf 0 c) → (n : ℕ) (bs : List Bool) → length bs ≡ leaf.width * n
@@ -141,11 +130,8 @@ first_of [] some order within = cc
 first_of ((negsuc n, b) ∷ rs) some order within = cc
 first_of ((pos n, b) ∷ rs) some order within =
     let le : int_le (pos n) b ≡ true = (and_parts (int_le (pos n) b) (are_ranges_above (b +ℤ pos 1) rs) order).0 in
-    record { least = n; there = or_true (self (pos n)) le; place = at_first le }
+    record { least = n; there = or_true (le_self (pos n)) le; place = at_first le }
   where
-    self : (a : ℤ) → int_le a a ≡ true
-    self a = grind (arith, ints, nat_tests)
-
     or_true : int_le (pos n) (pos n) ≡ true → int_le (pos n) b ≡ true → ((int_le (pos n) (pos n) && int_le (pos n) b) || has rs (pos n)) ≡ true
     or_true h k = rw (h, k) refl
 

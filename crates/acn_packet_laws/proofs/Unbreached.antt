@@ -1,8 +1,8 @@
 -- A value that is spelled meets the constraints: nothing in it is a breach.
-use Rattle.std.proofs.Common.{◌≡◌, ℕ, zero, suc, ◌+◌, ◌≤◌, ◌<◌, ℤ, pos, Bool, true, false, not, List, [], ◌∷◌, ◌++◌, length, Option, Some, None, refl, sym, ap, ◌∙◌, arith}
+use Rattle.std.proofs.Common.{◌≡◌, ℕ, zero, suc, ℤ, pos, Bool, true, false, not, List, [], ◌∷◌, ◌++◌, length, Option, Some, None, refl, sym, ap, ◌∙◌, arith}
 use Rattle.std.proofs.lemmas.Bool.{false_from_ne_true}
 use Rattle.std.specs.Prelude.{take, drop, nat_lt}
-use Rattle.std.specs.List.{AllByRecursion, position, position_or_len, find, range_with_len}
+use Rattle.std.specs.List.{AllByRecursion, position, position_or_len}
 use Rattle.std.proofs.lemmas.Bool.Decides.{nat_tests}
 use Rattle.acn_num.specs.Ranges.{In, has}
 use Rattle.acn_grammar.specs.Asks.{same_name}
@@ -17,6 +17,7 @@ use Rattle.acn_grammar.specs.declared.node.Sizing.{Sizing}
 use Rattle.acn_grammar.specs.declared.node.TextLeaf.{TextLeaf}
 use Rattle.acn_grammar.proofs.SpellLength.{NumberOf-number_of}
 use Rattle.acn_grammar.proofs.Characters.{same_name-is}
+use Rattle.acn_grammar.proofs.FirstPlaces.{none_from}
 
 no_position : (p : ℕ → Bool) (xs : List ℕ) → AllByRecursion (λ x. p x ≡ false) xs → position_or_len p xs ≡ length xs
 no_position p [] h = refl
@@ -27,10 +28,6 @@ none_at p xs h =
     let n = no_position p xs h in
     let t : nat_lt (position_or_len p xs) (length xs) ≡ false = grind (arith, nat_tests) in
     rw t refl
-
-none_found : (p : ℕ → Bool) (a n : ℕ) → ((i : ℕ) → a ≤ i → i < a + n → p i ≡ false) → find p (range_with_len a n) ≡ None
-none_found p a zero h = refl
-none_found p a (suc n) h = rw (h a (omega arith) (omega arith)) (none_found p (a + 1) n (λ i l k. h i (omega arith) (omega arith)))
 
 nothing : (a b : List Why) → a ≡ [] → b ≡ [] → a ++ b ≡ []
 nothing a b p q = rw (p, q) refl
@@ -55,7 +52,7 @@ characters_fit : (leaf : TextLeaf) (cs : List ℕ) (at : ℕ) (bs : List Bool) �
 characters_fit leaf cs at bs t = ap (λ o. where_found o bad_character) (none_at (λ c. not (has leaf.alphabet (pos c))) cs (all_characters leaf cs at bs t))
 
 ends_fit : (end cs : List ℕ) → EndsFirst end cs → where_found (first_end end cs) terminator_inside ≡ []
-ends_fit end cs h = ap (λ o. where_found o terminator_inside) (none_found (λ i. same_name (take (length end) (drop i (cs ++ end))) end) 0 (length cs) (λ i l k. false_from_ne_true (same_name (take (length end) (drop i (cs ++ end))) end) (λ q. let far = h i (same_name-is (take (length end) (drop i (cs ++ end))) end q) in omega arith)))
+ends_fit end cs h = ap (λ o. where_found o terminator_inside) (none_from (λ i. same_name (take (length end) (drop i (cs ++ end))) end) 0 (length cs) (λ i l k. false_from_ne_true (same_name (take (length end) (drop i (cs ++ end))) end) (λ q. let far = h i (same_name-is (take (length end) (drop i (cs ++ end))) end q) in omega arith)))
 
 text_fits : (o : Option (List Bool)) (leaf : TextLeaf) (env : Env) (cs : List ℕ) (at : ℕ) (bs : List Bool) → EndedPart o leaf env cs at bs
     → size_breach leaf.sized (length cs) ++ where_found (position (λ c. not (has leaf.alphabet (pos c))) cs) bad_character ++ end_breach o cs ≡ []

@@ -32,11 +32,11 @@ use Rattle.acn_grammar.proofs.FineLeaves.{rules_of}
 use Rattle.acn_grammar.proofs.SpanLaw.{Fine, FormFine, FieldsFine, AlternativesFine}
 use Rattle.acn_grammar.proofs.TreeRules.{tree_fine, stand_fine}
 use Rattle.acn_packet_laws.specs.Laws.{IsAccepted}
-use Rattle.acn_packet_laws.proofs.Codes.{range_within}
 use Rattle.acn_packet_laws.proofs.Placed.{tree_rules}
 use Rattle.acn_packet_laws.proofs.SoundLaws.{accepted_sound_nodes}
 use Rattle.acn_packet_laws.proofs.UseKinds.{uses_fit}
 use Rattle.acn_packet_laws.proofs.Tuples.{first_five, first_four, first_two, fourth_five, last_five, last_four, last_three, last_two, second_five, second_three}
+use Rattle.acn_grammar.proofs.HasImage.{range_within}
 
 -- Lists.
 

@@ -1,5 +1,5 @@
 -- The length of a value that meets its node lies between the node's bounds, whatever the numbers of slots are.
-use Rattle.std.proofs.Common.{◌≡◌, ℕ, zero, suc, ◌+◌, ◌-◌, ◌*◌, ◌%◌, ◌^◌, ◌<◌, ◌≤◌, ℤ, pos, Bool, true, false, not, List, [], ◌∷◌, ◌++◌, length, Option, Some, None, refl, sym, ap, arith, ◌&&◌, nat_eq, subst, append-nil, IsTrue}
+use Rattle.std.proofs.Common.{◌≡◌, ℕ, zero, suc, ◌+◌, ◌-◌, ◌*◌, ◌%◌, ◌^◌, ◌<◌, ◌≤◌, ℤ, pos, Bool, true, false, not, List, [], ◌∷◌, ◌++◌, length, Option, Some, None, refl, sym, arith, subst, append-nil, IsTrue}
 use Rattle.std.proofs.Math.Nat.{mod-lt}
 use Rattle.std.specs.Prelude.{position}
 use Rattle.acn_num.specs.Bits.{octets as octets_for}
@@ -7,33 +7,30 @@ use Rattle.acn_num.specs.Ranges.{In, has}
 use Rattle.acn_grammar.specs.Code.{Any, Code}
 use Rattle.acn_grammar.specs.Grammar.{Grammar, Form, Fields, Alternatives, Data, Places, Elements, node, num, octets, bits, text, seq, list, choice, contained, no_fields, component, inserted, no_alternatives, alternative, octet_string, bit_string, characters, record_of, list_of, alt, no_places, empty, filled, no_elements, element, element_count}
 use Rattle.acn_grammar.specs.Interval.{exactly, plus, times, in_octets, span, form_span, fields_span, alternatives_span, num_span, span_by, fixed_width, sizes_of, end_width, list_around, component_span}
-use Rattle.acn_grammar.specs.Leaves.{num_fine, sizes_fine, rule_fine, list_rule_fine, end_fine, no_size, is_terminator}
+use Rattle.acn_grammar.specs.Leaves.{num_fine, sizes_fine, rule_fine, list_rule_fine, end_fine}
 use Rattle.acn_grammar.specs.Length.{padding, bit_length, form_length, fields_length, alternative_length, run_length, list_length, inserted_length, num_length, number_of, least, presence_bits, bit_before, rule_width, index_width, text_length, ending}
 use Rattle.acn_grammar.specs.Meets.{where_found, bad_character, end_breach, out_of_range, size_out_of_range, unless, size_breach, text_breach, at_path, run_breaches, breaches, form_breaches, field_breaches, alternative_breaches}
 use Rattle.acn_grammar.specs.Shaped.{may_be_absent, each_element, fits, form_fits, fields_fit, alternative_fits}
 use Rattle.acn_grammar.specs.Spell.{Padding, Spell, SlotField}
 use Rattle.acn_grammar.specs.declared.bounds.Bounds.{Bounds}
 use Rattle.acn_grammar.specs.declared.node.NumLeaf.{NumLeaf}
-use Rattle.acn_grammar.specs.declared.node.Presence.{Presence}
-use Rattle.acn_grammar.specs.declared.node.Presence.TheVariants.{Always, Bit, When}
 use Rattle.acn_grammar.specs.declared.node.Sizing.{Sizing}
-use Rattle.acn_grammar.specs.declared.node.SizeRule.{SizeRule}
-use Rattle.acn_grammar.specs.declared.node.SizeRule.TheVariants.{Prefix, Slot, Ended}
 use Rattle.acn_grammar.specs.declared.node.TextLeaf.{TextLeaf}
 use Rattle.acn_grammar.proofs.FineLeaves.{rules_of}
 use Rattle.acn_grammar.proofs.LeafLengths.{code-length}
-use Rattle.acn_grammar.proofs.SpanLaw.{Between, Fine, FormFine, FieldsFine, AlternativesFine, size_has, span_between}
+use Rattle.acn_grammar.proofs.SpanLaw.{Fine, FormFine, FieldsFine, AlternativesFine, size_has, span_between, bit_before-length}
 use Rattle.acn_grammar.proofs.SpellLength.{Steady, SteadyForm, SteadyFields, SteadyAlternatives, SteadyLeaf}
 use Rattle.acn_packet_laws.specs.Laws.{ValuesLieWithinBounds}
-use Rattle.acn_packet_laws.proofs.Codes.{each_number_has_a_code, set_ordered}
+use Rattle.acn_packet_laws.proofs.Codes.{each_number_has_a_code}
 use Rattle.acn_packet_laws.proofs.FineNodes.{fine_at}
 use Rattle.acn_packet_laws.proofs.SlotNumbers.{some_number}
 use Rattle.acn_packet_laws.proofs.Lengths.{steady_at, least_there}
-use Rattle.acn_packet_laws.proofs.Spans.{exactly_spans, plus_spans, hull_first, hull_second, times_spans, same_spans, octets_span, there_spans, away_spans, moved_spans}
 use Rattle.acn_packet_laws.proofs.WrittenParts.{nothing_left, no_breach, passes}
-use Rattle.acn_packet_laws.proofs.WrittenSizes.{TextRules, text_rules}
-use Rattle.std.proofs.lemmas.Bool.{and_parts, eqb-true}
+use Rattle.std.proofs.lemmas.Bool.{and_parts}
 use Rattle.acn_packet_laws.proofs.Tuples.{last_two}
+use Rattle.acn_grammar.proofs.Spans.{Between, exactly_spans, plus_spans, hull_first, hull_second, times_spans, same_spans, octets_span, there_spans, away_spans, moved_spans}
+use Rattle.acn_grammar.proofs.TextRules.{TextRules, text_rules, end_rules, no_width}
+use Rattle.acn_grammar.proofs.HasImage.{set_ordered}
 
 -- Numbers: by a code of them.
 
@@ -108,20 +105,11 @@ text_spans None leaf r f n h =
     plus_spans (exactly (rule_width leaf.sized.rule + 0)) (times (sizes_of leaf.sized.sizes) (exactly leaf.width)) (rule_width leaf.sized.rule) (leaf.width * n) (moved_spans (exactly (rule_width leaf.sized.rule + 0)) (rule_width leaf.sized.rule) (rule_width leaf.sized.rule + 0) none (exactly_spans (rule_width leaf.sized.rule + 0)))
     (same_spans (sizes_of leaf.sized.sizes) n leaf.width (leaf.width * n) (size_has leaf.sized.sizes n r.sizes h) refl)
 text_spans (Some end) leaf r f n h =
-    let a = and_parts (no_size leaf.sized.rule) (nat_eq leaf.width 8 && (not leaf.indexed && is_terminator end)) f in
-    let none = no_width leaf.sized.rule a.0 in
+    let none = no_width leaf.sized.rule (end_rules leaf end f).rule in
     let swap : leaf.width * n + length end ≡ (rule_width leaf.sized.rule + length end) + leaf.width * n = omega arith in
     moved_spans (plus (exactly (rule_width leaf.sized.rule + length end)) (times (sizes_of leaf.sized.sizes) (exactly leaf.width))) (leaf.width * n + length end) ((rule_width leaf.sized.rule + length end) + leaf.width * n) swap
     (plus_spans (exactly (rule_width leaf.sized.rule + length end)) (times (sizes_of leaf.sized.sizes) (exactly leaf.width)) (rule_width leaf.sized.rule + length end) (leaf.width * n) (exactly_spans (rule_width leaf.sized.rule + length end))
     (same_spans (sizes_of leaf.sized.sizes) n leaf.width (leaf.width * n) (size_has leaf.sized.sizes n r.sizes h) refl))
-  where
-    no_width : (rule : SizeRule) → no_size rule ≡ true → rule_width rule ≡ 0
-    no_width (Prefix low width) e = sym (eqb-true 0 width (ap (λ b. b) (swapped width (and_parts (nat_eq low 0) (nat_eq width 0) e).1)))
-      where
-        swapped : (w : ℕ) → nat_eq w 0 ≡ true → nat_eq 0 w ≡ true
-        swapped w e = ap (λ k. nat_eq 0 k) (eqb-true w 0 e)
-    no_width (Slot s) e = cc
-    no_width (Ended p) e = cc
 
 -- Elements.
 
@@ -160,11 +148,6 @@ every_meets g path k (element d es) f n =
     let a = and_parts (fits g d) (each_element (fits g) es) f in
     let b = nothing_left (breaches (path ++ k ∷ []) g d) (run_breaches (λ j d'. breaches (path ++ j ∷ []) g d') (suc k) es) n in
     ((a.0, (path ++ k ∷ [], b.0)), every_meets g path (suc k) es a.1 b.1)
-
-flag_first : (presence : Presence) (b : Bool) (bs : List Bool) → length (bit_before presence b bs) ≡ length (bit_before presence b []) + length bs
-flag_first Always b bs = omega arith
-flag_first Bit b bs = omega arith
-flag_first (When ts) b bs = omega arith
 
 mutual
   pub node_spans : (g : Grammar) → Fine g → Steady g → (d : Data) → fits g d ≡ true → (path : List ℕ) → breaches path g d ≡ [] → (at : ℕ) → Between (span g) (bit_length g at d)
@@ -209,14 +192,14 @@ mutual
       let b = nothing_left (breaches (path ++ k ∷ []) g d) (field_breaches path (suc k) fs ps) n in
       let here = there_spans presence (span g) (bit_length g at d) (node_spans g f.0 w.0 d a.0 (path ++ k ∷ []) b.0 at) in
       let rest = fields_spans fs f.1 w.1 ps a.1 path (suc k) b.1 (at + bit_length g at d) in
-      let flags = flag_first presence true (presence_bits fs ps) in
+      let flags = bit_before-length presence true (presence_bits fs ps) in
       let is : length (bit_before presence true (presence_bits fs ps)) + (bit_length g at d + fields_length fs (at + bit_length g at d) ps) ≡ (length (bit_before presence true []) + bit_length g at d) + (length (presence_bits fs ps) + fields_length fs (at + bit_length g at d) ps) = omega arith in
       moved_spans (plus (component_span presence (span g)) (fields_span fs)) _ _ is (plus_spans (component_span presence (span g)) (fields_span fs) (length (bit_before presence true []) + bit_length g at d) (length (presence_bits fs ps) + fields_length fs (at + bit_length g at d) ps) here rest)
   fields_spans (component name g presence default own fs) f w (empty ps) s path k n at =
       let a = and_parts (may_be_absent presence) (fields_fit fs ps) s in
       let here = away_spans presence (span g) a.0 in
       let rest = fields_spans fs f.1 w.1 ps a.1 path (suc k) n at in
-      let flags = flag_first presence false (presence_bits fs ps) in
+      let flags = bit_before-length presence false (presence_bits fs ps) in
       let is : length (bit_before presence false (presence_bits fs ps)) + fields_length fs at ps ≡ length (bit_before presence false []) + (length (presence_bits fs ps) + fields_length fs at ps) = omega arith in
       moved_spans (plus (component_span presence (span g)) (fields_span fs)) _ _ is (plus_spans (component_span presence (span g)) (fields_span fs) (length (bit_before presence false [])) (length (presence_bits fs ps) + fields_length fs at ps) here rest)
   fields_spans (inserted name g (Some r) fs) f w ps s path k n at =

@@ -25,21 +25,18 @@ use Rattle.acn_grammar.specs.declared.node.NumKind.{NumKind}
 use Rattle.acn_grammar.specs.declared.node.NumKind.TheVariants.{Integer, Boolean, Enumerated, Null}
 use Rattle.acn_grammar.specs.declared.node.NumLeaf.{NumLeaf}
 use Rattle.acn_grammar.specs.declared.node.Table.{Table}
-use Rattle.acn_packet_laws.proofs.Codes.{each_number_has_a_code, set_ordered, has_image}
+use Rattle.acn_packet_laws.proofs.Codes.{each_number_has_a_code}
 use Rattle.acn_grammar.proofs.FineLeaves.{Rules, rules_of, no_values}
-use Rattle.acn_packet_laws.proofs.HasImage.{Ordered, key_sides}
-use Rattle.acn_grammar.proofs.LeafLengths.{code-length, le_fact, lt_fact, eq_fact}
+use Rattle.acn_grammar.proofs.LeafLengths.{code-length}
 use Rattle.acn_grammar.proofs.Monotone.{Varies}
 use Rattle.acn_grammar.proofs.SpanLaw.{fixed_is, varies_if}
-use Rattle.acn_grammar.proofs.Texts.{either}
 use Rattle.acn_grammar.proofs.WidthLaw.{width_holds}
 use Rattle.acn_grammar.proofs.Within.{image_has}
-
-le_true : (a b : ℤ) → a ≤ℤ b → int_le a b ≡ true
-le_true a b h = grind (arith, ints, nat_tests)
+use Rattle.acn_grammar.proofs.WholeTests.{either, le_fact, lt_fact, eq_fact, le_test, ge_fact}
+use Rattle.acn_grammar.proofs.HasImage.{Ordered, key_sides, set_ordered, has_image}
 
 in_range : (a b x : ℤ) → a ≤ℤ x → x ≤ℤ b → (int_le a x && int_le x b) ≡ true
-in_range a b x h k = and_from (int_le a x) (int_le x b) (le_true a x h) (le_true x b k)
+in_range a b x h k = and_from (int_le a x) (int_le x b) (le_test a x h) (le_test x b k)
 
 has_either : {F : Type 0} (xs ys : List (ℤ × ℤ)) (y : ℤ) → has (xs ++ ys) y ≡ true → (has xs y ≡ true → F) → (has ys y ≡ true → F) → F
 has_either [] ys y h f g = g h
@@ -195,11 +192,8 @@ near_in o a b true t f g h k le = (omega (arith, ints), le)
 near_in o a b false true f g h k le = (le, omega (arith, ints))
 near_in o a b false false f g h k le = (g refl, k refl)
 
-lt_not : (x y : ℤ) → int_lt x y ≡ false → y ≤ℤ x
-lt_not x y h = grind (arith, ints, nat_tests)
-
 nearest_in : (o : ℤ) (r : ℤ × ℤ) → r.0 ≤ℤ r.1 → (r.0 ≤ℤ nearest o r) × (nearest o r ≤ℤ r.1)
-nearest_in o r le = near_in o r.0 r.1 (int_lt o r.0) (int_lt r.1 o) (lt_fact o r.0) (lt_not o r.0) (lt_fact r.1 o) (lt_not r.1 o) le
+nearest_in o r le = near_in o r.0 r.1 (int_lt o r.0) (int_lt r.1 o) (lt_fact o r.0) (ge_fact o r.0) (lt_fact r.1 o) (ge_fact r.1 o) le
 
 abbrev Is : Bounds → ℕ → Type 0
 Is b w = (b.least ≡ w) × (b.greatest ≡ w)

@@ -40,20 +40,21 @@ use Rattle.acn_packet_laws.specs.Laws.{IsAccepted}
 use Rattle.acn_packet_laws.proofs.Homes.{truth}
 use Rattle.acn_packet_laws.proofs.Answering.{at_home, not_at_home}
 use Rattle.acn_packet_laws.proofs.AskHomes.{FormHomes, NodeHomes, FieldsHomes, CasesHomes, tree_homes, differs, if_yes, if_no, some_is}
-use Rattle.acn_packet_laws.proofs.Codes.{each_number_has_a_code, range_within}
+use Rattle.acn_packet_laws.proofs.Codes.{each_number_has_a_code}
 use Rattle.acn_packet_laws.proofs.SlotNumbers.{some_number, domain_is}
 use Rattle.acn_packet_laws.proofs.LeastAnswers.{least_answer}
 use Rattle.acn_packet_laws.proofs.Occurrences.{each_occurrence_asks}
 use Rattle.acn_packet_laws.proofs.OneRefusals.{EachMet, Held, IsOf, held}
 use Rattle.acn_packet_laws.proofs.PathSlots.{slot_at, LeadsTo, IsLed, Led, NodeLed, FieldsLed, case_slot_at, led_on, led_component, led_behind, led_inserted, home_leads, moments_led}
 use Rattle.acn_packet_laws.proofs.Placed.{holds_either}
-use Rattle.acn_packet_laws.proofs.Scoping.{same_eq}
 use Rattle.acn_packet_laws.proofs.Sounding.{got_name}
 use Rattle.acn_packet_laws.proofs.Used.{each_left, each_right, TestFits, TestsFit, PresenceFits, CaseFits, RuleFits, OwnFits, ChoiceFits, NodeUsed, FormUsed, FieldsUsed, CasesUsed, accepted_used}
 use Rattle.acn_packet_laws.proofs.WrittenParts.{Writes, then_writes, where_writes, exactly_writes, padding_writes, RuleHas, size_writes, nothing_left, no_breach, passes, text_writes, list_writes, window_writes}
-use Rattle.acn_packet_laws.proofs.WrittenSizes.{text_rules}
 use Rattle.acn_grammar.proofs.Characters.{same_name-is}
 use Rattle.acn_packet_laws.proofs.Tuples.{first_five, first_four, first_three, first_two, fourth_five, last_five, last_four, last_three, last_two, second_four, second_three, third_four}
+use Rattle.acn_grammar.proofs.TextRules.{text_rules}
+use Rattle.acn_grammar.proofs.HasImage.{range_within}
+use Rattle.acn_grammar.proofs.SlotLists.{same_eq}
 
 -- The number of a value, and of a NULL.
 

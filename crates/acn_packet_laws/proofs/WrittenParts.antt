@@ -21,12 +21,12 @@ use Rattle.acn_grammar.specs.declared.node.SizeRule.TheVariants.{Prefix, Slot, E
 use Rattle.acn_grammar.specs.declared.node.TextLeaf.{TextLeaf}
 use Rattle.acn_grammar.proofs.Counts.{number_bits}
 use Rattle.acn_grammar.proofs.SpellLength.{Steady, then-length}
-use Rattle.acn_grammar.proofs.Texts.{either}
-use Rattle.acn_packet_laws.proofs.LeafTotal.{less_or_not}
 use Rattle.acn_packet_laws.proofs.LengthLaw.{length_law}
-use Rattle.acn_packet_laws.proofs.WrittenSizes.{prefix_fits, TextRules, character_fits}
 use Rattle.acn_grammar.proofs.Characters.{same_name-refl}
 use Rattle.std.proofs.lemmas.Bool.{and_parts, eqb-true}
+use Rattle.acn_grammar.proofs.WholeTests.{either}
+use Rattle.acn_grammar.proofs.TextRules.{prefix_fits, TextRules, character_fits}
+use Rattle.acn_grammar.proofs.FirstPlaces.{less_or_not}
 
 abbrev pub Writes : Part → Type 0
 Writes P = (at : ℕ) → (bs : List Bool) × P at bs

@@ -1,6 +1,5 @@
 -- What is written can be read: each spelling in mode Written is one in mode Any.
-use Rattle.std.proofs.Common.{◌≡◌, ℕ, zero, suc, ◌+◌, ◌≤◌, ℤ, Bool, true, false, List, [], ◌∷◌, length, Option, Some, None, refl, sym, ap, ◌∙◌, arith, inl, inr, IsTrue}
-use Rattle.std.proofs.lemmas.Bool.Decides.{nat_tests}
+use Rattle.std.proofs.Common.{◌≡◌, ℕ, zero, suc, ◌+◌, ◌≤◌, ℤ, Bool, true, false, List, [], ◌∷◌, length, Option, Some, None, sym, ap, ◌∙◌, arith, inl, inr, IsTrue}
 use Rattle.acn_grammar.specs.Grammar.{Grammar, Form, Fields, Alternatives, Data, Places, Elements, node, num, octets, bits, text, seq, list, choice, contained, no_fields, component, inserted, no_alternatives, alternative, octet_string, bit_string, characters, record_of, list_of, alt, null, no_places, empty, filled, no_elements, element}
 use Rattle.acn_grammar.specs.Code.{Written, Any, Code, CodingCode, FlagCode, OtherPattern, opposite}
 use Rattle.acn_grammar.specs.Env.{Env}
@@ -16,12 +15,10 @@ use Rattle.acn_grammar.proofs.FineLeaves.{rules_of}
 use Rattle.acn_grammar.proofs.SpanLaw.{Fine, FormFine, FieldsFine, AlternativesFine}
 use Rattle.acn_grammar.proofs.TreeRules.{tree_fine}
 use Rattle.acn_packet_laws.specs.Laws.{WrittenIsRead}
+use Rattle.acn_grammar.proofs.LeafLengths.{opposite-length}
+use Rattle.acn_grammar.proofs.TextRules.{some_bits}
 
 -- Numbers.
-
-map-length : (bs : List Bool) → length (opposite bs) ≡ length bs
-map-length [] = refl
-map-length (b ∷ bs) = ap suc (map-length bs)
 
 -- a pattern isn't its own opposite
 not_self : (p : List Bool) → 1 ≤ length p → opposite p ≡ p → ⊥
@@ -29,11 +26,8 @@ not_self [] some e = absurd (omega arith)
 not_self (true ∷ p) some e = cc
 not_self (false ∷ p) some e = cc
 
-some_bits : (p : List Bool) → is_pattern p ≡ true → 1 ≤ length p
-some_bits p h = grind (arith, nat_tests)
-
 other_read : (p bs : List Bool) → is_pattern p ≡ true → OtherPattern Written p bs → OtherPattern Any p bs
-other_read p bs h o = (ap length o ∙ map-length p, λ e. not_self p (some_bits p h) (sym o ∙ e))
+other_read p bs h o = (ap length o ∙ opposite-length p, λ e. not_self p (some_bits p h) (sym o ∙ e))
 
 flag_read : (a b : Option (List Bool)) (y : ℤ) (bs : List Bool) → flag_patterns_fine a b ≡ true → FlagCode Written a b y bs → FlagCode Any a b y bs
 flag_read None None y bs h c = c

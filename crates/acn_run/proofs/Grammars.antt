@@ -1,5 +1,5 @@
 -- The grammar of the form is well formed.
-use Rattle.std.proofs.Common.{◌≡◌, ◌⊎◌, inl, inr, ℕ, zero, suc, ◌+◌, ◌-◌, ◌^◌, ◌<◌, ◌≤◌, nat_le, nat_eq, ℤ, pos, int_le, int_lt, Bool, true, false, ◌&&◌, ◌||◌, List, [], ◌∷◌, ◌++◌, length, map, None, refl, ap, subst, ◌∙◌, arith, rules, drop, append-nil, ltb, if◌then◌else◌}
+use Rattle.std.proofs.Common.{◌≡◌, ◌⊎◌, inl, inr, ℕ, zero, suc, ◌+◌, ◌-◌, ◌^◌, ◌<◌, ◌≤◌, nat_le, nat_eq, ℤ, pos, int_le, int_lt, Bool, true, false, ◌&&◌, List, [], ◌∷◌, ◌++◌, length, map, None, refl, ap, subst, ◌∙◌, arith, rules, drop, append-nil, ltb, if◌then◌else◌}
 use Rattle.std.specs.Cmp.Derive.{both_true}
 use Rattle.std.specs.List.{AllByRecursion, list_any, list_all}
 use Rattle.std.specs.Str.{bytes_eq}
@@ -24,6 +24,8 @@ use Rattle.acn_grammar.specs.Tree.{is_tree, field_names, slots_of, stand_rules, 
 use Rattle.acn_grammar.specs.Walk.{Stand, field_nodes, nodes_of}
 use Rattle.acn_run.specs.declared.components.Component.{Component}
 use Rattle.acn_run.specs.Form.{width_from, least_width, IsComponent, has_name, names_differ, has_bits, are_fit}
+use Rattle.std.specs.Prelude.{Result, Ok, Err, IfOk}
+use Rattle.acn_tree.specs.declared.tree.Tree.{Tree}
 use Rattle.acn_run.specs.Packet.{leaf_of, field_of, fields_of, grammar_of}
 
 -- ---- the width
@@ -151,3 +153,8 @@ pub not_refused : (cs : List Component) (fields : List Field) (home : List ℕ) 
     → (is_tree (view.grammar_of (root_of fields home)) ≡ true → false ≡ true) → ⊥
 not_refused cs fields home f h fine fit never =
     let no : false ≡ true = never (ap is_tree (root_as cs fields home f h) ∙ form_is_tree cs fine fit) in absurd cc
+
+-- a tree in a box is that tree
+pub boxed_root : {E : Type 0} (r : Result Tree E) (tree : Tree) (g : Grammar) → IfOk r (λ b. b ≡ tree) → view.grammar_of tree.root ≡ g → IfOk r (λ b. view.grammar_of b.root ≡ g)
+boxed_root (Ok b) tree g is e = ap (λ t. view.grammar_of t.root) is ∙ e
+boxed_root (Err f) tree g is e = tt

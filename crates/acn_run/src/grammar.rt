@@ -5,7 +5,7 @@ ghost use Rattle.acn_run.specs.Form.{IsComponent, are_fit};
 ghost use Rattle.acn_run.specs.Packet as spec;
 
 use crate::components::Component;
-use acn_num::{Name, NoMemory, RangeSet, Row};
+use acn_num::{Boxed, Name, NoMemory, RangeSet, Row};
 use acn_tree::{Body, Field, Items, Node, NumCoding, NumKind, NumLeaf, Presence, Seq, Tree};
 use std::alloc::Global;
 
@@ -61,7 +61,11 @@ fn fields(alloc: Global, components: &[Component]) -> Result<Row<Field>, NoMemor
 }
 
 /// The tree of the SEQUENCE of these components. It is well formed, so that only memory can be wanting.
-pub fn tree_of(alloc: Global, name: &[u8], components: &[Component]) -> Result<Tree, NoMemory>
+pub fn tree_of(
+    alloc: Global,
+    name: &[u8],
+    components: &[Component],
+) -> Result<Boxed<Tree>, NoMemory>
     requires fine { AllByRecursion IsComponent components.now }
     requires fit { are_fit components.now ≡ true }
     ensures name { IfOk result (λ tree. tree.name ≡ name.now) }
@@ -77,7 +81,7 @@ pub fn tree_of(alloc: Global, name: &[u8], components: &[Component]) -> Result<T
         }),
     };
     match Tree::form(name, root) {
-        Ok(tree) => Ok(tree),
+        Ok(tree) => Boxed::new(alloc, tree),
         Err(_) => unreachable!(),
     }
 }

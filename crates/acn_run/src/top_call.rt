@@ -91,25 +91,32 @@ fn write_number<E: Sink>(err: &mut E, n: u64) -> Result<(), Failed> {
     write_all(err, &[b'0' + (n % 10) as u8])
 }
 
-// Writes why a packet is refused.
-fn report_packet<E: Sink>(
-    command: &Command<'_>,
-    tree: &Tree,
-    components: &[Component],
-    packet: u64,
-    fault: PacketFault,
-    err: &mut E,
-) -> Result<(), Failed> {
+// Writes the number of a packet, from 1.
+fn report_number<E: Sink>(packet: u64, err: &mut E) -> Result<(), Failed> {
     write_all(err, b"acn: packet ")?;
     write_number(err, packet)?;
-    write_all(err, b": ")?;
+    write_all(err, b": ")
+}
+
+// Writes the type, and the component where there is one.
+fn report_path<E: Sink>(
+    command: &Command<'_>,
+    tree: &Tree,
+    component: Option<&Component>,
+    err: &mut E,
+) -> Result<(), Failed> {
     write_all(err, command.module)?;
     write_all(err, b".")?;
     write_all(err, tree.name().bytes())?;
     write_all(err, b".")?;
-    if let Some(component) = components.get(fault.component) {
-        write_all(err, component.name.bytes())?;
+    match component {
+        Some(component) => write_all(err, component.name.bytes()),
+        None => Ok(()),
     }
+}
+
+// Writes what was read in place of a number, and at which bit.
+fn report_reason<E: Sink>(fault: PacketFault, err: &mut E) -> Result<(), Failed> {
     match fault.reason {
         ReadFault::Short => write_all(err, b": Short")?,
         ReadFault::OutOfRange(n) => {
@@ -120,6 +127,21 @@ fn report_packet<E: Sink>(
     write_all(err, b" at bit ")?;
     write_number(err, fault.at)?;
     write_all(err, b"\n")
+}
+
+// Writes why a packet is refused.
+fn report_packet<E: Sink>(
+    command: &Command<'_>,
+    tree: &Tree,
+    components: &[Component],
+    packet: u64,
+    fault: PacketFault,
+    err: &mut E,
+) -> Result<(), Failed> {
+    report_number(packet, err)?;
+    let component = components.get(fault.component);
+    report_path(command, tree, component, err)?;
+    report_reason(fault, err)
 }
 
 // Decodes the bytes by the tree, which is the SEQUENCE of the components.
@@ -176,7 +198,7 @@ fn decode<S: Source, O: Sink, E: Sink>(
         Err(_) => return Err(RunFault::NoMemory),
     };
     match read_input(alloc, input) {
-        Ok(bytes) => decode_bytes(alloc, command, &tree, components, &bytes, out, err),
+        Ok(bytes) => decode_bytes(alloc, command, tree.get(), components, &bytes, out, err),
         Err(fault) => Err(input_fault(fault)),
     }
 }
@@ -226,27 +248,27 @@ fn file_of(words: &[String]) -> &[u8] {
     }
 }
 
+// Writes what is said of FILE.
+fn report_file<E: Sink>(
+    front: &[u8],
+    file: &[u8],
+    behind: &[u8],
+    err: &mut E,
+) -> Result<(), Failed> {
+    write_all(err, front)?;
+    write_all(err, file)?;
+    write_all(err, behind)
+}
+
 // Writes why the run ended. What is said of a packet was written before.
 fn report<E: Sink>(words: &[String], fault: RunFault, err: &mut E) -> Result<(), Failed> {
     match fault {
         RunFault::Usage => write_all(err, b"acn: usage\n"),
-        RunFault::FileTooLong => {
-            write_all(err, b"acn: ")?;
-            write_all(err, file_of(words))?;
-            write_all(err, b": FileTooLong\n")
-        }
-        RunFault::OtherForm => {
-            write_all(err, b"acn: ")?;
-            write_all(err, file_of(words))?;
-            write_all(err, b": OtherForm\n")
-        }
+        RunFault::FileTooLong => report_file(b"acn: ", file_of(words), b": FileTooLong\n", err),
+        RunFault::OtherForm => report_file(b"acn: ", file_of(words), b": OtherForm\n", err),
         RunFault::InputTooLong => write_all(err, b"acn: input: InputTooLong\n"),
         RunFault::Packet => Ok(()),
-        RunFault::File => {
-            write_all(err, b"acn: cannot read ")?;
-            write_all(err, file_of(words))?;
-            write_all(err, b"\n")
-        }
+        RunFault::File => report_file(b"acn: cannot read ", file_of(words), b"\n", err),
         RunFault::Input => write_all(err, b"acn: input failed\n"),
         RunFault::Output => write_all(err, b"acn: output failed\n"),
         RunFault::NoMemory => write_all(err, b"acn: out of memory\n"),

@@ -16,10 +16,11 @@ use Rattle.acn_grammar.specs.declared.node.TextLeaf.{TextLeaf}
 use Rattle.acn_grammar.specs.declared.read_fault.ReadFault.{ReadFault}
 use Rattle.acn_text.specs.Texts.{TextCode, PassedText, NoTextAt, fault_here}
 use Rattle.acn_text.proofs.Ends.{end_long, end_not_found, end_found, ends_first}
-use Rattle.acn_text.proofs.Fine.{FineEnd}
-use Rattle.acn_text.proofs.Octets.{octets_few, octets_most, octets-take, octets-drop, octet_first, octet_next, first_of_window, next_window}
-use Rattle.acn_text.proofs.SizedReads.{read_front}
 use Rattle.std.proofs.lemmas.Bool.{and_parts}
+use Rattle.acn_grammar.proofs.Octets.{octets_few, octets_most, octets-take, octets-drop, octet_first, octet_next}
+use Rattle.acn_text.proofs.Windows.{first_of_window, next_window}
+use Rattle.acn_grammar.proofs.TextRules.{EndRules}
+use Rattle.acn_bits.proofs.Readings.{reads_passed}
 
 -- Characters of 8 bits each.
 
@@ -94,7 +95,7 @@ at_start leaf end Gives old now seen g within moved is = record {
   all = λ _. refl;
 }
 
-module _ (leaf : TextLeaf) (end : List Bool) (f : FineEnd leaf end) (Gives : List ℕ → Type 0) (old now : Reading) (n seen : ℕ) (fine : Bool) (u : UptoEnd leaf end Gives old now n seen fine) where
+module _ (leaf : TextLeaf) (end : List Bool) (f : EndRules leaf end) (Gives : List ℕ → Type 0) (old now : Reading) (n seen : ℕ) (fine : Bool) (u : UptoEnd leaf end Gives old now n seen fine) where
   octets_are : length end ≡ 8 * (length end / 8)
   octets_are = f.octets
 
@@ -137,7 +138,7 @@ module _ (leaf : TextLeaf) (end : List Bool) (f : FineEnd leaf end) (Gives : Lis
   rest_left = ap (λ (r : Reading). length r.rest) u.moved ∙ length-drop (8 * n + length end) old.rest
 
   pub now_stays : Stays old now
-  now_stays = read_front (λ _. Unit {0}) (8 * n + length end) old now u.within u.moved tt
+  now_stays = reads_passed (λ _. Unit {0}) (8 * n + length end) old now u.within u.moved tt
 
   -- an octet further
   pub one_further : (More : List ℕ → Type 0) (new : Reading) (octet next : ℕ) (fine' : Bool) (cs : List ℕ) → (seen ≡ number end → ⊥) → octet ≡ seen / 2 ^ (length end - 8) → fine' ≡ (fine && has leaf.alphabet (pos octet)) → (fine' ≡ true → cs ≡ octet ∷ [])
@@ -234,7 +235,7 @@ module _ (leaf : TextLeaf) (end : List Bool) (f : FineEnd leaf end) (Gives : Lis
     text = take n (octet_values old.rest);
     size = size_is;
     gives = subst Gives (u.all t) u.gives;
-    read = read_front (TextCode leaf None (take n (octet_values old.rest))) (8 * n + length end) old now u.within u.moved (λ env at says.
+    read = reads_passed (TextCode leaf None (take n (octet_values old.rest))) (8 * n + length end) old now u.within u.moved (λ env at says.
         subst (λ (o : Option (List Bool)). EndedPart o leaf env (take n (octet_values old.rest)) at (take (8 * n + length end) old.rest)) (sym is)
         (record {
           given = (subst (λ (k : ℕ). In leaf.sized.sizes (pos k)) (sym size_is) p, ends_first end (length end / 8) f.octets f.some old.rest n u.before u.within (stands e));
@@ -288,7 +289,7 @@ module _ (leaf : TextLeaf) (end : List Bool) (f : FineEnd leaf end) (Gives : Lis
       enough = let s = end_size in let x = few_octets in omega (arith, x, s, h)
 
 -- fewer bits are left than the end has
-pub no_room : (leaf : TextLeaf) (end : List Bool) (rest : List Bool) → FineEnd leaf end → leaf.ended ≡ Some end → length rest < length end → NoTextAt leaf None rest short
+pub no_room : (leaf : TextLeaf) (end : List Bool) (rest : List Bool) → EndRules leaf end → leaf.ended ≡ Some end → length rest < length end → NoTextAt leaf None rest short
 no_room leaf end rest f is l = record {
   reach = length rest;
   fails = λ it env at says. subst (λ (o : Option (List Bool)). TextFails it o leaf env at rest (fault_here it short) (length rest)) (sym is)

@@ -1,61 +1,16 @@
 -- The first place at which a terminator stands.
-use Rattle.std.proofs.Common.{◌≡◌, ℕ, zero, suc, ◌+◌, ◌*◌, ◌<◌, ◌≤◌, Bool, true, false, List, ◌++◌, length, take, drop, Option, Some, None, refl, sym, ap, ◌∙◌, arith, length-drop, inl, inr, subst}
-use Rattle.std.specs.Prelude.{cond, ◌⊎◌}
-use Rattle.std.specs.List.{find, range_with_len}
+use Rattle.std.proofs.Common.{◌≡◌, ℕ, zero, suc, ◌+◌, ◌*◌, ◌<◌, ◌≤◌, Bool, false, List, ◌++◌, length, take, drop, Some, None, refl, sym, ap, ◌∙◌, arith, length-drop, inl, inr, subst}
+use Rattle.std.specs.Prelude.{◌⊎◌}
 use Rattle.std.proofs.lemmas.List.{take-take, length-take, drop-take, length-take-le}
 use Rattle.std.proofs.Math.Seq.{take-add}
 use Rattle.acn_grammar.specs.Asks.{same_name}
 use Rattle.acn_grammar.specs.Fails.{found_end}
 use Rattle.acn_grammar.specs.LeafFails.{octet_values}
 use Rattle.acn_grammar.specs.Spell.{octet_numbers, EndsFirst}
-use Rattle.acn_text.proofs.Octets.{octets_few, octets_most, octets_count, octets-take, octets-drop, octets_tell}
 use Rattle.acn_grammar.proofs.Characters.{same_name-is, same_name-refl}
 use Rattle.std.proofs.lemmas.Bool.{false_from_ne_true}
-
-cond_true : (t : Bool) (a : ℕ) (rest : Option ℕ) → t ≡ true → cond t (Some a) rest ≡ Some a
-cond_true true a rest e = refl
-cond_true false a rest e = cc
-
-cond_false : (t : Bool) (a : ℕ) (rest : Option ℕ) → t ≡ false → cond t (Some a) rest ≡ rest
-cond_false true a rest e = cc
-cond_false false a rest e = refl
-
-find_from : (p : ℕ → Bool) (a n k : ℕ) → k < n → p (a + k) ≡ true → ((j : ℕ) → a ≤ j → j < a + k → p j ≡ false) → find p (range_with_len a n) ≡ Some (a + k)
-find_from p a zero k l h none = absurd (omega arith)
-find_from p a (suc n) zero l h none = let e : a ≡ a + zero = omega arith in cond_true (p a) a (find p (range_with_len (a + 1) n)) (ap p e ∙ h) ∙ ap Some e
-find_from p a (suc n) (suc k) l h none =
-    let e : (a + 1) + k ≡ a + suc k = omega arith in
-    cond_false (p a) a (find p (range_with_len (a + 1) n)) (none a (omega arith) (omega arith)) ∙ (find_from p (a + 1) n k (omega arith) (ap p e ∙ h) (λ j u v. none j (omega arith) (omega arith)) ∙ ap Some e)
-
-pub find_first : (p : ℕ → Bool) (n k : ℕ) → k < n → p k ≡ true → ((j : ℕ) → j < k → p j ≡ false) → find p (range_with_len 0 n) ≡ Some k
-find_first p n k l h none =
-    let e : 0 + k ≡ k = omega arith in
-    find_from p 0 n k l (ap p e ∙ h) (λ j u v. none j (omega arith)) ∙ ap Some e
-
-none_from : (p : ℕ → Bool) (a n : ℕ) → ((j : ℕ) → a ≤ j → j < a + n → p j ≡ false) → find p (range_with_len a n) ≡ None
-none_from p a zero none = refl
-none_from p a (suc n) none = cond_false (p a) a (find p (range_with_len (a + 1) n)) (none a (omega arith) (omega arith)) ∙ none_from p (a + 1) n (λ j u v. none j (omega arith) (omega arith))
-
-pub find_none : (p : ℕ → Bool) (n : ℕ) → ((j : ℕ) → j < n → p j ≡ false) → find p (range_with_len 0 n) ≡ None
-find_none p n none = none_from p 0 n (λ j u v. none j (omega arith))
-
--- where nothing was found, nothing passes
-passes_not : (p : ℕ → Bool) (a n j : ℕ) → find p (range_with_len a n) ≡ None → a ≤ j → j < a + n → p j ≡ true → ⊥
-passes_not p a zero j e u v h = omega arith
-passes_not p a (suc n) j e u v h = by (p a) refl e (λ f g. passes_not p (a + 1) n j f g (omega arith) h)
-  where
-    order : (x y : ℕ) → x ≤ y → (x ≡ y) ⊎ (x + 1 ≤ y)
-    order zero zero h = inl refl
-    order zero (suc y) h = inr (omega arith)
-    order (suc x) zero h = absurd (omega arith)
-    order (suc x) (suc y) h = elim (order x y (omega arith)) [ inl g ↦ inl (ap suc g) | inr g ↦ inr (omega arith) ]
-
-    by : (t : Bool) → p a ≡ t → cond t (Some a) (find p (range_with_len (a + 1) n)) ≡ None → (find p (range_with_len (a + 1) n) ≡ None → a + 1 ≤ j → ⊥) → ⊥
-    by true is f more = cc
-    by false is f more = elim (order a j u) [ inl g ↦ (let z = ap p g in cc) | inr g ↦ more f g ]
-
-pub none_passes : (p : ℕ → Bool) (n j : ℕ) → find p (range_with_len 0 n) ≡ None → j < n → p j ≡ true → ⊥
-none_passes p n j e l h = passes_not p 0 n j e (omega arith) (omega arith) h
+use Rattle.acn_grammar.proofs.Octets.{octets_few, octets_most, octets_count, octets-take, octets-drop, octets_tell}
+use Rattle.acn_grammar.proofs.FirstPlaces.{find_first, find_none}
 
 -- The end at a place of the bits, and of their octets.
 

@@ -4,8 +4,8 @@ mod Ends
 mod Fine
 mod Listing
 mod Marks
-mod Octets
 mod Places
 mod SizedReads
 mod Spelled
+mod Windows
 mod Written

@@ -1,18 +1,19 @@
 -- Characters and their places in the alphabet.
-use Rattle.std.proofs.Common.{◌≡◌, ℕ, ◌+◌, ◌-◌, ◌^◌, ◌<◌, ◌≤◌, ℤ, pos, negsuc, ◌+ℤ◌, ◌≤ℤ◌, Bool, true, false, not, List, [], ◌∷◌, length, drop, get_or, Option, Some, None, refl, sym, ap, ◌∙◌, subst, arith, ◌&&◌}
+use Rattle.std.proofs.Common.{◌≡◌, ℕ, ◌+◌, ◌-◌, ◌^◌, ◌<◌, ◌≤◌, ℤ, pos, negsuc, ◌+ℤ◌, ◌≤ℤ◌, Bool, true, false, List, [], ◌∷◌, length, drop, get_or, Option, Some, None, refl, sym, ap, ◌∙◌, subst, arith, ◌&&◌}
 use Rattle.std.specs.Prelude.{◌-ℤ◌, ◌<ℤ◌, int_le, nat_lt, nat_abs}
 use Rattle.std.proofs.lemmas.Int.{ints}
 use Rattle.std.proofs.lemmas.Bool.Decides.{nat_tests}
 use Rattle.std.proofs.lemmas.List.{drop_more, drop_all}
-use Rattle.acn_num.specs.Ranges.{has, Above, count, nth, size_of, distance, all_within, greatest, are_ranges, are_ranges_above}
-use Rattle.acn_grammar.specs.Leaves.{is_beyond}
+use Rattle.acn_num.specs.Ranges.{has, Above, count, nth, size_of, distance, all_within, are_ranges, are_ranges_above}
 use Rattle.acn_num.proofs.Nth.{nth_in, at}
 use Rattle.acn_grammar.specs.Spell.{place_in, character_number}
 use Rattle.acn_grammar.specs.declared.node.TextLeaf.{TextLeaf}
-use Rattle.acn_grammar.proofs.Texts.{either, le_fact}
 use Rattle.acn_text.specs.Steps.{IsSmall, IsCharacter, NoCharacter}
-use Rattle.acn_text.proofs.Fine.{FineText, WidthIs, plain_octets, fewest_bits, alphabet_above, count_few, is_within, to_greatest, first_in, tests_above, width_is}
-use Rattle.std.proofs.lemmas.Bool.{and_parts, not-true}
+use Rattle.acn_text.proofs.Fine.{alphabet_above, count_few}
+use Rattle.std.proofs.lemmas.Bool.{and_parts}
+use Rattle.acn_grammar.proofs.WholeTests.{either, le_fact}
+use Rattle.acn_grammar.proofs.TextRules.{TextRules, character_fits}
+use Rattle.acn_grammar.proofs.RangeEnds.{lies_within, first_in}
 
 -- the place of the number that stands at a place
 pub place_of_nth : (b : ℤ) (rs : List (ℤ × ℤ)) (n : ℕ) (x : ℤ) → Above b rs → nth rs n ≡ Some x → place_in rs x ≡ n
@@ -165,12 +166,12 @@ places_over rs x i below over l =
 
 -- Which character a number stands for.
 
-module _ (leaf : TextLeaf) (f : FineText leaf) where
+module _ (leaf : TextLeaf) (f : TextRules leaf) where
   pub by_place : (v : ℕ) (x : ℤ) → leaf.indexed ≡ true → nth leaf.alphabet v ≡ Some x → (c : ℕ) × (x ≡ pos c) × (c < 256) × IsCharacter leaf c v
   by_place v x i e =
       let h = alphabet_above leaf f in
       let p = nth_in (negsuc 0) leaf.alphabet v x h e in
-      let w = is_within (pos 127) leaf.alphabet x f.small p.0 in
+      let w = lies_within leaf.alphabet (pos 0) (pos 127) x f.small p.0 in
       let z = place_of_nth (negsuc 0) leaf.alphabet v x h e in
       by x w.0 w.1 p.0 z
     where
@@ -187,7 +188,7 @@ module _ (leaf : TextLeaf) (f : FineText leaf) where
 
   pub by_number : (v : ℕ) → leaf.indexed ≡ false → has leaf.alphabet (pos v) ≡ true → (v < 256) × IsCharacter leaf v v
   by_number v i p =
-      let w = is_within (pos 127) leaf.alphabet (pos v) f.small p in
+      let w = lies_within leaf.alphabet (pos 0) (pos 127) (pos v) f.small p in
       let high = w.1 in
       (omega (arith, ints), (p, rw i refl))
 
@@ -198,43 +199,12 @@ module _ (leaf : TextLeaf) (f : FineText leaf) where
       cc
 
 -- the number of a character fits the width
-pub character_below : (leaf : TextLeaf) → FineText leaf → (c : ℕ) → has leaf.alphabet (pos c) ≡ true → character_number leaf c < 2 ^ leaf.width
-character_below leaf f c p = by leaf.indexed refl (width_is leaf f)
-  where
-    high : c ≤ 127
-    high = let w = (is_within (pos 127) leaf.alphabet (pos c) f.small p).1 in omega (arith, ints)
-
-    below_greatest : (n : ℕ) (o : Option ℤ) → greatest leaf.alphabet ≡ o → not (is_beyond n o) ≡ true → c < 2 ^ n
-    below_greatest n None e b = absurd (none_greatest leaf.alphabet e p)
-      where
-        none_greatest : (rs : List (ℤ × ℤ)) → greatest rs ≡ None → has rs (pos c) ≡ true → ⊥
-        none_greatest [] e p = cc
-        none_greatest (r ∷ []) e p = cc
-        none_greatest (r ∷ s ∷ rs) e p = by_rest rs s e
-          where
-            by_rest : (rs : List (ℤ × ℤ)) (s : ℤ × ℤ) → greatest (s ∷ rs) ≡ None → ⊥
-            by_rest [] s e = cc
-            by_rest (t ∷ rs) s e = by_rest rs t e
-    below_greatest n (Some g) e b =
-        let u = to_greatest (negsuc 0) leaf.alphabet (pos c) g (tests_above leaf.alphabet f.ordered f.small) p e in
-        let v = over g (2 ^ n) (not-true (int_le (pos (2 ^ n)) g) b) in
-        less c (2 ^ n) g u v
-      where
-        over : (g : ℤ) (m : ℕ) → int_le (pos m) g ≡ false → g <ℤ pos m
-        over g m h = grind (arith, ints, nat_tests)
-
-        less : (c m : ℕ) (g : ℤ) → pos c ≤ℤ g → g <ℤ pos m → c < m
-        less c m g u v = omega (arith, ints)
-
-    by : (t : Bool) → leaf.indexed ≡ t → WidthIs leaf → character_number leaf c < 2 ^ leaf.width
-    by true i (plain_octets w j) = cc
-    by true i (fewest_bits n z b) = let u = (nth_of_place (negsuc 0) leaf.alphabet (pos c) (alphabet_above leaf f) p).1 in rw i (omega (arith, u, n))
-    by false i (plain_octets w j) = rw (i, w) (omega (arith, high))
-    by false i (fewest_bits n z b) = rw i (below_greatest leaf.width (greatest leaf.alphabet) refl (rw i at b))
+pub character_below : (leaf : TextLeaf) → TextRules leaf → (c : ℕ) → has leaf.alphabet (pos c) ≡ true → character_number leaf c < 2 ^ leaf.width
+character_below leaf f = character_fits leaf f leaf.ended f.end
 
 -- there is a character
-pub some_character : (leaf : TextLeaf) → FineText leaf → (c : ℕ) × (has leaf.alphabet (pos c) ≡ true)
-some_character leaf f = by leaf.alphabet f.some f.ordered f.small
+pub some_character : (leaf : TextLeaf) → TextRules leaf → (c : ℕ) × (has leaf.alphabet (pos c) ≡ true)
+some_character leaf f = by leaf.alphabet f.some f.ranges f.small
   where
     natural : (x : ℤ) → pos 0 ≤ℤ x → (c : ℕ) × (x ≡ pos c)
     natural (pos c) h = (c, refl)

@@ -1,5 +1,5 @@
 -- Texts behind their sizes.
-use Rattle.std.proofs.Common.{◌≡◌, ℕ, zero, suc, ◌+◌, ◌-◌, ◌*◌, ◌^◌, ◌<◌, ◌≤◌, pos, Bool, List, [], ◌∷◌, ◌++◌, length, take, drop, Option, Some, None, refl, sym, ap, ◌∙◌, subst, arith, append_assoc, length-append, take-append-drop, append-nil, inl, inr}
+use Rattle.std.proofs.Common.{◌≡◌, ℕ, zero, suc, ◌+◌, ◌-◌, ◌*◌, ◌^◌, ◌<◌, ◌≤◌, pos, Bool, List, [], ◌∷◌, ◌++◌, length, take, drop, Option, Some, None, refl, sym, ap, ◌∙◌, subst, arith, append_assoc, length-append, append-nil, inl, inr}
 use Rattle.std.proofs.lemmas.List.{length-take-le}
 use Rattle.std.proofs.Math.Seq.{take-add, take-append-add}
 use Rattle.std.proofs.Math.Nat.{mul-le-mul_left}
@@ -17,47 +17,10 @@ use Rattle.acn_grammar.specs.declared.node.TextLeaf.{TextLeaf}
 use Rattle.acn_grammar.proofs.Prefix.{same_front}
 use Rattle.acn_text.specs.Texts.{SlotSays, TextCode, PassedText, NoTextAt, fault_here}
 use Rattle.acn_text.specs.Steps.{SizeTaken, SizeMissing, NoSizeAt, IsCharacter, NoCharacter, PassedCharacters, NoCharactersAt}
-use Rattle.acn_text.proofs.Fine.{FineText}
 use Rattle.acn_text.proofs.Places.{character_below, some_character}
 use Rattle.acn_grammar.proofs.Characters.{characters_long}
-
--- Fronts that were read.
-
-pub read_front : (P : List Bool → Type 0) (n : ℕ) (old new : Reading) → n ≤ length old.rest → new ≡ passed n old → P (take n old.rest) → Reads P old new
-read_front P n old new h moved p = record {
-  front = take n old.rest;
-  split = sym (take-append-drop n old.rest) ∙ ap (λ (r : Reading). take n old.rest ++ r.rest) (sym moved);
-  moved = ap (λ (r : Reading). r.at) moved ∙ ap (λ (k : ℕ). old.at + k) (sym (length-take-le n old.rest h));
-  window = ap (λ (r : Reading). r.origin) moved;
-  holds = p;
-}
-
-pub read_nothing : (P : List Bool → Type 0) (old new : Reading) → new ≡ old → P [] → Reads P old new
-read_nothing P old new e p = record {
-  front = [];
-  split = ap (λ (r : Reading). r.rest) (sym e);
-  moved = ap (λ (r : Reading). r.at) e ∙ nothing old.at;
-  window = ap (λ (r : Reading). r.origin) e;
-  holds = p;
-}
-  where
-    nothing : (k : ℕ) → k ≡ k + 0
-    nothing k = omega arith
-
-pub read_both : (P Q R : List Bool → Type 0) (a b c : Reading) → ((x y : List Bool) → P x → Q y → R (x ++ y)) → Reads P a b → Reads Q b c → Reads R a c
-read_both P Q R a b c both p q = record {
-  front = p.front ++ q.front;
-  split = p.split ∙ (ap (λ (t : List Bool). p.front ++ t) q.split ∙ sym (append_assoc p.front q.front c.rest));
-  moved = let l = length-append p.front q.front in let m = p.moved in let n = q.moved in omega (arith, l, m, n);
-  window = q.window ∙ p.window;
-  holds = both p.front q.front p.holds q.holds;
-}
-
-pub reads_stay : (P : List Bool → Type 0) (a b : Reading) → Reads P a b → Stays a b
-reads_stay P a b p = record { front = p.front; split = p.split; moved = p.moved; window = p.window; holds = tt }
-
-pub stay_both : (a b c : Reading) → Stays a b → Stays b c → Stays a c
-stay_both a b c p q = read_both (λ _. Unit {0}) (λ _. Unit {0}) (λ _. Unit {0}) a b c (λ x y _ _. tt) p q
+use Rattle.acn_grammar.proofs.TextRules.{TextRules}
+use Rattle.acn_bits.proofs.Readings.{reads_passed, reads_nothing, reads_join, reads_stay}
 
 -- Sizes.
 
@@ -70,10 +33,10 @@ SizeCode sizing given n bs = (env : Env) (at : ℕ) → SlotSays sizing.rule giv
 rule_read : (rule : SizeRule) (given : Option ℕ) (old new : Reading) (n : ℕ) → SizeTaken rule given old new n → Reads (λ bs. (env : Env) (at : ℕ) → SlotSays rule given env → RulePart rule env n at bs) old new
 rule_read (Prefix low width) given old new n t =
     let is = t.1 in
-    read_front (λ bs. (env : Env) (at : ℕ) → SlotSays (Prefix low width) given env → RulePart (Prefix low width) env n at bs) width old new t.0 t.2
+    reads_passed (λ bs. (env : Env) (at : ℕ) → SlotSays (Prefix low width) given env → RulePart (Prefix low width) env n at bs) width old new t.0 t.2
     (λ env at s. record { given = omega (arith, is); spelled = record { width = length-take-le width old.rest t.0; value = omega (arith, is) } })
 rule_read (Slot s) given old new n t =
-    read_nothing (λ bs. (env : Env) (at : ℕ) → SlotSays (Slot s) given env → RulePart (Slot s) env n at bs) old new t.1
+    reads_nothing (λ bs. (env : Env) (at : ℕ) → SlotSays (Slot s) given env → RulePart (Slot s) env n at bs) old new t.1
     (λ env at h. (h.2 ∙ ap (λ k. Some (pos k)) (some_same (sym h.1 ∙ t.0)), refl))
 rule_read (Ended p) given old new n t = absurd t
 
@@ -119,7 +82,7 @@ pub record UptoCharacter (leaf : TextLeaf) (Gives : List ℕ → Type 0) (old no
   pub room : leaf.width * n ≤ length old.rest
 
 pub no_characters : (leaf : TextLeaf) (Gives : List ℕ → Type 0) (old : Reading) (n : ℕ) → Gives [] → leaf.width * n ≤ length old.rest → UptoCharacter leaf Gives old old n 0
-no_characters leaf Gives old n g room = record { text = []; size = refl; gives = g; read = read_nothing (CharactersCode leaf []) old old refl (λ at. refl); room = room }
+no_characters leaf Gives old n g room = record { text = []; size = refl; gives = g; read = reads_nothing (CharactersCode leaf []) old old refl (λ at. refl); room = room }
 
 left_over : (leaf : TextLeaf) (Gives : List ℕ → Type 0) (old now : Reading) (n i : ℕ) → UptoCharacter leaf Gives old now n i → length old.rest ≡ leaf.width * i + length now.rest
 left_over leaf Gives old now n i u =
@@ -151,12 +114,12 @@ pub one_character : (leaf : TextLeaf) (Gives More : List ℕ → Type 0) (old no
     → ((cs : List ℕ) → Gives cs → More (cs ++ c ∷ [])) → UptoCharacter leaf More old new n (i + 1)
 one_character leaf Gives More old now new n i c h u is moved more =
     let room = room_for_one leaf Gives old now n i h u in
-    let one : Reads (λ bs. (length bs ≡ leaf.width) × (number bs ≡ character_number leaf c)) now new = read_front (λ bs. (length bs ≡ leaf.width) × (number bs ≡ character_number leaf c)) leaf.width now new room moved (length-take-le leaf.width now.rest room, sym is.1) in
+    let one : Reads (λ bs. (length bs ≡ leaf.width) × (number bs ≡ character_number leaf c)) now new = reads_passed (λ bs. (length bs ≡ leaf.width) × (number bs ≡ character_number leaf c)) leaf.width now new room moved (length-take-le leaf.width now.rest room, sym is.1) in
     record {
       text = u.text ++ c ∷ [];
       size = length-append u.text (c ∷ []) ∙ ap (λ k. k + 1) u.size;
       gives = more u.text u.gives;
-      read = read_both (CharactersCode leaf u.text) (λ bs. (length bs ≡ leaf.width) × (number bs ≡ character_number leaf c)) (CharactersCode leaf (u.text ++ c ∷ [])) old now new (λ x y p q at. characters-append leaf u.text c at x y (p at) is.0 q.0 q.1) u.read one;
+      read = reads_join (CharactersCode leaf u.text) (λ bs. (length bs ≡ leaf.width) × (number bs ≡ character_number leaf c)) (CharactersCode leaf (u.text ++ c ∷ [])) old now new (λ x y p q at. characters-append leaf u.text c at x y (p at) is.0 q.0 q.1) u.read one;
       room = u.room;
     }
 
@@ -173,7 +136,7 @@ unreadable leaf (c ∷ cs) (d ∷ ds) at at' a bad more bs some l no_one p q e =
     let s = same_front q.front p.front q.back (p.back ++ (bad ++ more)) (q.first.spelled.width ∙ sym p.first.spelled.width) whole in
     unreadable leaf cs ds (at + length p.front) (at' + length q.front) p.back bad more q.back some l no_one p.second q.second s.1
 
-pub bad_at : (leaf : TextLeaf) (Gives : List ℕ → Type 0) (old now : Reading) (n i : ℕ) → FineText leaf → i < n → UptoCharacter leaf Gives old now n i → NoCharacter leaf (number (take leaf.width now.rest)) → NoCharactersAt leaf n old.rest bad_character
+pub bad_at : (leaf : TextLeaf) (Gives : List ℕ → Type 0) (old now : Reading) (n i : ℕ) → TextRules leaf → i < n → UptoCharacter leaf Gives old now n i → NoCharacter leaf (number (take leaf.width now.rest)) → NoCharactersAt leaf n old.rest bad_character
 bad_at leaf Gives old now n i f h u none = record {
   reach = leaf.width * n;
   fails = λ here at. inr (u.room, no_text, refl, refl);
@@ -233,7 +196,7 @@ text_read leaf given Gives old mid new n is p c = record {
   text = c.text;
   size = c.size;
   gives = c.gives;
-  read = read_both (SizeCode leaf.sized given n) (CharactersCode leaf c.text) (TextCode leaf given c.text) old mid new (λ x y s t env at says.
+  read = reads_join (SizeCode leaf.sized given n) (CharactersCode leaf c.text) (TextCode leaf given c.text) old mid new (λ x y s t env at says.
       subst (λ (o : Option (List Bool)). EndedPart o leaf env c.text at (x ++ y)) (sym is)
       (record { front = x; back = y; whole = refl; first = subst (λ (k : ℕ). SizePart leaf.sized env k at x) (sym c.size) (s env at says); second = t (at + length x) })) p c.read;
 }

@@ -7,7 +7,6 @@ use Rattle.std.proofs.lemmas.List.{length-take-le}
 use Rattle.acn_num.specs.Bits.{low_bits}
 use Rattle.acn_num.specs.Ranges.{In, has}
 use Rattle.acn_num.proofs.BitLists.{length-low_bits}
-use Rattle.acn_ints.proofs.PieceLemmas.{low_is_number}
 use Rattle.acn_grammar.specs.Asks.{same_name}
 use Rattle.acn_grammar.specs.Env.{Env}
 use Rattle.acn_grammar.specs.Length.{text_length, rule_width}
@@ -18,10 +17,12 @@ use Rattle.acn_grammar.specs.declared.node.SizeRule.TheVariants.{Prefix, Slot, E
 use Rattle.acn_grammar.specs.declared.node.TextLeaf.{TextLeaf}
 use Rattle.acn_text.specs.Texts.{TextCode, SlotSays, given_size}
 use Rattle.acn_text.specs.Steps.{SizeFits, NumbersFit, size_bits, character_bits, text_bits}
-use Rattle.acn_text.proofs.Ends.{none_passes}
-use Rattle.acn_text.proofs.Fine.{FineText, size_fits}
+use Rattle.acn_text.proofs.Fine.{size_fits}
 use Rattle.acn_text.proofs.Places.{character_below}
 use Rattle.acn_grammar.proofs.Characters.{same_name-refl, characters_long}
+use Rattle.acn_grammar.proofs.FirstPlaces.{none_passes}
+use Rattle.acn_grammar.proofs.TextRules.{TextRules}
+use Rattle.acn_grammar.proofs.Counts.{number_bits}
 
 -- What a text that meets the leaf keeps.
 
@@ -73,7 +74,7 @@ is_not_false : (b : Bool) → not b ≡ false → b ≡ true
 is_not_false true h = refl
 is_not_false false h = cc
 
-module _ (leaf : TextLeaf) (f : FineText leaf) where
+module _ (leaf : TextLeaf) (f : TextRules leaf) where
   numbers_fit : (cs : List ℕ) → AllByRecursion (λ c. not (has leaf.alphabet (pos c)) ≡ false) cs → NumbersFit leaf cs
   numbers_fit [] h = tt
   numbers_fit (c ∷ cs) h = let p = is_not_false (has leaf.alphabet (pos c)) h.0 in ((p, character_below leaf f c p), numbers_fit cs h.1)
@@ -87,7 +88,7 @@ module _ (leaf : TextLeaf) (f : FineText leaf) where
     front = low_bits leaf.width (character_number leaf c);
     back = character_bits leaf cs;
     whole = refl;
-    first = record { given = h.0.0; spelled = low_is_number leaf.width (character_number leaf c) h.0.1 };
+    first = record { given = h.0.0; spelled = number_bits leaf.width (character_number leaf c) h.0.1 };
     second = characters_spell cs (at + length (low_bits leaf.width (character_number leaf c))) h.1;
   }
 
@@ -95,7 +96,7 @@ module _ (leaf : TextLeaf) (f : FineText leaf) where
   character_bits_long cs h = characters_long leaf cs 0 (character_bits leaf cs) (characters_spell cs 0 h)
 
   size_spell : (rule : SizeRule) (n at : ℕ) (env : Env) → SizeFits rule n → SlotSays rule (given_size rule n) env → RulePart rule env n at (size_bits rule n)
-  size_spell (Prefix low width) n at env h says = record { given = h.0; spelled = low_is_number width (n - low) h.2 }
+  size_spell (Prefix low width) n at env h says = record { given = h.0; spelled = number_bits width (n - low) h.2 }
   size_spell (Slot s) n at env h says = (says.2 ∙ ap (λ k. Some (pos k)) (same (sym says.1)), refl)
     where
       same : {a b : ℕ} → ◌≡◌ {A = Option ℕ} (Some a) (Some b) → a ≡ b

@@ -9,9 +9,9 @@ use Rattle.acn_grammar.specs.Spell.{character_number}
 use Rattle.acn_grammar.specs.declared.node.TextLeaf.{TextLeaf}
 use Rattle.acn_text.specs.Texts.{TextCode, given_size}
 use Rattle.acn_text.specs.Steps.{character_bits, text_bits}
-use Rattle.acn_text.proofs.Fine.{FineText}
 use Rattle.acn_text.proofs.Listing.{one_more}
 use Rattle.acn_text.proofs.Spelled.{MeetsText, text_spelled, text_bits_long}
+use Rattle.acn_grammar.proofs.TextRules.{TextRules}
 
 -- two writings, the second where the first ends
 pub two_writes : {N : ℕ} (old mid new : WriteCursor N) (a b : List Bool) (n m : ℕ) → Writes old mid (place_of old) a (place_of old + n) → n ≡ length a → Writes mid new (place_of mid) b (place_of mid + m) → Writes old new (place_of old) (a ++ b) (place_of old + (n + m))
@@ -33,7 +33,7 @@ write_next leaf cs i number old mid new h long x is y =
     times w i = omega arith
 
 -- what was written is the text's code
-pub text_puts : {N : ℕ} (leaf : TextLeaf) (cs : List ℕ) (old new : WriteCursor N) (n : ℕ) → FineText leaf → MeetsText leaf cs → n ≡ text_length leaf.ended leaf (length cs) → Writes old new (place_of old) (text_bits leaf.ended leaf cs) (place_of old + n) → Puts (TextCode leaf (given_size leaf.sized.rule (length cs)) cs) old new
+pub text_puts : {N : ℕ} (leaf : TextLeaf) (cs : List ℕ) (old new : WriteCursor N) (n : ℕ) → TextRules leaf → MeetsText leaf cs → n ≡ text_length leaf.ended leaf (length cs) → Writes old new (place_of old) (text_bits leaf.ended leaf cs) (place_of old + n) → Puts (TextCode leaf (given_size leaf.sized.rule (length cs)) cs) old new
 text_puts leaf cs old new n f m e w = record {
   code = text_bits leaf.ended leaf cs;
   writes = subst (λ (k : ℕ). Writes old new (place_of old) (text_bits leaf.ended leaf cs) (place_of old + k)) (e ∙ sym (text_bits_long leaf f leaf.ended cs m)) w;

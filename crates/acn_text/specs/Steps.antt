@@ -13,6 +13,8 @@ use Rattle.acn_grammar.specs.declared.node.SizeRule.TheVariants.{Prefix, Slot, E
 use Rattle.acn_grammar.specs.declared.node.Sizing.{Sizing}
 use Rattle.acn_grammar.specs.declared.node.TextLeaf.{TextLeaf}
 use Rattle.acn_text.specs.Texts.{SlotSays, fault_here}
+use Rattle.acn_num.specs.declared.limits.TheConstants.{MOST_SIZE}
+use Rattle.acn_bits.specs.declared.word.TheConstants.{WORD_BITS}
 
 -- from 0 to 255
 abbrev pub IsSmall : ℤ → Type 0
@@ -26,9 +28,9 @@ IsCharacter leaf c v = In leaf.alphabet (pos c) × (character_number leaf c ≡ 
 abbrev pub NoCharacter : TextLeaf → ℕ → Type 0
 NoCharacter leaf v = (c : ℕ) → In leaf.alphabet (pos c) → character_number leaf c ≡ v → ⊥
 
--- a size in front that fits 64 bits
+-- a size in front that fits a word
 abbrev pub RuleFits : SizeRule → Type 0
-RuleFits (Prefix low width) = (low ≤ 65536) × (width ≤ 17)
+RuleFits (Prefix low width) = (low ≤ MOST_SIZE) × (width ≤ 17)
 RuleFits (Slot s) = Unit {0}
 RuleFits (Ended p) = ⊥
 
@@ -86,6 +88,6 @@ NumbersFit leaf cs = AllByRecursion (λ c. IsFitting leaf c) cs
 
 -- the size is one that stands in front so
 abbrev pub SizeFits : SizeRule → ℕ → Type 0
-SizeFits (Prefix low width) n = (low ≤ n) × (width ≤ 64) × (n - low < 2 ^ width)
+SizeFits (Prefix low width) n = (low ≤ n) × (width ≤ WORD_BITS) × (n - low < 2 ^ width)
 SizeFits (Slot s) n = Unit {0}
 SizeFits (Ended p) n = ⊥

@@ -7,25 +7,27 @@ ghost use Rattle.acn_grammar.specs.LeafFails.{size_out_of_range, bad_character};
 ghost use Rattle.acn_grammar.specs.Leaves.{text_fine};
 ghost use Rattle.acn_grammar.specs.ReadFaults.{reason_of};
 ghost use Rattle.acn_text.specs.Texts.{PassedText, NoTextAt};
+ghost use Rattle.acn_num.specs.declared.limits.TheConstants.{MOST_SIZE};
 
 use crate::alphabet::is_in;
 use crate::mark::{first_octet, next_seen};
 use acn_bits::ReadCursor;
 use acn_grammar::{Pattern, ReadFault, TextLeaf};
 use acn_ints::pattern_number;
+use acn_num::MOST_SIZE;
 
 /// The greatest permitted size.
 fn most_characters(leaf: &TextLeaf) -> u64
     ensures value { result ≡ size_of (greatest leaf.now.sized.sizes) }
-    ensures few { result ≤ 65536 }
+    ensures few { result ≤ MOST_SIZE }
 {
     match leaf.sized.sizes.greatest() {
         None => 0,
         Some(n) => {
             if n < 0 {
                 0
-            } else if n > 65536 {
-                65536
+            } else if n > i128::from(MOST_SIZE) {
+                u64::from(MOST_SIZE)
             } else {
                 n as u64
             }

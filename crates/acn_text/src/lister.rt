@@ -4,6 +4,7 @@ ghost use Rattle.acn_grammar.specs.Leaves.{text_fine};
 ghost use Rattle.acn_grammar.specs.Meets.{text_breach};
 ghost use Rattle.acn_text.specs.Texts.{TextCode, given_size};
 ghost use Rattle.acn_text.specs.Steps.{SizeFits, NumbersFit, size_bits, character_bits, text_bits};
+ghost use Rattle.acn_bits.specs.declared.word.TheConstants.{WORD_BITS};
 
 use crate::alphabet::number_of;
 use acn_grammar::{Pattern, SizeRule, TextLeaf};
@@ -12,7 +13,7 @@ use std::alloc::Global;
 
 /// Adds the lowest bits of a number.
 fn add_number(list: &mut BitList, width: u32, v: u64) -> Result<(), NoMemory>
-    requires { width ≤ 64 }
+    requires { width ≤ WORD_BITS }
     ensures { OnOk result (list.new ≡ list.old ++ low_bits width v) }
 {
     for i in 0..width {
@@ -36,7 +37,7 @@ fn add_size(list: &mut BitList, rule: &SizeRule, n: u64) -> Result<(), NoMemory>
 /// Adds characters.
 fn add_characters(list: &mut BitList, leaf: &TextLeaf, text: &[u8]) -> Result<(), NoMemory>
     requires fine { IsTrue (text_fine leaf.now) }
-    requires width { leaf.now.width ≤ 64 }
+    requires width { leaf.now.width ≤ WORD_BITS }
     requires fit { NumbersFit leaf.now text.now }
     ensures { OnOk result (list.new ≡ list.old ++ character_bits leaf.now text.now) }
 {

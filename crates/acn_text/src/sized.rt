@@ -7,6 +7,8 @@ ghost use Rattle.acn_grammar.specs.Leaves.{text_fine};
 ghost use Rattle.acn_grammar.specs.ReadFaults.{reason_of};
 ghost use Rattle.acn_text.specs.Texts.{IsGiven};
 ghost use Rattle.acn_text.specs.Steps.{RuleFits, SizeTaken, SizeMissing, NoSizeAt, NoCharacter, IsCharacter, PassedCharacters, NoCharactersAt};
+ghost use Rattle.acn_bits.specs.declared.word.TheConstants.{WORD_BITS};
+ghost use Rattle.acn_num.specs.declared.limits.TheConstants.{MOST_SIZE};
 
 use crate::alphabet::{character_of, is_in};
 use acn_bits::ReadCursor;
@@ -64,7 +66,7 @@ pub fn read_size(
 /// The character that the next bits stand for.
 fn read_character(cur: &mut ReadCursor<'_>, leaf: &TextLeaf) -> Option<u8>
     requires fine { IsTrue (text_fine leaf.now) }
-    requires width { leaf.now.width ≤ 64 }
+    requires width { leaf.now.width ≤ WORD_BITS }
     requires room { leaf.now.width ≤ length cur.old.rest }
     ensures moved { cur.new ≡ passed leaf.now.width cur.old }
     ensures character { MatchOption result (NoCharacter leaf.now (number (take leaf.now.width cur.old.rest))) (λ c. IsCharacter leaf.now c (number (take leaf.now.width cur.old.rest))) }
@@ -84,7 +86,7 @@ pub fn read_characters<F: FnMut(u8)>(
 ) -> Result<(), ReadFault>
     requires fine { IsTrue (text_fine leaf.now) }
     requires sized { leaf.now.ended ≡ None }
-    requires few { n ≤ 65536 }
+    requires few { n ≤ MOST_SIZE }
     requires callable { F.IsAlwaysCallable each.old }
     ensures read { OnOk result (PassedCharacters leaf.now (λ cs. FoldsTo (λ p c q. F.step p c tt q) each.old cs each.new) cur.old cur.new n) }
     ensures wrong { IfErr result (λ e. NoCharactersAt leaf.now n cur.old.rest (reason_of e)) }

@@ -6,6 +6,7 @@ ghost use Rattle.acn_grammar.specs.Length.{text_length, rule_width};
 ghost use Rattle.acn_grammar.specs.Meets.{text_breach};
 ghost use Rattle.acn_text.specs.Texts.{TextCode, given_size};
 ghost use Rattle.acn_text.specs.Steps.{SizeFits, NumbersFit, size_bits, character_bits};
+ghost use Rattle.acn_bits.specs.declared.word.TheConstants.{WORD_BITS};
 
 use crate::alphabet::number_of;
 use acn_bits::WriteCursor;
@@ -28,7 +29,7 @@ fn put_size<const N: usize>(cur: &mut WriteCursor<'_, N>, rule: &SizeRule, n: u6
 /// Writes characters.
 fn put_characters<const N: usize>(cur: &mut WriteCursor<'_, N>, leaf: &TextLeaf, text: &[u8])
     requires fine { IsTrue (text_fine leaf.now) }
-    requires width { leaf.now.width ≤ 64 }
+    requires width { leaf.now.width ≤ WORD_BITS }
     requires fit { NumbersFit leaf.now text.now }
     requires room { place_of cur.old + leaf.now.width * length text.now ≤ 8 * N }
     ensures { Writes cur.old cur.new (place_of cur.old) (character_bits leaf.now text.now) (place_of cur.old + leaf.now.width * length text.now) }

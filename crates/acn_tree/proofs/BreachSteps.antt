@@ -6,7 +6,7 @@ use Rattle.acn_tree.specs.Breaches.{first, why_of, place_breaches}
 use Rattle.acn_grammar.specs.Grammar.{Grammar, Data, element_count, node, list, list_of}
 use Rattle.acn_grammar.specs.Meets.{Unfit, Why, at_path, size_breach, first_of, breaches, run_breaches, form_breaches, field_breaches, alternative_breaches}
 use Rattle.acn_tree.specs.Room.{HasRoom, FieldsHaveRoom, AlternativesHaveRoom, field_count}
-use Rattle.acn_grammar.specs.View.{OneField, alternative_of, a_component, an_inserted, with_field, data_of, grammar_of, form_of, field_of, fields_view, places_view, elements_view, alternatives_view}
+use Rattle.acn_grammar.specs.View.{OneField, a_component, an_inserted, with_field, data_of, grammar_of, form_of, field_of, fields_view, places_view, elements_view, alternatives_view}
 use Rattle.acn_tree.specs.declared.breach.Breach.{Breach}
 use Rattle.acn_grammar.specs.declared.node.Alternative.{Alternative}
 use Rattle.acn_grammar.specs.declared.node.Body.{Seq as Seq_body, List as List_body, the_lemmas as node_lemmas}
@@ -17,6 +17,7 @@ use Rattle.acn_grammar.specs.declared.node.Presence.{Presence}
 use Rattle.acn_grammar.specs.declared.node.Seq.{Seq as SeqNode}
 use Rattle.acn_grammar.specs.declared.value.Value.{Value, List as List_value, the_lemmas as value_lemmas}
 use Rattle.acn_grammar.proofs.Views.{view_node, view_seq_form, view_component, view_inserted}
+use Rattle.acn_grammar.proofs.Intervals.{alternative_of-grammar}
 
 -- The first of two lists in turn.
 
@@ -114,12 +115,9 @@ pub room-rest : (k : ℕ) (f : OneField) (fs : List Field) → FieldsHaveRoom k 
 room-rest k (a_component name g presence default own) fs r = r.1
 room-rest k (an_inserted name g slot) fs r = r.1
 
-alternative-grammar : (a : Alternative) → (alternative_of a).grammar ≡ grammar_of a.node
-alternative-grammar a = search (rules, node_lemmas)
-
 pub room-alternative : (k : ℕ) (as' : List Alternative) (i : ℕ) (a : Alternative) → i < length as' → AlternativesHaveRoom k (alternatives_view as') → HasRoom k (grammar_of (get_or as' i a).node)
 room-alternative k [] i a h r = absurd (omega arith)
-room-alternative k (x ∷ xs) zero a h r = subst (HasRoom k) (alternative-grammar x) r.0
+room-alternative k (x ∷ xs) zero a h r = subst (HasRoom k) (alternative_of-grammar x) r.0
 room-alternative k (x ∷ xs) (suc i) a h r = room-alternative k xs i a (omega arith) r.1
 
 pub room-chosen : (k : ℕ) (as' : List Alternative) (i : ℕ) (a : Alternative) → i < length as' → a ≡ get_or as' i a → AlternativesHaveRoom k (alternatives_view as') → HasRoom k (grammar_of a.node)

@@ -7,7 +7,7 @@ use Rattle.std.proofs.Math.Nat.{pow-le-pow_right, pow-succ'}
 use Rattle.acn_num.specs.Bits.{number, weight}
 use Rattle.acn_grammar.specs.Asks.{same_name}
 use Rattle.acn_grammar.specs.Spell.{octet_numbers}
-use Rattle.acn_grammar.proofs.Numbers.{number-below}
+use Rattle.acn_num.proofs.BitLists.{number_below}
 
 -- two texts from a place on
 pub same_name-turn : (xs ys : List ℕ) (k : ℕ) → k < length xs → k < length ys → same_name (drop k xs) (drop k ys) ≡ (nat_eq (get_or xs k 0) (get_or ys k 0) && same_name (drop (k + 1) xs) (drop (k + 1) ys))
@@ -63,15 +63,11 @@ ends-turn zs ys i k h l =
 
 pub octet-small : (bs : List Bool) (i : ℕ) → i < 8 → i ≤ length bs → number (take i bs) < 128
 octet-small bs i h l =
-    let b = number-below (take i bs) in
+    let b = number_below (take i bs) in
     let n : length (take i bs) ≡ i = grind (arith, common_steps) in
     let p = pow-le-pow_right {n = 2} (omega arith) {i = i} {j = 7} (omega arith) in
     let m : 2 ^ length (take i bs) ≡ 2 ^ i = ap (λ x. 2 ^ x) n in
     omega arith
-
-pub weight-small : (b : Bool) → weight b < 2
-weight-small true = omega arith
-weight-small false = omega arith
 
 pub octets-turn : (bs : List Bool) (at next n : ℕ) (o : ℕ) → at + 8 ≡ next → next ≤ length bs → n ≡ 8 → o ≡ number (take n (drop at bs)) → octet_numbers (drop at bs) ≡ o ∷ octet_numbers (drop next bs)
 octets-turn bs at next n o e l m is =

@@ -1,5 +1,5 @@
 -- What is drawn from a set is in it.
-use Rattle.std.proofs.Common.{◌≡◌, ℕ, ◌-◌, ◌<◌, ◌≤◌, ℤ, pos, ◌+ℤ◌, ◌≤ℤ◌, ◌<ℤ◌, Bool, true, false, List, [], ◌∷◌, Option, Some, length, refl, sym, arith, nat_lt, min, ◌&&◌, ◌||◌}
+use Rattle.std.proofs.Common.{◌≡◌, ℕ, ◌-◌, ◌<◌, ◌≤◌, ℤ, pos, ◌+ℤ◌, ◌≤ℤ◌, ◌<ℤ◌, Bool, true, false, List, [], ◌∷◌, Option, Some, length, refl, sym, arith, nat_lt, min, ◌&&◌}
 use Rattle.std.specs.Prelude.{int_le, int_lt, if◌then◌else◌, unwrap_or}
 use Rattle.std.proofs.lemmas.Int.{ints}
 use Rattle.std.proofs.lemmas.Bool.Decides.{nat_tests}
@@ -15,14 +15,12 @@ use Rattle.acn_grammar.specs.declared.node.NumKind.{NumKind}
 use Rattle.acn_grammar.specs.declared.node.NumKind.TheVariants.{Integer, Boolean, Enumerated, Null}
 use Rattle.acn_grammar.specs.declared.node.Table.{Table}
 use Rattle.acn_grammar.specs.declared.node.TextLeaf.{TextLeaf}
-use Rattle.acn_grammar.proofs.Texts.{either, le_fact, ranges_from}
 use Rattle.std.proofs.lemmas.Bool.{or_left, or_right, and_parts}
+use Rattle.acn_grammar.proofs.WholeTests.{le_fact, le_test, eq_fact}
+use Rattle.acn_grammar.proofs.RangeEnds.{ranges_from, lies_within}
 
 here_in : (r : ℤ × ℤ) (n : ℕ) → r.0 ≤ℤ r.1 → n < size_of r → is_in (r.0 +ℤ pos n) r ≡ true
 here_in r n o h = rw (le_test r.0 (r.0 +ℤ pos n) (omega (arith, ints)), le_test (r.0 +ℤ pos n) r.1 (omega (arith, ints)))
-  where
-    le_test : (a b : ℤ) → a ≤ℤ b → int_le a b ≡ true
-    le_test a b h = grind (arith, ints, nat_tests)
 
 place_by : (r : ℤ × ℤ) (rs : List (ℤ × ℤ)) (n : ℕ) (t : Bool) → t ≡ nat_lt n (size_of r) → r.0 ≤ℤ r.1 → (size_of r ≤ n → has rs (at_place rs (n - size_of r)) ≡ true)
     → has (r ∷ rs) (unwrap_or (if t then Some (r.0 +ℤ pos n) else nth rs (n - size_of r)) (pos 0)) ≡ true
@@ -45,21 +43,6 @@ place_above b (r ∷ rs) n h k =
 -- the number at a place below the count is in the set
 pub place_in_set : (rs : List (ℤ × ℤ)) (n : ℕ) → are_ranges rs ≡ true → n < count rs → has rs (at_place rs n) ≡ true
 place_in_set rs n h k = let b = ranges_from rs h in place_above b.0 rs n b.1 k
-
--- the numbers of a set lie between its ends
-pub lies_within : (rs : List (ℤ × ℤ)) (low high x : ℤ) → all_within low high rs ≡ true → has rs x ≡ true → (low ≤ℤ x) × (x ≤ℤ high)
-lies_within [] low high x h m = cc
-lies_within (r ∷ rs) low high x h m =
-    let a = and_parts (int_le low r.0) (int_le r.1 high && all_within low high rs) h in
-    let b = and_parts (int_le r.1 high) (all_within low high rs) a.1 in
-    either {F = (low ≤ℤ x) × (x ≤ℤ high)} (int_le r.0 x && int_le x r.1) (has rs x) m
-    (λ k. let c = and_parts (int_le r.0 x) (int_le x r.1) k in
-    let one = le_fact low r.0 a.0 in
-    let two = le_fact r.0 x c.0 in
-    let three = le_fact x r.1 c.1 in
-    let four = le_fact r.1 high b.0 in
-    (omega (arith, ints), omega (arith, ints)))
-    (λ k. lies_within rs low high x b.1 k)
 
 -- a set with a range has numbers
 pub some_numbers : (rs : List (ℤ × ℤ)) → nat_lt 0 (length rs) ≡ true → 0 < count rs
@@ -99,12 +82,6 @@ pub size_small : (sizes : List (ℤ × ℤ)) (s : ℕ) → sizes_fine sizes ≡ 
 size_small sizes s h = let f = sizes_are sizes h in lies_within sizes (pos 0) (pos 65536) (size_number sizes s) f.small (size_in sizes s f)
 
 -- Numbers.
-
-eq_fact : (x y : ℤ) → int_eq x y ≡ true → x ≡ y
-eq_fact x y h = grind (arith, ints, nat_tests)
-
-le_test : (x y : ℤ) → x ≤ℤ y → int_le x y ≡ true
-le_test x y h = grind (arith, ints, nat_tests)
 
 -- a set that is one range
 pub record OneRange (low high : ℤ) (set : List (ℤ × ℤ)) : Type 0 where

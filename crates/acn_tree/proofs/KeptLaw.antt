@@ -17,6 +17,7 @@ use Rattle.acn_grammar.proofs.SpanLaw.{Fine, FormFine, FieldsFine, AlternativesF
 use Rattle.acn_grammar.proofs.TreeRules.{tree_fine}
 use Rattle.acn_tree.proofs.RoomLaw.{some_is, after_step}
 use Rattle.acn_grammar.proofs.Views.{view_node, view_seq_form, view_component, view_inserted}
+use Rattle.acn_grammar.proofs.Intervals.{alternative_of-grammar}
 
 mutual
   kept : (g : Grammar) → Fine g → NumbersKept g
@@ -101,10 +102,7 @@ kept-component f name n presence default own e h = subst FieldKept (ap field_of 
 pub kept-inserted : (f : Field) (name : List ℕ) (n : Node) (slot : Option ℕ) → f ≡ Inserted name n slot → FieldKept (field_of f) → NumbersKept (grammar_of n)
 kept-inserted f name n slot e h = subst FieldKept (ap field_of e ∙ view_inserted name n slot) h
 
-alternative-grammar : (a : Alternative) → (alternative_of a).grammar ≡ grammar_of a.node
-alternative-grammar a = search (rules, node_lemmas)
-
 pub kept-alternative : (as' : List Alternative) (i : ℕ) (a : Alternative) → i < length as' → a ≡ get_or as' i a → AlternativesKept (alternatives_view (drop i as')) → NumbersKept (grammar_of a.node) × AlternativesKept (alternatives_view (drop (i + 1) as'))
 kept-alternative as' i a h e k =
     let r = subst (λ xs. AlternativesKept (alternatives_view xs)) (drop_more as' i a h ∙ ap (λ x. x ∷ drop (i + 1) as') (sym e)) k in
-    (subst NumbersKept (alternative-grammar a) r.0, r.1)
+    (subst NumbersKept (alternative_of-grammar a) r.0, r.1)

@@ -13,6 +13,7 @@ use Rattle.acn_grammar.specs.declared.node.Body.{the_lemmas as node_lemmas}
 use Rattle.acn_grammar.specs.declared.node.Field.{Field}
 use Rattle.acn_grammar.specs.declared.node.Presence.{Presence}
 use Rattle.std.proofs.lemmas.Bool.{and_parts}
+use Rattle.acn_grammar.proofs.Intervals.{alternative_of-grammar}
 
 -- Elements.
 
@@ -110,9 +111,6 @@ named_turn f left rest e h = named_rest f rest (subst FieldsItemsNamed e h)
 
 -- Alternatives.
 
-view_alternative : (a : Alternative) → (alternative_of a).grammar ≡ grammar_of a.node
-view_alternative a = search (rules, node_lemmas)
-
 pub count_view : (as' : List Alternative) → alternative_count (alternatives_view as') ≡ length as'
 count_view [] = refl
 count_view (a ∷ as') = ap suc (count_view as')
@@ -124,10 +122,10 @@ made_at (x ∷ xs) (suc i) s a h = made_at xs i s a (omega arith)
 
 pub can_at : (as' : List Alternative) (i : ℕ) (a : Alternative) → i < length as' → AlternativesCanDraw (alternatives_view as') → CanDraw (grammar_of (get_or as' i a).node)
 can_at [] i a h k = absurd (omega arith)
-can_at (x ∷ xs) zero a h k = subst CanDraw (view_alternative x) k.0
+can_at (x ∷ xs) zero a h k = subst CanDraw (alternative_of-grammar x) k.0
 can_at (x ∷ xs) (suc i) a h k = can_at xs i a (omega arith) k.1
 
 pub named_at : (as' : List Alternative) (i : ℕ) (a : Alternative) → i < length as' → AlternativesItemsNamed (alternatives_view as') → ItemsNamed (grammar_of (get_or as' i a).node)
 named_at [] i a h k = absurd (omega arith)
-named_at (x ∷ xs) zero a h k = subst ItemsNamed (view_alternative x) (and_parts (items_named (alternative_of x).grammar) (alternatives_items_named (alternatives_view xs)) k).0
+named_at (x ∷ xs) zero a h k = subst ItemsNamed (alternative_of-grammar x) (and_parts (items_named (alternative_of x).grammar) (alternatives_items_named (alternatives_view xs)) k).0
 named_at (x ∷ xs) (suc i) a h k = named_at xs i a (omega arith) (and_parts (items_named (alternative_of x).grammar) (alternatives_items_named (alternatives_view xs)) k).1

@@ -27,9 +27,10 @@ use Rattle.acn_grammar.specs.declared.node.Sizing.{Sizing}
 use Rattle.acn_grammar.specs.declared.node.Table.{Table}
 use Rattle.acn_grammar.specs.declared.node.TextLeaf.{TextLeaf}
 use Rattle.acn_tree.proofs.CanDrawLaw.{tree_can_draw}
-use Rattle.acn_tree.proofs.Drawn.{number_in, leaf_set, item_small, one_range, lies_within, sizes_are, size_in, size_small, size_number, alphabet_is, character_small}
+use Rattle.acn_tree.proofs.Drawn.{number_in, leaf_set, item_small, one_range, sizes_are, size_in, size_small, size_number, alphabet_is, character_small}
 use Rattle.acn_grammar.proofs.FineLeaves.{rules_of}
 use Rattle.std.proofs.lemmas.Bool.{lt-ltb, and_parts}
+use Rattle.acn_grammar.proofs.RangeEnds.{lies_within}
 
 -- Parts.
 

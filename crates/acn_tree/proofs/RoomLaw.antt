@@ -1,10 +1,8 @@
 -- In a well-formed tree each path can be written down, and so it can below each of its nodes.
-use Rattle.std.proofs.Common.{◌≡◌, ℕ, zero, suc, ◌+◌, ◌<◌, ◌≤◌, ℤ, pos, Bool, true, false, List, [], ◌∷◌, ◌++◌, length, Option, Some, None, refl, sym, ap, subst, ◌∙◌, arith, nat_le, nat_lt, ◌&&◌, ◌||◌, length-append}
-use Rattle.std.specs.Prelude.{int_le, ◌≤ℤ◌}
+use Rattle.std.proofs.Common.{◌≡◌, ℕ, zero, suc, ◌+◌, ◌<◌, ◌≤◌, pos, Bool, true, List, [], ◌∷◌, ◌++◌, length, Option, Some, None, refl, sym, ap, subst, ◌∙◌, arith, nat_le, nat_lt, ◌&&◌, length-append}
 use Rattle.std.specs.List.{list_all, range_with_len}
-use Rattle.std.proofs.lemmas.Bool.Decides.{nat_tests}
 use Rattle.std.proofs.lemmas.Int.{ints}
-use Rattle.acn_num.specs.Ranges.{has, are_ranges, all_within}
+use Rattle.acn_num.specs.Ranges.{are_ranges, all_within}
 use Rattle.acn_grammar.specs.Grammar.{Grammar, Form, Fields, Alternatives, node, num, octets, bits, text, seq, list, choice, contained, no_fields, component, inserted, no_alternatives, alternative}
 use Rattle.acn_grammar.specs.Leaves.{list_fine, list_rule_fine, sizes_fine}
 use Rattle.acn_grammar.specs.Length.{ending}
@@ -15,31 +13,15 @@ use Rattle.acn_grammar.specs.Walk.{Stand, Role, component_role, an_inserted, alt
 use Rattle.acn_grammar.specs.declared.node.ChoiceRule.{ChoiceRule}
 use Rattle.acn_grammar.specs.declared.node.Sizing.{Sizing}
 use Rattle.acn_grammar.proofs.TreeRules.{stand_fine, list_all-append}
-use Rattle.acn_grammar.proofs.Within.{between}
 use Rattle.std.proofs.lemmas.Bool.{leb-true, and_parts}
-
-or_cases : {F : Type 0} (a b : Bool) → (a || b) ≡ true → (a ≡ true → F) → (b ≡ true → F) → F
-or_cases true b h f g = f refl
-or_cases false b h f g = g h
-
-within_end : (rs : List (ℤ × ℤ)) (low high x : ℤ) → all_within low high rs ≡ true → has rs x ≡ true → x ≤ℤ high
-within_end [] low high x h m = cc
-within_end (r ∷ rs) low high x h m =
-    let a = and_parts (int_le low r.0) (int_le r.1 high && all_within low high rs) h in
-    let b = and_parts (int_le r.1 high) (all_within low high rs) a.1 in
-    or_cases {F = x ≤ℤ high} (int_le r.0 x && int_le x r.1) (has rs x) m
-    (λ k. under x r.1 high (between r.0 r.1 x k).1 b.0)
-    (λ k. within_end rs low high x b.1 k)
-  where
-    under : (x y z : ℤ) → x ≤ℤ y → int_le y z ≡ true → x ≤ℤ z
-    under x y z h k = grind (arith, ints, nat_tests)
+use Rattle.acn_grammar.proofs.RangeEnds.{lies_within}
 
 small_sizes : (sizing : Sizing) → list_fine sizing ≡ true → SizesAreSmall sizing
 small_sizes sizing h n m =
     let a = and_parts (sizes_fine sizing.sizes) (list_rule_fine (ending sizing.rule) sizing) h in
     let b = and_parts (nat_lt 0 (length sizing.sizes)) (are_ranges sizing.sizes && all_within (pos 0) (pos 65536) sizing.sizes) a.0 in
     let c = and_parts (are_ranges sizing.sizes) (all_within (pos 0) (pos 65536) sizing.sizes) b.1 in
-    let e = within_end sizing.sizes (pos 0) (pos 65536) (pos n) c.1 m in
+    let e = (lies_within sizing.sizes (pos 0) (pos 65536) (pos n) c.1 m).1 in
     omega (arith, ints)
 
 one_longer : (path : List ℕ) (k : ℕ) → length (path ++ k ∷ []) ≡ suc (length path)

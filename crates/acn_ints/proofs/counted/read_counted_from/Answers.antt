@@ -1,4 +1,4 @@
-use Rattle.acn_ints.proofs.SaidLemmas.{taken_stays, few_stays, stays_twice}
+use Rattle.acn_ints.proofs.SaidLemmas.{taken_stays, few_stays}
 use Rattle.std.proofs.Common.{arith, ap, pos, nat_abs, ◌*◌, ◌+ℤ◌}
 use Rattle.std.proofs.lemmas.Int.{ints}
 use Rattle.acn_ints.proofs.CountedCodes.{parts_of, from_said, count_not_minimal, count_wrong, body_short}
@@ -6,6 +6,7 @@ use Rattle.acn_num.specs.Bits.{number}
 use Rattle.acn_grammar.specs.Length.{least_octets}
 use Rattle.acn_grammar.specs.ReadFaults.{reason_of}
 use Rattle.acn_ints.proofs.counted.read_counted_from.Goals as goal
+use Rattle.acn_bits.proofs.Readings.{stays_twice}
 
 pub returns-then-octets_for-c-clause-stays : goal.returns-then-octets_for-c-clause-stays
 returns-then-octets_for-c-clause-stays c =

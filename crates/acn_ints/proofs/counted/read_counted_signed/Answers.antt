@@ -1,4 +1,4 @@
-use Rattle.acn_ints.proofs.SaidLemmas.{taken_stays, few_stays, stays_twice}
+use Rattle.acn_ints.proofs.SaidLemmas.{taken_stays, few_stays}
 use Rattle.std.proofs.Common.{arith, ◌*◌, sym, ◌∙◌}
 use Rattle.std.proofs.lemmas.Int.{to_z-of_z}
 use Rattle.std.specs.Int.{w128}
@@ -7,6 +7,7 @@ use Rattle.acn_grammar.specs.Length.{least_signed_octets}
 use Rattle.acn_ints.proofs.CountedCodes.{parts_of, signed_said, count_not_minimal, count_wrong, body_short}
 use Rattle.acn_grammar.specs.ReadFaults.{reason_of}
 use Rattle.acn_ints.proofs.counted.read_counted_signed.Goals as goal
+use Rattle.acn_bits.proofs.Readings.{stays_twice}
 
 pub returns-then-signed_octets_for-c-clause-stays : goal.returns-then-signed_octets_for-c-clause-stays
 returns-then-signed_octets_for-c-clause-stays c =

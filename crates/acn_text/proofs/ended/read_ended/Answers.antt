@@ -6,12 +6,13 @@ use Rattle.acn_grammar.specs.ReadFaults.{reason_of}
 use Rattle.acn_text.specs.Texts.{PassedText, NoTextAt}
 use Rattle.acn_text.proofs.Calls.{folds_append}
 use Rattle.acn_text.proofs.EndedReads.{at_start, seen_below, one_further, now_stays, found_wrong, text_found, ran_short, ran_long, no_room, found_at, refused_at}
-use Rattle.acn_text.proofs.Fine.{fine_text, fine_end}
+use Rattle.acn_text.proofs.Fine.{fine_end}
 use Rattle.acn_text.proofs.ended.read_ended.Goals as goal
+use Rattle.acn_grammar.proofs.TextRules.{text_rules}
 
 pub returns-in-Err-clause-wrong : goal.returns-in-Err-clause-wrong
 returns-in-Err-clause-wrong g c =
-    let f = fine_end c.args.leaf.now c.args.end.now (fine_text c.args.leaf.now c.requires.fine) c.requires.ended in
+    let f = fine_end c.args.leaf.now c.args.end.now (text_rules c.args.leaf.now c.requires.fine) c.requires.ended in
     no_room c.args.leaf.now c.args.end.now c.args.cur.now.rest f c.requires.ended (rw c.bits.ensures.same at c.in-Err.ensures.short)
 
 pub loop-n-init : goal.loop-n-init
@@ -21,7 +22,7 @@ loop-n-init g c =
 
 pub first_octet-requires-clause-low : goal.first_octet-requires-clause-low
 first_octet-requires-clause-low g c =
-    let f = fine_end c.args.leaf.now c.args.end.now (fine_text c.args.leaf.now c.requires.fine) c.requires.ended in
+    let f = fine_end c.args.leaf.now c.args.end.now (text_rules c.args.leaf.now c.requires.fine) c.requires.ended in
     let same = ap length c.bits.ensures.same in
     let o = f.octets in
     let s = f.some in
@@ -29,7 +30,7 @@ first_octet-requires-clause-low g c =
 
 pub next_seen-requires-clause-low : goal.next_seen-requires-clause-low
 next_seen-requires-clause-low g c =
-    let f = fine_end c.args.leaf.now c.args.end.now (fine_text c.args.leaf.now c.requires.fine) c.requires.ended in
+    let f = fine_end c.args.leaf.now c.args.end.now (text_rules c.args.leaf.now c.requires.fine) c.requires.ended in
     let same = ap length c.bits.ensures.same in
     let o = f.octets in
     let s = f.some in
@@ -37,20 +38,20 @@ next_seen-requires-clause-low g c =
 
 pub first_octet-requires-clause-fits : goal.first_octet-requires-clause-fits
 first_octet-requires-clause-fits g c =
-    let f = fine_end c.args.leaf.now c.args.end.now (fine_text c.args.leaf.now c.requires.fine) c.requires.ended in
+    let f = fine_end c.args.leaf.now c.args.end.now (text_rules c.args.leaf.now c.requires.fine) c.requires.ended in
     let b = seen_below c.args.leaf.now c.args.end.now f (λ cs. FoldsTo (λ p x q. goal.F-step g p x tt q) c.args.each.now cs c.loop-n.each) c.args.cur.now c.loop-n.cur c.loop-n.n c.loop-n.seen c.loop-n.fine c.loop-n.invariant.1 in
     rw c.bits.ensures.same b
 
 pub returns-then-seen-mark-clause-read : goal.returns-then-seen-mark-clause-read
 returns-then-seen-mark-clause-read g c =
-    let f = fine_end c.args.leaf.now c.args.end.now (fine_text c.args.leaf.now c.requires.fine) c.requires.ended in
+    let f = fine_end c.args.leaf.now c.args.end.now (text_rules c.args.leaf.now c.requires.fine) c.requires.ended in
     let is = c.if-seen-mark.true ∙ (c.pattern_number-mark.ensures ∙ ap number c.bits-2.ensures.same) in
     found_at c.finished.result c.loop-n.n (PassedText c.args.leaf.now None (λ cs. FoldsTo (λ p x q. goal.F-step g p x tt q) c.args.each.now cs c.loop-n.each) c.args.cur.now c.loop-n.cur) c.finished.ensures.size c.finished.ensures.permitted c.finished.ensures.fine
     (text_found c.args.leaf.now c.args.end.now f (λ cs. FoldsTo (λ p x q. goal.F-step g p x tt q) c.args.each.now cs c.loop-n.each) c.args.cur.now c.loop-n.cur c.loop-n.n c.loop-n.seen c.loop-n.fine c.loop-n.invariant.1 c.requires.ended is)
 
 pub returns-then-seen-mark-clause-wrong : goal.returns-then-seen-mark-clause-wrong
 returns-then-seen-mark-clause-wrong g c =
-    let f = fine_end c.args.leaf.now c.args.end.now (fine_text c.args.leaf.now c.requires.fine) c.requires.ended in
+    let f = fine_end c.args.leaf.now c.args.end.now (text_rules c.args.leaf.now c.requires.fine) c.requires.ended in
     let is = c.if-seen-mark.true ∙ (c.pattern_number-mark.ensures ∙ ap number c.bits-2.ensures.same) in
     let value = c.most_characters-most.ensures.value in
     let below = c.loop-n-test.true in
@@ -59,12 +60,12 @@ returns-then-seen-mark-clause-wrong g c =
 
 pub returns-then-seen-mark-clause-stays : goal.returns-then-seen-mark-clause-stays
 returns-then-seen-mark-clause-stays g c =
-    let f = fine_end c.args.leaf.now c.args.end.now (fine_text c.args.leaf.now c.requires.fine) c.requires.ended in
+    let f = fine_end c.args.leaf.now c.args.end.now (text_rules c.args.leaf.now c.requires.fine) c.requires.ended in
     stays_at c.finished.result _ (now_stays c.args.leaf.now c.args.end.now f (λ cs. FoldsTo (λ p x q. goal.F-step g p x tt q) c.args.each.now cs c.loop-n.each) c.args.cur.now c.loop-n.cur c.loop-n.n c.loop-n.seen c.loop-n.fine c.loop-n.invariant.1)
 
 pub returns-in-Err-next_seen-clause-wrong : goal.returns-in-Err-next_seen-clause-wrong
 returns-in-Err-next_seen-clause-wrong g c =
-    let f = fine_end c.args.leaf.now c.args.end.now (fine_text c.args.leaf.now c.requires.fine) c.requires.ended in
+    let f = fine_end c.args.leaf.now c.args.end.now (text_rules c.args.leaf.now c.requires.fine) c.requires.ended in
     let mark = c.pattern_number-mark.ensures ∙ ap number c.bits-2.ensures.same in
     let value = c.most_characters-most.ensures.value in
     let below = c.loop-n-test.true in
@@ -73,7 +74,7 @@ returns-in-Err-next_seen-clause-wrong g c =
 
 pub returns-in-Err-next_seen-clause-stays : goal.returns-in-Err-next_seen-clause-stays
 returns-in-Err-next_seen-clause-stays g c =
-    let f = fine_end c.args.leaf.now c.args.end.now (fine_text c.args.leaf.now c.requires.fine) c.requires.ended in
+    let f = fine_end c.args.leaf.now c.args.end.now (text_rules c.args.leaf.now c.requires.fine) c.requires.ended in
     rw c.in-Err-next_seen.ensures.kept (now_stays c.args.leaf.now c.args.end.now f (λ cs. FoldsTo (λ p x q. goal.F-step g p x tt q) c.args.each.now cs c.loop-n.each) c.args.cur.now c.loop-n.cur c.loop-n.n c.loop-n.seen c.loop-n.fine c.loop-n.invariant.1)
 
 pub returns-in-Err-next_seen-clause-given : goal.returns-in-Err-next_seen-clause-given
@@ -84,7 +85,7 @@ returns-in-Err-next_seen-clause-given g c =
 
 pub loop-n-preserved : goal.loop-n-preserved
 loop-n-preserved g c =
-    let f = fine_end c.args.leaf.now c.args.end.now (fine_text c.args.leaf.now c.requires.fine) c.requires.ended in
+    let f = fine_end c.args.leaf.now c.args.end.now (text_rules c.args.leaf.now c.requires.fine) c.requires.ended in
     let mark = c.pattern_number-mark.ensures ∙ ap number c.bits-2.ensures.same in
     let more = c.give-fine.ensures.given in (
       c.give-fine.ensures.callable,
@@ -97,7 +98,7 @@ loop-n-preserved g c =
 
 pub returns-then-seen-mark-2-clause-wrong : goal.returns-then-seen-mark-2-clause-wrong
 returns-then-seen-mark-2-clause-wrong g c =
-    let f = fine_end c.args.leaf.now c.args.end.now (fine_text c.args.leaf.now c.requires.fine) c.requires.ended in
+    let f = fine_end c.args.leaf.now c.args.end.now (text_rules c.args.leaf.now c.requires.fine) c.requires.ended in
     let mark = c.pattern_number-mark.ensures ∙ ap number c.bits-2.ensures.same in
     let value = c.most_characters-most.ensures.value in
     let over = c.loop-n-test.false in
@@ -106,12 +107,12 @@ returns-then-seen-mark-2-clause-wrong g c =
 
 pub returns-then-seen-mark-2-clause-stays : goal.returns-then-seen-mark-2-clause-stays
 returns-then-seen-mark-2-clause-stays g c =
-    let f = fine_end c.args.leaf.now c.args.end.now (fine_text c.args.leaf.now c.requires.fine) c.requires.ended in
+    let f = fine_end c.args.leaf.now c.args.end.now (text_rules c.args.leaf.now c.requires.fine) c.requires.ended in
     now_stays c.args.leaf.now c.args.end.now f (λ cs. FoldsTo (λ p x q. goal.F-step g p x tt q) c.args.each.now cs c.loop-n.each) c.args.cur.now c.loop-n.cur c.loop-n.n c.loop-n.seen c.loop-n.fine c.loop-n.invariant.1
 
 pub returns-clause-read : goal.returns-clause-read
 returns-clause-read g c =
-    let f = fine_end c.args.leaf.now c.args.end.now (fine_text c.args.leaf.now c.requires.fine) c.requires.ended in
+    let f = fine_end c.args.leaf.now c.args.end.now (text_rules c.args.leaf.now c.requires.fine) c.requires.ended in
     let is = c.if-seen-mark-2.false ∙ (c.pattern_number-mark.ensures ∙ ap number c.bits-2.ensures.same) in
     let over = c.loop-n-test.false in
     let upto = c.loop-n.auto.n-end in
@@ -121,7 +122,7 @@ returns-clause-read g c =
 
 pub returns-clause-wrong : goal.returns-clause-wrong
 returns-clause-wrong g c =
-    let f = fine_end c.args.leaf.now c.args.end.now (fine_text c.args.leaf.now c.requires.fine) c.requires.ended in
+    let f = fine_end c.args.leaf.now c.args.end.now (text_rules c.args.leaf.now c.requires.fine) c.requires.ended in
     let is = c.if-seen-mark-2.false ∙ (c.pattern_number-mark.ensures ∙ ap number c.bits-2.ensures.same) in
     let value = c.most_characters-most.ensures.value in
     let over = c.loop-n-test.false in
@@ -132,5 +133,5 @@ returns-clause-wrong g c =
 
 pub returns-clause-stays : goal.returns-clause-stays
 returns-clause-stays g c =
-    let f = fine_end c.args.leaf.now c.args.end.now (fine_text c.args.leaf.now c.requires.fine) c.requires.ended in
+    let f = fine_end c.args.leaf.now c.args.end.now (text_rules c.args.leaf.now c.requires.fine) c.requires.ended in
     stays_at c.finished-2.result _ (now_stays c.args.leaf.now c.args.end.now f (λ cs. FoldsTo (λ p x q. goal.F-step g p x tt q) c.args.each.now cs c.loop-n.each) c.args.cur.now c.loop-n.cur c.loop-n.n c.loop-n.seen c.loop-n.fine c.loop-n.invariant.1)

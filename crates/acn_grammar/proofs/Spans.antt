@@ -9,7 +9,11 @@ use Rattle.acn_grammar.specs.declared.bounds.Bounds.{Bounds}
 use Rattle.acn_grammar.specs.declared.node.Presence.{Presence}
 use Rattle.acn_grammar.specs.declared.node.Presence.TheVariants.{Always, Bit, When}
 use Rattle.acn_grammar.proofs.Monotone.{Has}
-use Rattle.acn_grammar.proofs.SpanLaw.{Between}
+
+-- The least is no more than the number, and the greatest no less, where it isn't held down.
+pub record Between (b : Bounds) (n : ℕ) : Type 0 where
+  pub low : b.least ≤ n
+  pub high : b.greatest < 2 ^ 40 → n ≤ b.greatest
 
 pub exactly_spans : (n : ℕ) → Between (exactly n) n
 exactly_spans n = record { low = omega arith; high = λ h. omega arith }

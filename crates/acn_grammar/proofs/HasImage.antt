@@ -1,38 +1,34 @@
 -- Every permitted number of a leaf that keeps its rules has an image.
-use Rattle.std.proofs.Common.{◌≡◌, ℕ, suc, ◌+◌, ◌<◌, ◌≤◌, ℤ, pos, ◌+ℤ◌, Bool, true, false, not, List, [], ◌∷◌, ◌++◌, Option, Some, None, refl, sym, ap, ◌∙◌, arith, inl, inr, ◌⊎◌, nat_eq, ◌&&◌}
-use Rattle.std.proofs.lemmas.Bool.{or_parts, and_parts, not-true, eqb-true}
-use Rattle.std.specs.Prelude.{◌-ℤ◌, ◌≤ℤ◌, ◌<ℤ◌, int_le, int_lt, nat_abs, if◌then◌else◌}
+use Rattle.std.proofs.Common.{◌≡◌, ℕ, suc, ◌+◌, ◌<◌, ◌≤◌, ℤ, pos, ◌+ℤ◌, Bool, true, false, not, List, [], ◌∷◌, ◌++◌, Option, Some, None, refl, sym, ap, ◌∙◌, arith, inl, inr, ◌⊎◌, nat_eq, ◌&&◌, zero, ◌-◌, negsuc, length, IsTrue}
+use Rattle.std.proofs.lemmas.Bool.{or_parts, and_parts, not-true, eqb-true, ltb-true}
+use Rattle.std.specs.Prelude.{◌-ℤ◌, ◌≤ℤ◌, ◌<ℤ◌, int_le, int_lt, nat_abs, if◌then◌else◌, nat_lt, slice_get, option_map}
 use Rattle.std.specs.Int.{int_max, int_min}
 use Rattle.std.specs.List.{list_all, list_any, flat_map}
 use Rattle.std.proofs.lemmas.Int.{ints}
 use Rattle.std.proofs.lemmas.Bool.Decides.{nat_tests}
-use Rattle.acn_num.specs.Ranges.{has, are_ranges, are_ranges_above, count, size_of}
-use Rattle.acn_grammar.specs.Code.{on_line, image_in, image_by}
-use Rattle.acn_grammar.specs.Images.{clipped, images_by}
-use Rattle.acn_grammar.specs.Leaves.{line_fine, share, all_differ, table_fine, has_size}
+use Rattle.acn_num.specs.Ranges.{has, are_ranges, are_ranges_above, count, size_of, In}
+use Rattle.acn_grammar.specs.Code.{on_line, image_in, image_by, image_of, item_number}
+use Rattle.acn_grammar.specs.Images.{clipped, images_by, ends}
+use Rattle.acn_grammar.specs.Leaves.{line_fine, share, all_differ, table_fine, has_size, set_fine, num_fine, is_range, integer_set_fine, no_items, items_fine}
 use Rattle.acn_grammar.specs.declared.node.NumCoding.{NumCoding}
 use Rattle.acn_grammar.specs.declared.node.Table.{Table}
-use Rattle.acn_grammar.proofs.LeafLengths.{le_fact}
-use Rattle.acn_grammar.proofs.Texts.{either}
-
-le_not : (a b : ℤ) → int_le a b ≡ false → b <ℤ a
-le_not a b h = grind (arith, ints, nat_tests)
-
-le_true : (a b : ℤ) → a ≤ℤ b → int_le a b ≡ true
-le_true a b h = grind (arith, ints, nat_tests)
+use Rattle.acn_grammar.proofs.WholeTests.{either, le_fact, gt_fact, le_test, gt_test, eq_fact}
+use Rattle.std.specs.Ordering.{int_eq}
+use Rattle.acn_grammar.specs.declared.node.Items.{Items}
+use Rattle.acn_grammar.specs.declared.node.NumKind.{NumKind}
+use Rattle.acn_grammar.specs.declared.node.NumKind.TheVariants.{Integer, Boolean, Enumerated, Null}
+use Rattle.acn_grammar.specs.declared.node.NumLeaf.{NumLeaf}
+use Rattle.acn_grammar.proofs.FineLeaves.{rules_of, no_values}
 
 -- how many numbers lie from a to b
 abbrev span_of : ℤ → ℤ → ℕ
 span_of a b = if int_le a b then suc (nat_abs (b -ℤ a)) else 0
 
 span-some : (a b : ℤ) → a ≤ℤ b → pos (span_of a b) ≡ (b -ℤ a) +ℤ pos 1
-span-some a b h = rw (le_true a b h) (omega (arith, ints))
-
-le_false : (a b : ℤ) → b <ℤ a → int_le a b ≡ false
-le_false a b h = grind (arith, ints, nat_tests)
+span-some a b h = rw (le_test a b h) (omega (arith, ints))
 
 span-none : (a b : ℤ) → b <ℤ a → span_of a b ≡ 0
-span-none a b h = rw (le_false a b h) refl
+span-none a b h = rw (gt_test a b h) refl
 
 max_left : (a b : ℤ) → a ≤ℤ int_max a b
 max_left a b = grind (arith, ints, nat_tests)
@@ -77,8 +73,8 @@ pub key_sides : (l m : Line) → share l m ≡ false → (m.1 <ℤ l.0) ⊎ (l.1
 key_sides l m h = by (not_both (int_le l.0 m.1) (int_le m.0 l.1) (or_parts (int_le l.0 m.1 && int_le m.0 l.1) (int_le l.2 (m.2 +ℤ (m.1 -ℤ m.0)) && int_le m.2 (l.2 +ℤ (l.1 -ℤ l.0))) h).0)
   where
     by : (int_le l.0 m.1 ≡ false) ⊎ (int_le m.0 l.1 ≡ false) → (m.1 <ℤ l.0) ⊎ (l.1 <ℤ m.0)
-    by (inl e) = inl (le_not l.0 m.1 e)
-    by (inr e) = inr (le_not m.0 l.1 e)
+    by (inl e) = inl (gt_fact l.0 m.1 e)
+    by (inr e) = inr (gt_fact m.0 l.1 e)
 
 -- what a line has from a to b stands on one side of another line
 split_one : (a b c d l0 l1 m0 m1 : ℤ) → a ≤ℤ c → l0 ≤ℤ c → d ≤ℤ b → d ≤ℤ l1 → c ≤ℤ d → (m1 <ℤ l0) ⊎ (l1 <ℤ m0)
@@ -124,14 +120,14 @@ parts_sum a b c d p q r s ac db cd e f g h =
       where
         by : (t : Bool) → int_le a (c -ℤ pos 1) ≡ t → pos (span_of a (c -ℤ pos 1)) ≡ c -ℤ a
         by true e = span-some a (c -ℤ pos 1) (le_fact a (c -ℤ pos 1) e) ∙ omega (arith, ints)
-        by false e = let k = le_not a (c -ℤ pos 1) e in ap (λ n. pos n) (span-none a (c -ℤ pos 1) k) ∙ omega (arith, ints)
+        by false e = let k = gt_fact a (c -ℤ pos 1) e in ap (λ n. pos n) (span-none a (c -ℤ pos 1) k) ∙ omega (arith, ints)
 
     high_part : (d b : ℤ) → d ≤ℤ b → pos (span_of (d +ℤ pos 1) b) ≡ b -ℤ d
     high_part d b h = by (int_le (d +ℤ pos 1) b) refl
       where
         by : (t : Bool) → int_le (d +ℤ pos 1) b ≡ t → pos (span_of (d +ℤ pos 1) b) ≡ b -ℤ d
         by true e = span-some (d +ℤ pos 1) b (le_fact (d +ℤ pos 1) b e) ∙ omega (arith, ints)
-        by false e = let k = le_not (d +ℤ pos 1) b e in ap (λ n. pos n) (span-none (d +ℤ pos 1) b k) ∙ omega (arith, ints)
+        by false e = let k = gt_fact (d +ℤ pos 1) b e in ap (λ n. pos n) (span-none (d +ℤ pos 1) b k) ∙ omega (arith, ints)
 
 -- the keys from a to b are no more than the numbers there
 keys_few : (ls : List Line) (a b : ℤ) → all_differ share ls ≡ true → total a b ls ≤ span_of a b
@@ -149,7 +145,7 @@ keys_few (l ∷ ls) a b h =
         let two = split_all a b (int_max a l.0) (int_min b l.1) l ls (max_left a l.0) (max_right a l.0) (min_left b l.1) (min_right b l.1) inside (not-true (list_any (share l) ls) f.0) in
         let sum = parts_sum a b (int_max a l.0) (int_min b l.1) _ _ _ _ (max_left a l.0) (min_left b l.1) inside refl refl refl refl in
         omega arith
-    by false e whole low high = let none = span-none (int_max a l.0) (int_min b l.1) (le_not (int_max a l.0) (int_min b l.1) e) in omega arith
+    by false e whole low high = let none = span-none (int_max a l.0) (int_min b l.1) (gt_fact (int_max a l.0) (int_min b l.1) e) in omega arith
 
 no_line : (t : Bool) (v : ℤ) (rest : Option ℤ) → (if t then Some v else rest) ≡ None → (t ≡ false) × (rest ≡ None)
 no_line true v rest h = cc
@@ -159,8 +155,8 @@ off_line : (l : Line) (x : ℤ) → on_line l x ≡ false → (x <ℤ l.0) ⊎ (
 off_line l x h = by (not_both (int_le l.0 x) (int_le x l.1) h)
   where
     by : (int_le l.0 x ≡ false) ⊎ (int_le x l.1 ≡ false) → (x <ℤ l.0) ⊎ (l.1 <ℤ x)
-    by (inl e) = inl (le_not l.0 x e)
-    by (inr e) = inr (le_not x l.1 e)
+    by (inl e) = inl (gt_fact l.0 x e)
+    by (inr e) = inr (gt_fact x l.1 e)
 
 before : (c l0 x : ℤ) → l0 ≤ℤ c → x <ℤ l0 → x ≤ℤ (c -ℤ pos 1)
 before c l0 x h k = omega (arith, ints)
@@ -187,7 +183,7 @@ keys_fewer (l ∷ ls) a b x h n p q =
         → ((int_min b l.1 +ℤ pos 1) ≤ℤ x → total (int_min b l.1 +ℤ pos 1) b ls < span_of (int_min b l.1 +ℤ pos 1) b)
         → total a (int_max a l.0 -ℤ pos 1) ls ≤ span_of a (int_max a l.0 -ℤ pos 1) → total (int_min b l.1 +ℤ pos 1) b ls ≤ span_of (int_min b l.1 +ℤ pos 1) b
         → total a b (l ∷ ls) < span_of a b
-    by false e side whole low high few many = let none = span-none (int_max a l.0) (int_min b l.1) (le_not (int_max a l.0) (int_min b l.1) e) in omega arith
+    by false e side whole low high few many = let none = span-none (int_max a l.0) (int_min b l.1) (gt_fact (int_max a l.0) (int_min b l.1) e) in omega arith
     by true e (inl s) whole low high few many =
         let inside = le_fact (int_max a l.0) (int_min b l.1) e in
         let two = split_all a b (int_max a l.0) (int_min b l.1) l ls (max_left a l.0) (max_right a l.0) (min_left b l.1) (min_right b l.1) inside (not-true (list_any (share l) ls) f.0) in
@@ -203,7 +199,7 @@ keys_fewer (l ∷ ls) a b x h n p q =
 
 -- Images count the keys.
 
-count-append : (xs ys : List (ℤ × ℤ)) → count (xs ++ ys) ≡ count xs + count ys
+pub count-append : (xs ys : List (ℤ × ℤ)) → count (xs ++ ys) ≡ count xs + count ys
 count-append [] ys = omega arith
 count-append (x ∷ xs) ys = omega (arith, count-append xs ys)
 
@@ -223,7 +219,7 @@ count-lines r (l ∷ ls) =
     omega arith
 
 size-span : (r : ℤ × ℤ) → r.0 ≤ℤ r.1 → size_of r ≡ span_of r.0 r.1
-size-span r h = rw (le_true r.0 r.1 h) refl
+size-span r h = rw (le_test r.0 r.1 h) refl
 
 -- each range in order
 abbrev pub Ordered : List (ℤ × ℤ) → Type 0
@@ -277,3 +273,58 @@ by_table coding set (Some table) x h o p =
     let b = and_parts (list_all line_fine table.lines) (all_differ share table.lines && nat_eq (count (images_by (Some table) set)) (count set)) a.1 in
     let c = and_parts (all_differ share table.lines) (nat_eq (count (images_by (Some table) set)) (count set)) b.1 in
     in_table table.lines set x c.0 o p (eqb-true (count (images_by (Some table) set)) (count set) c.1)
+
+-- The set of a leaf, and its items.
+
+pub range_within : (low high : ℤ) (rs : List (ℤ × ℤ)) (x : ℤ) → is_range low high rs ≡ true → has rs x ≡ true → (low ≤ℤ x) × (x ≤ℤ high)
+range_within low high [] x h p = cc
+range_within low high (r ∷ []) x h p =
+    let f = and_parts (int_eq r.0 low) (int_eq r.1 high) h in
+    let one = eq_fact r.0 low f.0 in
+    let two = eq_fact r.1 high f.1 in
+    either {F = (low ≤ℤ x) × (x ≤ℤ high)} (int_le r.0 x && int_le x r.1) false p
+    (λ q. let w = and_parts (int_le r.0 x) (int_le x r.1) q in (rw (← one) (le_fact r.0 x w.0), rw (← two) (le_fact x r.1 w.1)))
+    (λ q. cc)
+range_within low high (r ∷ s ∷ rs) x h p = cc
+
+range_ordered : (low high : ℤ) (rs : List (ℤ × ℤ)) → low ≤ℤ high → is_range low high rs ≡ true → Ordered rs
+range_ordered low high [] le h = cc
+range_ordered low high (r ∷ []) le h =
+    let f = and_parts (int_eq r.0 low) (int_eq r.1 high) h in
+    (rw (eq_fact r.0 low f.0, eq_fact r.1 high f.1) le, tt)
+range_ordered low high (r ∷ s ∷ rs) le h = cc
+
+-- the set of a leaf that keeps its rules is in order
+pub set_ordered : (kind : NumKind) (coding : NumCoding) (items : Items) (table : Option Table) (set : List (ℤ × ℤ)) → set_fine kind coding items table set ≡ true → Ordered set
+set_ordered Integer coding items table set h = ordered_ranges set (and_parts (are_ranges set) (integer_set_fine coding (ends set) && no_items items) h).0
+set_ordered Boolean coding items table set h = range_ordered (pos 0) (pos 1) set (omega (arith, ints)) (and_parts (is_range (pos 0) (pos 1) set) (no_items items) h).0
+set_ordered Enumerated coding items table set h =
+    range_ordered (pos 0) (pos (length items.items - 1)) set (omega (arith, ints)) (and_parts (is_range (pos 0) (pos (length items.items - 1)) set) (items_fine coding items) (and_parts (nat_lt 0 (length items.items)) (is_range (pos 0) (pos (length items.items - 1)) set && items_fine coding items) h).1).0
+set_ordered Null coding items table set h = range_ordered (pos 0) (pos 0) set (omega (arith, ints)) (and_parts (is_range (pos 0) (pos 0) set) (no_items items) h).0
+
+item_there : (items : List (List ℕ × ℤ)) (i : ℕ) → i < length items → (y : ℤ) × (option_map (λ named. named.1) (slice_get items i) ≡ Some y)
+item_there [] i h = absurd (omega arith)
+item_there (x ∷ items) zero h = (x.1, refl)
+item_there (x ∷ items) (suc i) h = item_there items i (omega arith)
+
+item_image : (items : List (List ℕ × ℤ)) (x : ℤ) → 0 < length items → pos 0 ≤ℤ x → x ≤ℤ pos (length items - 1) → (y : ℤ) × (item_number items x ≡ Some y)
+item_image items (pos i) some a b = item_there items i (omega (arith, ints))
+item_image items (negsuc n) some a b = absurd (omega (arith, ints))
+
+-- where the items are written the leaf is an enumeration
+items_image : (kind : NumKind) (coding : NumCoding) (items : Items) (table : Option Table) (set : List (ℤ × ℤ)) (x : ℤ) → set_fine kind coding items table set ≡ true → items.values ≡ true → has set x ≡ true → (y : ℤ) × (item_number items.items x ≡ Some y)
+items_image Integer coding items table set x h v p =
+    let n = no_values items (and_parts (integer_set_fine coding (ends set)) (no_items items) (and_parts (are_ranges set) (integer_set_fine coding (ends set) && no_items items) h).1).1 in cc
+items_image Boolean coding items table set x h v p = let n = no_values items (and_parts (is_range (pos 0) (pos 1) set) (no_items items) h).1 in cc
+items_image Null coding items table set x h v p = let n = no_values items (and_parts (is_range (pos 0) (pos 0) set) (no_items items) h).1 in cc
+items_image Enumerated coding items table set x h v p =
+    let f = and_parts (nat_lt 0 (length items.items)) (is_range (pos 0) (pos (length items.items - 1)) set && items_fine coding items) h in
+    let w = range_within (pos 0) (pos (length items.items - 1)) set x (and_parts (is_range (pos 0) (pos (length items.items - 1)) set) (items_fine coding items) f.1).0 p in
+    item_image items.items x (ltb-true 0 (length items.items) f.0) w.0 w.1
+
+pub has_image : (leaf : NumLeaf) → IsTrue (num_fine leaf) → (x : ℤ) → In leaf.set x → (y : ℤ) × (image_of leaf x ≡ Some y)
+has_image leaf h x p = by leaf.items.values refl
+  where
+    by : (v : Bool) → leaf.items.values ≡ v → (y : ℤ) × ((if v then item_number leaf.items.items x else image_by leaf.table x) ≡ Some y)
+    by true e = items_image leaf.kind leaf.coding leaf.items leaf.table leaf.set x (rules_of leaf h).set e p
+    by false e = by_table leaf.coding leaf.set leaf.table x (rules_of leaf h).table (set_ordered leaf.kind leaf.coding leaf.items leaf.table leaf.set (rules_of leaf h).set) p
