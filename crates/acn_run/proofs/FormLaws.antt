@@ -12,7 +12,7 @@ use Rattle.acn_lex.specs.declared.Token.{Token}
 use Rattle.acn_cursor.specs.declared.stop.Stop.{Stop}
 use Rattle.acn_cursor.specs.declared.stop.Stop.TheVariants.{Refused, NoMemory}
 use Rattle.acn_run.specs.declared.form.FormFault.TheVariants.{OtherForm, NoMemory as form_memory}
-use Rattle.acn_cursor.specs.Steps.{pure, token, expect, word, number, many, is_whole, Fails, Outcome}
+use Rattle.acn_cursor.specs.Steps.{pure, refuse, token, expect, word, number, many, is_whole, Fails, Outcome}
 use Rattle.acn_cursor.proofs.Laws.{ap2, outcome_is, Takes, done, then_found, then_again, sees_again, sees_text, expect_found, expect_again, word_found, word_again, number_found, number_again, repeat_found, many_again, outcome}
 use Rattle.acn_run.specs.declared.components.Component.{Component}
 use Rattle.acn_run.specs.Form.{component_tokens, next_tokens, form_tokens, IsComponent, least_width, Written, without_place, stop_fault_of, lex_fault_of}
