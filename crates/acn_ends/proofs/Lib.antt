@@ -1,1 +1,3 @@
+-- for acn_world
+pub mod Leading
 mod Ways

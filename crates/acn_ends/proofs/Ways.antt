@@ -6,7 +6,8 @@ use Rattle.acn_ends.specs.declared.spot.Spot.{Spot}
 use Rattle.acn_ends.specs.declared.spot.End.{End}
 use Rattle.acn_ends.specs.declared.spot.End.TheVariants as end
 use Rattle.acn_ends.specs.declared.ends.Ends.{Ends}
-use Rattle.acn_ends.specs.Ends.{is_same, Leads, stays, goes, IsEndless, IsRight, AreRight, end_of, OneMore}
+use Rattle.acn_ends.specs.Ends.{after, is_same, EndsAt, IsEndless, IsRight, AreRight, end_of, OneMore}
+use Rattle.acn_ends.proofs.Leading.{Leads, stays, goes, leads, led, right_of, all_right}
 
 some_is_one : {A : Type 0} {o : Option A} {x y : A} → o ≡ Some x → o ≡ Some y → x ≡ y
 some_is_one {A} {o} {x} {y} e f = let h : Some x ≡ Some y = sym e ∙ f in cc h
@@ -55,37 +56,37 @@ module _ (next : Spot → Option Spot) where
       round_within most n p round h.0 q less h.2 e
 
   pub round_endless : (n : ℕ) (p : Spot) → Leads next (suc n) p p → IsEndless next p
-  round_endless n p round = record { none = λ m q at. round_within (suc m) n p round m q (omega arith) at.way at.end }
+  round_endless n p round = record { none = λ m q at. round_within (suc m) n p round m q (omega arith) (leads next m p q at.way) at.end }
 
   pub longer : {n : ℕ} {p q r : Spot} → Leads next n p q → next q ≡ Some r → Leads next (suc n) p r
   longer (stays {p}) e = goes e stays
   longer (goes s l) e = goes s (longer l e)
 
   before_endless : (p q : Spot) → next p ≡ Some q → IsEndless next q → IsEndless next p
-  before_endless p q s e = record { none = λ n r at. by n r at.way at.end }
+  before_endless p q s e = record { none = λ n r at. by n r (leads next n p r at.way) at.end }
     where
       by : (n : ℕ) (r : Spot) → Leads next n p r → next r ≡ None → ⊥
       by zero r stays f = some_is_not_none s f
-      by (suc n) r (goes {q = b} t l) f = e.none n r (record { way = subst (λ (z : Spot). Leads next n z r) (some_is_one t s) l; end = f })
+      by (suc n) r (goes {q = b} t l) f = e.none n r (record { way = led next (subst (λ (z : Spot). Leads next n z r) (some_is_one t s) l); end = f })
 
   one_behind : (p q : Spot) → next p ≡ Some q → (d e : End) → IsRight next q d → OneMore d e → IsRight next p e
-  one_behind p q s (end.At r n) e h o = subst (IsRight next p) (sym o) (record { way = goes s h.way; end = h.end })
+  one_behind p q s (end.At r n) e h o = subst (IsRight next p) (sym o) (record { way = led next (goes s (leads next n q r h.way)); end = h.end })
   one_behind p q s end.Never e h o = subst (IsRight next p) (sym o) (before_endless p q s h)
 
   pub behind : (ends : Ends) → AreRight next ends → (p q : Spot) (d : End) → next p ≡ Some q → end_of ends q ≡ Some d → (r : Option End) → IfSome r (OneMore d) → IfSome r (IsRight next p)
   behind ends right p q d s e None o = tt
-  behind ends right p q d s e (Some f) o = one_behind p q s d f (right q d e) o
+  behind ends right p q d s e (Some f) o = one_behind p q s d f (right_of next ends right q d e) o
 
   -- one more that is noted
+  by_same : (old : Ends) (p q : Spot) (e f : End) (b : Bool) → AreRight next old → IsRight next p e → cond b (Some e) (end_of old q) ≡ Some f → (b ≡ true → p ≡ q) → IsRight next q f
+  by_same old p q e f true right h s t = let one : e ≡ f = cc s in subst (λ (z : Spot). IsRight next z f) (t refl) (subst (IsRight next p) one h)
+  by_same old p q e f false right h s t = right_of next old right q f s
+
   pub noted : (old new : Ends) (p : Spot) (e : End) → AreRight next old → IsRight next p e → ((q : Spot) → end_of new q ≡ cond (is_same p q) (Some e) (end_of old q)) → AreRight next new
-  noted old new p e right h is q f g = by (is_same p q) (sym (is q) ∙ g) (same_spot p q)
-    where
-      by : (b : Bool) → cond b (Some e) (end_of old q) ≡ Some f → (b ≡ true → p ≡ q) → IsRight next q f
-      by true s t = let one : e ≡ f = cc s in subst (λ (z : Spot). IsRight next z f) (t refl) (subst (IsRight next p) one h)
-      by false s t = right q f s
+  noted old new p e right h is = all_right next new (λ q f g. by_same old p q e f (is_same p q) right h (sym (is q) ∙ g) (same_spot p q))
 
   pub here : (p : Spot) → next p ≡ None → IsRight next p (end.At p 0)
-  here p e = record { way = stays; end = e }
+  here p e = record { way = led next stays; end = e }
 
   pub noted_on : {A E : Type 0} (r : Result A E) (old new : Ends) (p : Spot) (e : End) → AreRight next old → IsRight next p e → OnOk r ((q : Spot) → end_of new q ≡ cond (is_same p q) (Some e) (end_of old q)) → OnOk r (AreRight next new)
   noted_on (Ok x) old new p e right h is = noted old new p e right h is

@@ -1,5 +1,5 @@
 -- Steps from place to place, and where they end.
-use Rattle.std.specs.Prelude.{◌≡◌, ℕ, suc, Bool, ◌&&◌, nat_eq, Option, Some, None}
+use Rattle.std.specs.Prelude.{◌≡◌, ℕ, zero, suc, Bool, ◌&&◌, nat_eq, Option, Some, None, option_and_then}
 use Rattle.std.specs.HashMap.{get}
 use Rattle.acn_ends.specs.declared.spot.Spot.{Spot}
 use Rattle.acn_ends.specs.declared.spot.End.{End}
@@ -9,14 +9,14 @@ use Rattle.acn_ends.specs.declared.ends.Ends.{Ends}
 abbrev pub is_same : Spot → Spot → Bool
 is_same p q = nat_eq p.group q.group && nat_eq p.item q.item
 
--- from one place to another by so many steps
-pub data Leads (next : Spot → Option Spot) : ℕ → Spot → Spot → Type 0 where
-  stays : {p : Spot} → Leads next 0 p p
-  goes : {n : ℕ} {p q r : Spot} → next p ≡ Some q → Leads next n q r → Leads next (suc n) p r
+-- where so many steps from a place lead
+unfoldable pub after : (Spot → Option Spot) → ℕ → Spot → Option Spot
+after next zero p = Some p
+after next (suc n) p = option_and_then (after next n) (next p)
 
 -- the steps from a place end at another, after so many
 pub record EndsAt (next : Spot → Option Spot) (n : ℕ) (p q : Spot) : Type 0 where
-  pub way : Leads next n p q
+  pub way : after next n p ≡ Some q
   pub end : next q ≡ None
 
 -- the steps from a place don't end
@@ -34,7 +34,7 @@ end_of ends p = get is_same ends.noted p
 
 -- what is noted is so
 abbrev pub AreRight : (Spot → Option Spot) → Ends → Type 0
-AreRight next ends = (p : Spot) (e : End) → end_of ends p ≡ Some e → IsRight next p e
+AreRight next ends = ((p q : Spot) (n : ℕ) → end_of ends p ≡ Some (end.At q n) → EndsAt next n p q) × ((p : Spot) → end_of ends p ≡ Some end.Never → IsEndless next p)
 
 -- one of two ends is behind one step more
 abbrev pub OneMore : End → End → Type 0

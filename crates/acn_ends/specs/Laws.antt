@@ -1,7 +1,7 @@
 -- Laws about steps: a way has one end, and one that comes back has none.
-use Rattle.std.specs.Prelude.{◌≡◌, ℕ, suc, Option}
+use Rattle.std.specs.Prelude.{◌≡◌, ℕ, suc, Option, Some}
 use Rattle.acn_ends.specs.declared.spot.Spot.{Spot}
-use Rattle.acn_ends.specs.Ends.{Leads, EndsAt, IsEndless}
+use Rattle.acn_ends.specs.Ends.{after, EndsAt, IsEndless}
 
 -- the steps from a place end at one place, after one number of steps
 abbrev pub EndsAreUnique : Type 0
@@ -9,4 +9,4 @@ EndsAreUnique = (next : Spot → Option Spot) (n m : ℕ) (p q r : Spot) → End
 
 -- a place to which its own steps lead back has no end
 abbrev pub EndlessWaysHaveNoEnd : Type 0
-EndlessWaysHaveNoEnd = (next : Spot → Option Spot) (n : ℕ) (p : Spot) → Leads next (suc n) p p → IsEndless next p
+EndlessWaysHaveNoEnd = (next : Spot → Option Spot) (n : ℕ) (p : Spot) → after next (suc n) p ≡ Some p → IsEndless next p

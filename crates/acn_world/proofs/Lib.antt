@@ -14,3 +14,7 @@ mod Mapped
 mod FoundTypes
 mod EntryPlaces
 mod AssignedChains
+mod ImportJumps
+mod LastValues
+mod LastLinks
+mod Numbered

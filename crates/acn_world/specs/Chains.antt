@@ -57,6 +57,10 @@ abbrev pub last_link : Link → List Link → Link
 last_link l [] = l
 last_link l (next ∷ more) = last_link next more
 
+-- behind at most so many references
+abbrev pub last_within : ℕ → World → Link → Link
+last_within n w l = last_link l (links_within (suc n) w l)
+
 unfoldable pub base_link : World → Link → Link
 base_link w l = last_link l (links w l)
 

@@ -11,6 +11,7 @@ pub mod Sorts
 pub mod Keyed
 pub mod Found
 pub mod Linked
+pub mod Steps
 pub mod Chained
 pub mod Viewed
 pub mod Laws

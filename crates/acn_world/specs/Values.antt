@@ -47,6 +47,14 @@ value_within (suc n) w k name = option_and_then (onward (λ x other. value_withi
 unfoldable pub value_of : World → ℕ → Name → Option Worth
 value_of w k name = value_within (count w) w k name
 
+-- the value at which references end, unless it refers to something that isn't there
+abbrev pub unreferring : Worth → Option Name → Option Worth
+unreferring x None = Some x
+unreferring x (Some name) = None
+
+abbrev pub end_worth : World → TypeId → Option Worth
+end_worth w p = option_and_then (λ x. unreferring x (refers x.is)) (worth_at w p)
+
 abbrev pub is_number : AsnValue → Bool
 is_number (value.Number negative n) = true
 is_number _ = false

@@ -1,14 +1,17 @@
-ghost use Rattle.std.specs.Prelude.{◌≡◌, ◌<◌, ◌+◌, length, map, option_map, option_copied, Option, Some, None, IfOk};
+ghost use Rattle.std.specs.Prelude.{◌≡◌, ◌<◌, ◌+◌, length, map, option_map, option_copied, Option, Some, None, IfOk, IfSome};
 ghost use Rattle.acn_asn_syntax.specs.View.{base_view, type_view};
 ghost use Rattle.acn_world.specs.Views.{index_view};
 ghost use Rattle.acn_world.specs.Linked.{link_view, written_view};
 ghost use Rattle.acn_world.specs.Chains as spec;
+ghost use Rattle.acn_world.specs.Steps as steps;
 
 use crate::TypeId;
+use crate::ends::{place_at, spot_of};
 use crate::index::Index;
 use crate::references::{type_at, type_named};
 use crate::values::count;
 use acn_asn_syntax::{AsnBase, AsnType};
+use acn_ends::End;
 use acn_num::{Name, NoMemory};
 use std::alloc::Global;
 
@@ -133,19 +136,55 @@ pub fn last_link<'w>(first: Link<'w>, all: &[Link<'w>]) -> Link<'w>
     last
 }
 
-/// The link behind all references.
-#[tactic(auto, unfolding(crate::specs::Chains::base_link, crate::specs::Chains::links))]
-pub fn base_link<'w>(index: &'w Index, first: Link<'w>) -> Link<'w>
-    ensures { link_view result ≡ spec.base_link (index_view index.now) (link_view first.entry) }
+// The link behind at most so many references.
+fn last_within<'w>(index: &'w Index, most: usize, first: Link<'w>) -> Link<'w>
+    ensures { link_view result ≡ spec.last_within most (index_view index.now) (link_view first.entry) }
 {
     let mut link = first;
-    for step in 0..count(index) {
+    for step in 0..most {
         match next_link(index, link) {
             None => return link,
             Some(next) => link = next,
         }
     }
     link
+}
+
+// The assigned type at which steps end, where they are fewer than there are assignments.
+fn link_at_end(index: &Index, end: End) -> Option<Link<'_>>
+    ensures { IfSome result (λ l. steps.IsEndLink (index_view index.now) end (link_view l)) }
+{
+    match end {
+        End::Never => None,
+        End::At { spot, steps } => {
+            if steps < count(index) {
+                assigned_link(index, place_at(spot))
+            } else {
+                None
+            }
+        }
+    }
+}
+
+// The link behind all references, as the index keeps it.
+fn kept_link<'w>(index: &'w Index, first: Link<'w>) -> Option<Link<'w>>
+    ensures { IfSome result (λ l. link_view l ≡ spec.base_link (index_view index.now) (link_view first.entry)) }
+{
+    let next = next_link(index, first)?;
+    let place = next.assigned?;
+    let end = index.bases.of(spot_of(place))?;
+    link_at_end(index, end)
+}
+
+/// The link behind all references.
+#[tactic(auto, unfolding(crate::specs::Chains::base_link, crate::specs::Chains::links))]
+pub fn base_link<'w>(index: &'w Index, first: Link<'w>) -> Link<'w>
+    ensures { link_view result ≡ spec.base_link (index_view index.now) (link_view first.entry) }
+{
+    match kept_link(index, first) {
+        Some(last) => last,
+        None => last_within(index, count(index), first),
+    }
 }
 
 /// The type behind all references of a type.

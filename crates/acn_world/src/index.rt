@@ -1,12 +1,14 @@
-ghost use Rattle.std.specs.Prelude.{◌≡◌, ◌<◌, length, map, flat_map};
-ghost use Rattle.acn_asn_syntax.specs.Mirror as plain;
-ghost use Rattle.acn_asn_syntax.specs.View.{module_view};
+ghost use Rattle.std.specs.Prelude.{◌≡◌};
 ghost use Rattle.acn_world.specs.World.{IsSmall, count as count_of, world_from};
 ghost use Rattle.acn_world.specs.Keyed as keyed;
+ghost use Rattle.acn_world.specs.Steps as steps;
 
-use crate::maps::{Maps, maps_of};
+use crate::indexing::{bare, find_ends, find_jumps};
+use crate::maps::Maps;
 use acn_acn_syntax::{AcnModule, MapTable};
 use acn_asn_syntax::AsnModule;
+use acn_ends::Ends;
+use acn_firsts::Firsts;
 use acn_num::{NoMemory, Row};
 use std::alloc::Global;
 
@@ -19,21 +21,20 @@ pub struct Index {
     pub maps: Maps,
     /// How many assignments there are.
     pub count: usize,
+    /// The names that are imported, each with its number.
+    pub imported: Firsts,
+    /// Where the imports of a name end, by the numbers of a module and of the name.
+    pub jumps: Ends,
+    /// Where the references of values end.
+    pub lasts: Ends,
+    /// Where the references of types end.
+    pub bases: Ends,
     ghost small: { IsSmall (world_from modules acn tables) },
     ghost mapped: { maps ≡ keyed.maps_of (world_from modules acn tables) },
     ghost counted: { count ≡ count_of (world_from modules acn tables) },
-}
-
-// How many assignments the modules have.
-fn items_of(modules: &[AsnModule]) -> usize
-    requires { length (flat_map (λ (m : plain.AsnModule). m.items) (map module_view modules.now)) < 4294967296 }
-    ensures { result ≡ length (flat_map (λ (m : plain.AsnModule). m.items) (map module_view modules.now)) }
-{
-    let mut all: usize = 0;
-    for owner in modules {
-        all += owner.items.items().len();
-    }
-    all
+    ghost jumped: { steps.AreJumps (world_from modules acn tables) imported jumps },
+    ghost lasting: { steps.AreLasts (world_from modules acn tables) lasts },
+    ghost based: { steps.AreBases (world_from modules acn tables) bases },
 }
 
 impl Index {
@@ -50,14 +51,8 @@ impl Index {
         requires { IsSmall (world_from modules acn tables) }
         ensures { IfOk result (λ index. index_view index ≡ world_from modules acn tables) }
     {
-        let maps = maps_of(alloc, modules.items(), acn.items(), tables.items())?;
-        let count = items_of(modules.items());
-        Ok(Index {
-            modules,
-            acn,
-            tables,
-            maps,
-            count,
-        })
+        let index = bare(alloc, modules, acn, tables)?;
+        let index = find_jumps(alloc, index)?;
+        find_ends(alloc, index)
     }
 }

@@ -3,9 +3,12 @@
 
 pub mod chain;
 mod chains;
+mod ends;
 pub mod entries;
 mod fault;
 pub mod index;
+mod indexing;
+mod jumps;
 mod laws;
 pub mod lookup;
 pub mod maps;

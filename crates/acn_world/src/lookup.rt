@@ -1,15 +1,17 @@
-ghost use Rattle.std.specs.Prelude.{◌≡◌, option_map, option_and_then, slice_get};
+ghost use Rattle.std.specs.Prelude.{◌≡◌, length, option_map, option_and_then, slice_get, IfSome};
 ghost use Rattle.std.specs.List.{position_from};
 ghost use Rattle.std.specs.Str.{bytes_eq};
 ghost use Rattle.acn_asn_syntax.specs.View.{module_view, assign_view};
 ghost use Rattle.acn_world.specs.Views.{index_view};
 ghost use Rattle.acn_world.specs.Lookup as spec;
 ghost use Rattle.acn_world.specs.Sorts.{meant, sorted};
+ghost use Rattle.acn_world.specs.Steps as steps;
 
 use crate::TypeId;
 use crate::index::Index;
 use crate::maps::OwnNames;
 use acn_asn_syntax::{AsnModule, Assign, Import};
+use acn_ends::{End, Spot};
 use acn_firsts::Firsts;
 
 // Whether the two texts are the same.
@@ -82,8 +84,8 @@ fn import_of<'w>(index: &'w Index, k: u32, name: &[u8]) -> Option<&'w Import>
     import_at(owner, place)
 }
 
-// The module from which a module imports the name.
-fn imported_from(index: &Index, name: &[u8], k: u32) -> Option<u32>
+/// The module from which a module imports the name.
+pub fn imported_from(index: &Index, name: &[u8], k: u32) -> Option<u32>
     ensures { result ≡ spec.imported_from (index_view index.now) name.now k }
 {
     let import = import_of(index, k, name)?;
@@ -120,7 +122,7 @@ fn own_place(index: &Index, sort: Sort, name: &[u8], k: u32) -> Option<usize>
     of_sort(own, sort).get(name)
 }
 
-// The first of a module's own assignments that is meant.
+/// The first of a module's own assignments that is meant.
 pub fn own(index: &Index, sort: Sort, name: &[u8], k: u32) -> Option<TypeId>
     ensures { result ≡ spec.own (index_view index.now) (meant sort name.now) k }
 {
@@ -131,16 +133,48 @@ pub fn own(index: &Index, sort: Sort, name: &[u8], k: u32) -> Option<TypeId>
     })
 }
 
-/// What a name leads to in a module: its own assignment, else that of the module from which it is imported.
-pub fn found(index: &Index, sort: Sort, name: &[u8], k: u32) -> Option<TypeId>
-    ensures { result ≡ spec.found (index_view index.now) (meant sort name.now) name.now k }
+// The same over at most so many modules.
+fn found_within(index: &Index, sort: Sort, name: &[u8], most: usize, k: u32) -> Option<TypeId>
+    ensures { result ≡ spec.found_within most (index_view index.now) (meant sort name.now) name.now k }
 {
     let mut owner = k;
-    for step in 0..index.modules.items().len() {
+    for step in 0..most {
         match own(index, sort, name, owner) {
             Some(place) => return Some(place),
             None => owner = imported_from(index, name, owner)?,
         }
     }
     None
+}
+
+// Where the imports of a name that begin in a module end.
+fn jump(index: &Index, name: &[u8], k: u32) -> Option<End>
+    ensures { IfSome result (steps.JumpsTo (index_view index.now) name.now k) }
+{
+    let number = index.imported.get(name)?;
+    let item = u32::try_from(number).ok()?;
+    index.jumps.of(Spot { group: k, item })
+}
+
+// How many modules there are.
+fn count_modules(index: &Index) -> usize
+    ensures { result ≡ length (index_view index.now).modules }
+{
+    index.modules.items().len()
+}
+
+/// What a name leads to in a module: its own assignment, else that of the module from which it is imported.
+#[tactic(auto, unfolding(crate::specs::Lookup::found))]
+pub fn found(index: &Index, sort: Sort, name: &[u8], k: u32) -> Option<TypeId>
+    ensures { result ≡ spec.found (index_view index.now) (meant sort name.now) name.now k }
+{
+    let most = count_modules(index);
+    match jump(index, name, k) {
+        None => found_within(index, sort, name, most, k),
+        Some(End::Never) => None,
+        Some(End::At { spot, steps }) => match most.checked_sub(steps) {
+            None => found_within(index, sort, name, most, k),
+            Some(rest) => found_within(index, sort, name, rest, spot.group),
+        },
+    }
 }

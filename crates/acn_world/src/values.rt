@@ -6,9 +6,11 @@ ghost use Rattle.acn_world.specs.World as world;
 ghost use Rattle.acn_world.specs.Values as spec;
 
 use crate::TypeId;
+use crate::ends::{place_at, spot_of};
 use crate::index::Index;
 use crate::references::{assignment, value_named};
 use acn_asn_syntax::{AsnType, AsnValue, Assign};
+use acn_ends::End;
 
 /// The type and the value of a value's assignment, with the number of its module.
 #[derive(Clone, Copy)]
@@ -28,8 +30,8 @@ fn worth_of<'w>(owner: u32, item: &'w Assign) -> Option<Worth<'w>>
     }
 }
 
-// The same for the assignment at a place.
-fn worth_at(index: &Index, place: TypeId) -> Option<Worth<'_>>
+/// The same for the assignment at a place.
+pub fn worth_at(index: &Index, place: TypeId) -> Option<Worth<'_>>
     ensures { option_map found_view result ≡ spec.worth_at (index_view index.now) place }
 {
     let item = assignment(index, place)?;
@@ -45,8 +47,8 @@ fn first_worth<'w>(index: &'w Index, k: u32, name: &[u8]) -> Option<Worth<'w>>
     worth_at(index, place)
 }
 
-// The name to which a value refers.
-fn refers(value: &AsnValue) -> Option<&[u8]>
+/// The name to which a value refers.
+pub fn refers(value: &AsnValue) -> Option<&[u8]>
     ensures { option_copied result ≡ spec.refers value.now }
 {
     match value {
@@ -87,12 +89,35 @@ fn value_within<'w>(index: &'w Index, most: usize, k: u32, name: &[u8]) -> Optio
     None
 }
 
+// The value at which references end, unless it refers to something still.
+fn end_worth(index: &Index, place: TypeId) -> Option<Worth<'_>>
+    ensures { option_map found_view result ≡ spec.end_worth (index_view index.now) place }
+{
+    let worth = worth_at(index, place)?;
+    match refers(worth.is) {
+        None => Some(worth),
+        Some(_) => None,
+    }
+}
+
 /// What an identifier leads to in the end.
 #[tactic(auto, unfolding(crate::specs::Values::value_of))]
 pub fn value_of<'w>(index: &'w Index, k: u32, name: &[u8]) -> Option<Worth<'w>>
     ensures { option_map found_view result ≡ spec.value_of (index_view index.now) k name.now }
 {
-    value_within(index, count(index), k, name)
+    let place = value_named(index, k, name)?;
+    let most = count(index);
+    match index.lasts.of(spot_of(place)) {
+        None => value_within(index, most, k, name),
+        Some(End::Never) => None,
+        Some(End::At { spot, steps }) => {
+            if steps < most {
+                end_worth(index, place_at(spot))
+            } else {
+                value_within(index, most, k, name)
+            }
+        }
+    }
 }
 
 // Whether the value is a number.

@@ -1,6 +1,6 @@
 use Rattle.std.proofs.Common.{ℕ, suc, ◌+◌, ◌≡◌, sym, subst, arith, ◌∙◌}
 use Rattle.acn_ends.specs.declared.spot.Spot.{Spot}
-use Rattle.acn_ends.specs.Ends.{Leads, stays}
+use Rattle.acn_ends.proofs.Leading.{Leads, stays}
 use Rattle.acn_ends.proofs.Ways.{longer, round_endless, same_spot}
 use Rattle.acn_ends.proofs.walk.comes_back.Goals as goal
 

@@ -1,4 +1,4 @@
-use Rattle.acn_ends.specs.Ends.{Leads}
+use Rattle.acn_ends.proofs.Leading.{Leads}
 use Rattle.acn_ends.proofs.walk.comes_back.Given as goal
 
 abbrev pub invariant-loop-step : goal.invariant-loop-step

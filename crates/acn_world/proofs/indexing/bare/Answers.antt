@@ -7,8 +7,10 @@ use Rattle.acn_acn_syntax.specs.declared.modules.AcnModule.{AcnModule}
 use Rattle.acn_acn_syntax.specs.declared.maps.MapTable.{MapTable}
 use Rattle.acn_world.specs.World.{count, world_from}
 use Rattle.acn_world.specs.Keyed.{maps_of}
+use Rattle.acn_world.specs.Steps.{value_step, type_step}
+use Rattle.acn_world.proofs.Numbered.{nothing_wrong}
 use Rattle.acn_world.proofs.Sizes.{few_items}
-use Rattle.acn_world.proofs.index.Index.new.Goals as goal
+use Rattle.acn_world.proofs.indexing.bare.Goals as goal
 
 pub items_of-count-requires : goal.items_of-count-requires
 items_of-count-requires c = subst (λ (ms : List AsnModule). length (flat_map (λ (m : plain.AsnModule). m.items) (map module_view ms)) < 4294967296) (sym c.items-4.ensures) (few_items (world_from c.args.modules c.args.acn c.args.tables) c.requires)
@@ -23,3 +25,9 @@ invariant_of-result-clause-mapped c =
 pub invariant_of-result-clause-counted : goal.invariant_of-result-clause-counted
 unfolding count
 invariant_of-result-clause-counted c = c.items_of-count.ensures ∙ ap (λ (ms : List AsnModule). length (flat_map (λ (m : plain.AsnModule). m.items) (map module_view ms))) c.items-4.ensures
+
+pub invariant_of-result-clause-lasting : goal.invariant_of-result-clause-lasting
+invariant_of-result-clause-lasting c = nothing_wrong (value_step (world_from c.args.modules c.args.acn c.args.tables)) c.new-3.result c.new-3.ensures
+
+pub invariant_of-result-clause-based : goal.invariant_of-result-clause-based
+invariant_of-result-clause-based c = nothing_wrong (type_step (world_from c.args.modules c.args.acn c.args.tables)) c.new-4.result c.new-4.ensures
