@@ -1,5 +1,5 @@
 -- A jump along imports leads to what the steps lead to.
-use Rattle.std.proofs.Common.{◌≡◌, ℕ, zero, suc, ◌+◌, ◌-◌, Bool, true, false, cond, is_some, List, [], ◌∷◌, ◌++◌, length, Option, Some, None, refl, sym, ap, subst, ◌∙◌, arith}
+use Rattle.std.proofs.Common.{◌≡◌, ℕ, zero, suc, ◌+◌, Bool, true, false, cond, is_some, List, [], ◌∷◌, Option, Some, None, refl, sym, ap, subst, ◌∙◌, arith}
 use Rattle.std.specs.Prelude.{option_map, option_and_then, slice_get}
 use Rattle.std.specs.List.{position_from}
 use Rattle.acn_asn_syntax.specs.Mirror.{AsnModule, Assign, TypeIs, ValueIs}
@@ -8,13 +8,13 @@ use Rattle.acn_ends.specs.declared.spot.Spot.{Spot}
 use Rattle.acn_ends.specs.declared.spot.End.{End}
 use Rattle.acn_ends.specs.declared.spot.End.TheVariants as end
 use Rattle.acn_ends.specs.declared.ends.Ends.{Ends}
-use Rattle.acn_ends.specs.Ends.{EndsAt, IsEndless, AreRight, IsRight, end_of}
+use Rattle.acn_ends.specs.Ends.{IsEndless, AreRight, IsRight, end_of}
 use Rattle.acn_ends.proofs.Leading.{Leads, stays, goes, leads, onward_endless, not_over, right_of}
 use Rattle.acn_firsts.specs.Placed.{place_of}
 use Rattle.acn_world.specs.World.{World, place}
 use Rattle.acn_world.specs.Lookup.{is_named, own, imported_from, found_within}
 use Rattle.acn_world.specs.Sorts.{meant}
-use Rattle.acn_world.specs.Steps.{spot, import_onward, import_step, AreNumbered, IsJump, IsLost, JumpsTo, AreJumps}
+use Rattle.acn_world.specs.Steps.{spot, import_onward, import_step, AreNumbered, IsJump, JumpsTo, AreJumps}
 use Rattle.acn_world.specs.declared.lookup.Sort.{Sort}
 use Rattle.acn_world.specs.declared.lookup.Sort.TheVariants.{Types, Values, Any}
 use Rattle.acn_world.specs.declared.sources.TypeId.{TypeId}

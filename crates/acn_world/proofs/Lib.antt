@@ -3,7 +3,8 @@ mod Sizes
 mod Following
 -- for acn_names
 pub mod ValueSteps
-mod ChainSteps
+-- for acn_names
+pub mod ChainSteps
 mod Reversed
 mod TypeThere
 mod LawProofs
@@ -18,3 +19,7 @@ mod ImportJumps
 mod LastValues
 mod LastLinks
 mod Numbered
+-- for acn_names
+pub mod Left
+mod ImportWays
+mod Bounded

@@ -1,6 +1,6 @@
 -- Names that are numbered in turn.
 use Rattle.std.proofs.Common.{◌≡◌, ℕ, zero, suc, Bool, true, false, cond, is_some, List, [], ◌∷◌, ◌++◌, length, Option, Some, None, refl, sym, ap, subst, ◌∙◌, inl, inr}
-use Rattle.std.specs.Prelude.{map, slice_get, ◌⊎◌, OnOk, IfOk, Result, Ok, Err}
+use Rattle.std.specs.Prelude.{slice_get, ◌⊎◌, OnOk, IfOk, Result, Ok, Err}
 use Rattle.std.specs.Borrow.{Bor}
 use Rattle.std.specs.Str.{bytes_eq}
 use Rattle.std.specs.Cmp.Lexicographic.{bytes_decides}
@@ -80,3 +80,8 @@ pub named_more : {A E : Type 0} (r : Result A E) (es new : List (Name × ℕ)) (
     → OnOk r (new ≡ noted es b i) → OnOk r (AreNumbered new (names_view more))
 named_more (Ok x) es new n a b i old more e f none l m h is = subst (λ (z : List (Name × ℕ)). AreNumbered z (names_view more)) (sym is) (by_view es n a b i old more e f none l m h)
 named_more (Err x) es new n a b i old more e f none l m h is = tt
+
+pub numbered_none : (es : List (Name × ℕ)) (names : List Name) → es ≡ [] → AreNumbered es names
+unfolding place_of
+numbered_none [] names e = λ q x h. absurd (cc h)
+numbered_none (x ∷ es) names e = absurd (cc e)

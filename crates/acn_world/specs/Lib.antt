@@ -14,4 +14,5 @@ pub mod Linked
 pub mod Steps
 pub mod Chained
 pub mod Viewed
+pub mod Leading
 pub mod Laws

@@ -23,8 +23,8 @@ pub use chains::Chain;
 pub use entries::{EntryAt, EntryPlace};
 pub use fault::NameFault;
 pub use laws::{
-    assigned_chains_have_their_own_entry, entries_stand_at_their_places, no_cycle_among_ranks,
-    no_fault_in_a_sound_world,
+    assigned_chains_have_their_own_entry, entries_stand_at_their_places, links_are_the_whole_chain,
+    lookups_find_what_names_lead_to, no_cycle_among_ranks, no_fault_in_a_sound_world,
 };
 pub use sources::{Sources, TypeId};
 pub use world::World;
