@@ -1,6 +1,5 @@
 mod Lists
--- for acn_names
-pub mod Places
+mod Places
 -- for acn_names
 pub mod Assigned
 mod Transport

@@ -20,7 +20,9 @@ use Rattle.acn_world.specs.declared.sources.TypeId.{TypeId}
 use Rattle.acn_names.specs.Standing.{Stands}
 use Rattle.acn_names.proofs.Valued.{chained, within_tested}
 use Rattle.acn_names.proofs.Known.{front_empty, back_empty, there_when, none_of}
-use Rattle.acn_names.proofs.Ended.{without, every_place, assigned_in, reached_in}
+use Rattle.acn_world.proofs.ChainSteps.{last_ends, last_goes}
+use Rattle.acn_world.proofs.Left.{without, every_place}
+use Rattle.acn_names.proofs.Ended.{assigned_in, reached_in}
 use Rattle.acn_names.proofs.Inside.{IsInside, stands_inside, mentioned}
 
 member_empty : {A B : Type 0} (f : A → List B) {x : A} (xs : List A) → flat_map f xs ≡ [] → Within x xs → f x ≡ []
@@ -109,27 +111,19 @@ module _ (w : World) where
   whole_next : (n : ℕ) (l next : Link) → next_link w l ≡ Some next → links_within n w next ≡ links_within (suc n) w next → links_within (suc n) w l ≡ links_within (suc (suc n)) w l
   whole_next n l next e h = one_link n l next e ∙ (ap (λ (z : List Link). l ∷ z) h ∙ sym (one_link (suc n) l next e))
 
-  last_here : (n : ℕ) (l : Link) → next_link w l ≡ None → last_link l (links_within (suc n) w l) ≡ l
-  unfolding links_within
-  last_here n l e = rw e refl
-
-  last_onward : (n : ℕ) (l next : Link) → next_link w l ≡ Some next → last_link l (links_within (suc (suc n)) w l) ≡ last_link next (links_within (suc n) w next)
-  unfolding links_within
-  last_onward n l next e = rw e refl
-
   abbrev Onward : ℕ → Link → Type 0
   Onward n l = (r : Option Name × Name) → reference_of l.of ≡ Some r → (next : Link) × (next_link w l ≡ Some next) × (m : ℕ) × (n ≡ suc m) × Ends n next
 
   onward : (n m : ℕ) (l next : Link) → n ≡ suc m → next_link w l ≡ Some next → Ends n next → Ends (suc n) l
   onward zero m l next s e ends = absurd (omega (arith, s))
   onward (suc n) m l next s e ends = record {
-    base = subst (λ (z : Link). reference_of z.of ≡ None) (sym (last_onward n l next e)) ends.base;
+    base = subst (λ (z : Link). reference_of z.of ≡ None) (sym (last_goes w (suc n) n l next refl e)) ends.base;
     whole = whole_next (suc n) l next e ends.whole;
   }
 
   step : (n : ℕ) (l : Link) (o : Option (Option Name × Name)) → reference_of l.of ≡ o → Onward n l → Ends (suc n) l
   step n l None e on = record {
-    base = subst (λ (z : Link). reference_of z.of ≡ None) (sym (last_here n l (no_next l e))) e;
+    base = subst (λ (z : Link). reference_of z.of ≡ None) (sym (last_ends w n l (no_next l e))) e;
     whole = whole_here n l (no_next l e);
   }
   step n l (Some r) e on = let h = on r e in onward n h.2 l h.0 h.3 h.1 h.4

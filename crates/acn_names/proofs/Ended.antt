@@ -1,58 +1,21 @@
 -- References of values end: no more assignments are passed than there are, since none is passed twice.
-use Rattle.std.proofs.Common.{◌≡◌, ℕ, zero, suc, ◌+◌, ◌≤◌, List, [], ◌∷◌, length, map, refl, ap, subst, ◌∙◌, arith, inl, inr, ◌⊎◌, length-append}
-use Rattle.std.specs.Prelude.{Option, Some, None, slice_get, flat_map, is_some}
-use Rattle.std.specs.List.{enumerate_from}
-use Rattle.acn_asn_syntax.specs.Mirror.{AsnModule, AsnType, Assign, ValueIs}
+use Rattle.std.proofs.Common.{◌≡◌, ℕ, zero, suc, ◌≤◌, List, [], ◌∷◌, length, refl, ap, subst, ◌∙◌, arith, inl, inr}
+use Rattle.std.specs.Prelude.{Option, Some, None, is_some}
+use Rattle.acn_asn_syntax.specs.Mirror.{AsnType, ValueIs}
 use Rattle.acn_asn_syntax.specs.declared.values.AsnValue.{AsnValue}
 use Rattle.acn_asn_syntax.specs.declared.values.AsnValue.TheVariants as value
 use Rattle.acn_num.specs.Names.{Name}
-use Rattle.acn_world.specs.World.{World, place, assignment, module_places, places, count}
+use Rattle.acn_world.specs.World.{World, assignment, places, count}
 use Rattle.acn_world.specs.Lookup.{value_named}
 use Rattle.acn_world.specs.Values.{Worth, refers, first_worth, value_within, value_of}
-use Rattle.acn_world.specs.Cycles.{Within, here, there, targets, targets_of, Reaches, once, more}
+use Rattle.acn_world.specs.Cycles.{Within, here, targets, targets_of, Reaches, once, more}
 use Rattle.acn_world.specs.Faults.{IsSound}
 use Rattle.acn_world.specs.declared.sources.TypeId.{TypeId}
+use Rattle.acn_world.proofs.Left.{without, is_placed, every_place}
 use Rattle.acn_world.proofs.ValueSteps.{lost, ends, goes}
-use Rattle.acn_cycles.specs.Numbers.{starts, number_in}
-use Rattle.acn_cycles.proofs.Places.{place_of_number}
 use Rattle.acn_cycles.proofs.Assigned.{IsAssigned, target_assigned}
 use Rattle.acn_names.proofs.Valued.{valued}
 use Rattle.acn_names.proofs.Known.{named_behind}
-
--- ---- a list without one of its items
-
-kept : {A : Type 0} {x z y : A} {xs ys : List A} → ((u : A) → Within u xs → (u ≡ x) ⊎ Within u ys) → Within y (z ∷ xs) → (y ≡ x) ⊎ Within y (z ∷ ys)
-kept f here = inr here
-kept f (there {x = y} i) = elim (f y i) [ inl e ↦ inl e | inr j ↦ inr (there j) ]
-
-first_or_later : {A : Type 0} {y z : A} {xs : List A} → Within y (z ∷ xs) → (y ≡ z) ⊎ Within y xs
-first_or_later here = inl refl
-first_or_later (there i) = inr i
-
-pub without : {A : Type 0} {x : A} (xs : List A) → Within x xs → (ys : List A) × (length xs ≡ suc (length ys)) × ((y : A) → Within y xs → (y ≡ x) ⊎ Within y ys)
-without [] i = absurd (elim i [ ])
-without (z ∷ xs) here = (xs, refl, λ y j. first_or_later j)
-without (z ∷ xs) (there i) = let h = without xs i in (z ∷ h.0, ap suc h.1, λ y j. kept h.2 j)
-
-got_in : {A : Type 0} (xs : List A) (n : ℕ) (x : A) → slice_get xs n ≡ Some x → Within x xs
-got_in [] n x e = absurd (cc e)
-got_in (z ∷ xs) zero x e = let same : z ≡ x = cc e in subst (λ (y : _). Within y (z ∷ xs)) same here
-got_in (z ∷ xs) (suc n) x e = there (got_in xs n x e)
-
--- ---- as many places as assignments
-
-item_count : (j i : ℕ) (items : List Assign) → length (map (λ (a : ℕ × Assign). place j a.0) (enumerate_from i items)) ≡ length items
-item_count j i [] = refl
-item_count j i (a ∷ items) = ap suc (item_count j (i + 1) items)
-
-place_count : (j : ℕ) (ms : List AsnModule) → length (flat_map module_places (enumerate_from j ms)) ≡ length (flat_map (λ (m : AsnModule). m.items) ms)
-place_count j [] = refl
-place_count j (m ∷ ms) =
-    let front = length-append (module_places (j, m)) (flat_map module_places (enumerate_from (j + 1) ms)) in
-    let whole = length-append m.items (flat_map (λ (x : AsnModule). x.items) ms) in
-    let own = item_count j 0 m.items in
-    let rest = place_count (j + 1) ms in
-    omega arith
 
 -- ---- references
 
@@ -67,12 +30,8 @@ is_reference (value.Hex name) other e = absurd (cc e)
 is_reference (value.Text name) other e = absurd (cc e)
 
 module _ (w : World) where
-  pub every_place : length (places w) ≡ count w
-  unfolding places count
-  every_place = place_count 0 w.modules
-
   pub assigned_in : (p : TypeId) → IsAssigned w p → Within p (places w)
-  assigned_in p a = got_in (places w) (number_in (starts w) p) p (place_of_number w p a.0 a.1)
+  assigned_in p a = is_placed w p a.0 a.1
 
   pub reached_in : {p q : TypeId} {way : List TypeId} → Reaches w p q way → Within q (places w)
   reached_in (once {p} {q} i) = assigned_in q (target_assigned w p q i)
@@ -118,7 +77,7 @@ module _ (w : World) where
     cases k name None e = ap is_some (lost w (count w) k name (rw e refl))
     cases k name (Some p) e =
         let v = valued w k name p e in
-        let h = ended (count w) (places w) k name p (let a = every_place in omega arith) e (assigned_in p (ValueIs v.0 v.1 v.2, v.3)) (λ q way r. reached_in r) in
+        let h = ended (count w) (places w) k name p (let a = every_place w in omega arith) e (assigned_in p (ValueIs v.0 v.1 v.2, v.3)) (λ q way r. reached_in r) in
         ap is_some h.1
 
 pub each_found : (w : World) (k : ℕ) (name : Name) → IsSound w → is_some (value_of w k name) ≡ is_some (value_named w k name)

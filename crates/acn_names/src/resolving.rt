@@ -104,8 +104,11 @@ pub fn resolve(alloc: Global, sources: Sources) -> Result<World, NameFault>
         return Err(NameFault::NoMemory);
     }
     let index = gather(alloc, sources)?;
-    match fault_in(alloc, &index)? {
-        None => Ok(World::from_index(index)),
-        Some(fault) => Err(fault),
+    match fault_in(alloc, &index) {
+        Err(NoMemory) => Err(NameFault::NoMemory),
+        Ok(found) => match found {
+            None => Ok(World::from_index(index)),
+            Some(fault) => Err(fault),
+        },
     }
 }
