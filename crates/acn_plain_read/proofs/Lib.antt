@@ -1,0 +1,9 @@
+mod Homes
+mod Loops
+mod Nodes
+mod Pads
+mod Seqs
+mod SlotTurns
+mod Small
+mod StringReads
+mod Turns

@@ -1,0 +1,157 @@
+use Rattle.std.proofs.lemmas.Int.{to_z-of_z}
+use Rattle.std.specs.Int.{w128}
+use Rattle.std.proofs.Common.{◌≡◌, ℕ, true, false, suc, ◌+◌, ◌∷◌, [], ◌++◌, length, None, refl, sym, ap, ◌∙◌, rules, subst, List}
+use Rattle.acn_grammar.specs.Grammar.{Grammar, Fields, node}
+use Rattle.acn_grammar.specs.View.{grammar_of, form_of, data_of, field_of, fields_view, with_field}
+use Rattle.acn_grammar.specs.declared.node.Node.{the_lemmas}
+use Rattle.acn_grammar.proofs.Views.{view_node, view_component, view_inserted}
+use Rattle.acn_plain_read.proofs.SlotTurns.{component_read}
+use Rattle.acn_plain_read.specs.Steps.{noted_by}
+use Rattle.acn_grammar.specs.Grammar.{component, inserted}
+use Rattle.std.proofs.Common.{ℤ, Some}
+use Rattle.acn_plain_read.proofs.Nodes.{on_ok_map}
+use Rattle.acn_plain_read.specs.Decoded.{Follows, Tells, NodeRead, NodeStops, FieldsStop}
+use Rattle.acn_plain_read.specs.Present.{there_now}
+use Rattle.acn_plain_read.proofs.Nodes.{tells_map, stop_map, ok_map, node_read, node_fails_at, node_short_at}
+use Rattle.acn_plain_read.proofs.Turns.{bit_is, there_told, away_turn, component_stops, no_turn, depth_is}
+use Rattle.std.proofs.Common.{map, drop, ◌<◌, ◌≤◌, arith}
+use Rattle.std.specs.Prelude.{option_map}
+use Rattle.std.proofs.lemmas.List.{map-append}
+use Rattle.acn_plain_read.specs.Decoded.{Turn}
+use Rattle.acn_plain_read.specs.Decoded.{NodeStands, FieldsStand}
+use Rattle.acn_plain_read.proofs.Loops.{fields_from, next_ready, next_turn, next_stops, all_turns, component_turn, inserted_turn, named_at}
+use Rattle.acn_grammar.proofs.Views.{view_seq, view_seq_form}
+use Rattle.acn_grammar.specs.Fails.{presence_count}
+use Rattle.acn_plain_read.proofs.Seqs.{few_fields, fields_named, fields_ready, flags_are, seq_read_at, seq_fails_at, seq_short_at}
+use Rattle.acn_plain_read.proofs.read.+read.Goals as goal
+
+pub read_component-is_there-requires : goal.read_component-is_there-requires
+read_component-is_there-requires t c = let r = c.requires.ready in bit_is (grammar_of c.args.root.now) c.args.presence.now [] (grammar_of c.args.node.now) None c.args.slot r.1 c.args.flags.now.rest r.3
+
+pub read_component-read_node-requires : goal.read_component-read_node-requires
+read_component-read_node-requires t c =
+    let r = c.requires.ready in
+    (search (rules, the_lemmas), (
+      (r.0, subst (λ (n : ℕ). NodeStands (grammar_of c.args.root.now) n (grammar_of c.args.node.now) c.args.slots.now r.0) (depth_is c.args.path.now c.push.new.self c.args.k c.push.ensures) (record { known = r.2.known; noted = r.2.noted; is = r.2.is.3 })), (
+      c.requires.named,
+      c.requires.fine)))
+
+pub read_component-returns-in_ok-note-in-Ok-clause-read : goal.read_component-returns-in_ok-note-in-Ok-clause-read
+read_component-returns-in_ok-note-in-Ok-clause-read t c place name default fs =
+    let r = c.requires.ready in
+    let yes' : there_now c.args.presence.now c.args.slots.now c.args.flags.now.rest ≡ true = ap (λ x. there_now c.args.presence.now x c.args.flags.now.rest) (sym c.items.ensures) ∙ (sym c.is_there.ensures.there ∙ c.if-is_there.true) in
+    subst (λ (x : List (ℕ × ℤ)). Turn (grammar_of c.args.root.now) (record { path = c.args.path.now; place = place; inside = c.args.inside }) c.args.cur.now.origin c.args.k (suc c.args.k) (component name (grammar_of c.args.node.now) c.args.presence.now default c.args.slot fs) fs (Some (data_of c.in-Ok.value) ∷ []) c.args.slots.now x c.args.flags.now.rest c.is_there.new.flags.rest c.args.cur.now c.read_node.new.cur)
+      (sym (c.in_ok-note-in-Ok.ensures ∙ ap (λ (x : ℤ). noted_by c.args.slot x c.read_node.new.slots) (to_z-of_z w128 c.number_of.result (record { sfits = search rules }) ∙ c.number_of.ensures)))
+      (component_read (grammar_of c.args.root.now) (record { path = c.args.path.now; place = place; inside = c.args.inside }) c.args.cur.now.origin c.args.k name (grammar_of c.args.node.now) c.args.presence.now default c.args.slot fs r.1 (data_of c.in-Ok.value) c.args.slots.now c.read_node.new.slots c.args.flags.now.rest c.is_there.new.flags.rest c.args.cur.now c.read_node.new.cur (suc (length c.args.path.now)) r.0 r.2 c.requires.named
+        c.is_there.ensures.flags (λ env f. (there_told (grammar_of c.args.root.now) r.2.known c.args.slots.now env c.args.presence.now c.args.flags.now.rest r.2.noted.has r.2.is.0 f).0 yes') c.in-Ok.ensures.read)
+
+pub read_component-returns-in-Err-clause-fails : goal.read_component-returns-in-Err-clause-fails
+read_component-returns-in-Err-clause-fails t c =
+    let r = c.requires.ready in
+    let yes' : there_now c.args.presence.now c.args.slots.now c.args.flags.now.rest ≡ true = ap (λ x. there_now c.args.presence.now x c.args.flags.now.rest) (sym c.items.ensures) ∙ (sym c.is_there.ensures.there ∙ c.if-is_there.true) in
+    tells_map c.in-Err.stop _ _ (λ q at s place name default fs. component_stops (grammar_of c.args.root.now) (record { path = c.args.path.now; place = place; inside = c.args.inside }) c.args.cur.now.origin c.args.k name (grammar_of c.args.node.now) c.args.presence.now default c.args.slot fs c.args.slots.now c.args.flags.now.rest c.args.cur.now c.read_node.new.path q at
+      refl (λ env f. (there_told (grammar_of c.args.root.now) r.2.known c.args.slots.now env c.args.presence.now c.args.flags.now.rest r.2.noted.has r.2.is.0 f).0 yes')
+      (subst (λ (p : List ℕ). NodeStops (grammar_of c.args.root.now) (grammar_of c.args.node.now) c.args.inside p c.args.slots.now c.args.cur.now c.read_node.new.path q at) c.push.ensures s)) c.in-Err.ensures.fails
+
+pub read_component-returns-else-is_there-clause-read : goal.read_component-returns-else-is_there-clause-read
+read_component-returns-else-is_there-clause-read t c place name default fs =
+    let r = c.requires.ready in
+    let no' : there_now c.args.presence.now c.args.slots.now c.args.flags.now.rest ≡ false = ap (λ x. there_now c.args.presence.now x c.args.flags.now.rest) (sym c.items.ensures) ∙ (sym c.is_there.ensures.there ∙ c.if-is_there.false) in
+    away_turn (grammar_of c.args.root.now) (record { path = c.args.path.now; place = place; inside = c.args.inside }) c.args.cur.now.origin c.args.k name (grammar_of c.args.node.now) c.args.presence.now default c.args.slot fs c.args.slots.now c.args.flags.now.rest c.is_there.new.flags.rest c.args.cur.now
+    c.is_there.ensures.flags (λ env f. (there_told (grammar_of c.args.root.now) r.2.known c.args.slots.now env c.args.presence.now c.args.flags.now.rest r.2.noted.has r.2.is.0 f).1 no') c.requires.fine
+
+pub read_node-returns-in-Ok-clause-read : goal.read_node-returns-in-Ok-clause-read
+read_node-returns-in-Ok-clause-read t c =
+    ok_map c.read_body.result _ _ (λ v f. subst (λ (g : Grammar). NodeRead (grammar_of c.args.root.now) g (data_of v) c.args.slots.now c.read_body.new.slots c.args.cur.now c.read_body.new.cur) (sym (view_node c.args.node.now))
+      (node_read (grammar_of c.args.root.now) c.args.node.now.align (form_of c.args.node.now.body) (data_of v) c.args.slots.now c.read_body.new.slots c.args.cur.now c.pad.new.cur c.read_body.new.cur c.in-Ok.ensures.passed f)) c.read_body.ensures.read
+
+pub read_node-returns-in-Ok-clause-fails : goal.read_node-returns-in-Ok-clause-fails
+read_node-returns-in-Ok-clause-fails t c =
+    stop_map c.read_body.result _ _ (λ q at s. node_fails_at (grammar_of c.args.root.now) (grammar_of c.args.node.now) c.args.node.now.align (form_of c.args.node.now.body) c.args.inside c.args.path.now _ c.args.slots.now c.args.cur.now c.pad.new.cur c.reach-from.result q at (view_node c.args.node.now) c.reach-from.ensures c.in-Ok.ensures.passed s) c.read_body.ensures.fails
+
+pub read_node-returns-in-Err-clause-fails : goal.read_node-returns-in-Err-clause-fails
+read_node-returns-in-Err-clause-fails t c =
+    node_short_at (grammar_of c.args.root.now) (grammar_of c.args.node.now) c.args.node.now.align (form_of c.args.node.now.body) c.args.inside c.args.path.now c.args.slots.now c.args.cur.now _ c.reach-from.result (view_node c.args.node.now) c.reach-from.ensures c.named.ensures c.requires.fine c.in-Err.ensures.short
+
+pub read_field-returns-in_ok-push-in-Ok-clause-read : goal.read_field-returns-in_ok-push-in-Ok-clause-read
+read_field-returns-in_ok-push-in-Ok-clause-read t c =
+    let m = c.in-Component in
+    component_turn (grammar_of c.args.root.now) (field_of c.args.field.now) m.name (grammar_of m.node) m.presence m.default m.slot c.args.inside c.args.path.now c.args.cur.now.origin c.args.k (option_map data_of c.in-Ok.place ∷ []) (map (option_map data_of) c.args.places.now) (map (option_map data_of) c.push.new.self)
+      c.args.slots.now c.read_component.new.slots c.args.flags.now.rest c.read_component.new.flags.rest c.args.cur.now c.read_component.new.cur
+      (ap field_of m.is ∙ view_component m.name m.node m.presence m.default m.slot) (ap (map (option_map data_of)) c.in_ok-push-in-Ok.ensures.ok ∙ map-append (option_map data_of) c.args.places.now (c.in-Ok.place ∷ [])) c.in-Ok.ensures.read
+
+pub read_fields-loop-field-init : goal.read_fields-loop-field-init
+read_fields-loop-field-init t c = record {
+  place = refl;
+  path = refl;
+  turn = λ place. rw c.new-places.ensures (no_turn (grammar_of c.args.root.now) (record { path = c.args.path.now; place = place; inside = c.args.inside }) c.args.cur.now.origin 0 (fields_view c.args.fields.now) c.args.slots.now c.args.flags.now.rest c.args.cur.now c.requires.fine);
+}
+
+pub read_fields-read_field-requires : goal.read_fields-read_field-requires
+read_fields-read_field-requires t c =
+    let l = c.loop-field in
+    let p = l.invariant.turn 0 in
+    let from = fields_from c.args.fields.now l.field-index c.field-item.result c.loop-field-test.true c.field-item.is in
+    (search (rules, the_lemmas), (subst (λ (path : List ℕ). (around : List ℕ) × (fs : Fields) × FieldsStand (grammar_of c.args.root.now) (suc (length path)) (with_field (field_of c.field-item.result) fs) l.slots around × (Rattle.acn_grammar.specs.Fails.presence_count (with_field (field_of c.field-item.result) fs) ≡ length l.flags.rest)) (sym l.invariant.path)
+      (next_ready (grammar_of c.args.root.now) (record { path = c.args.path.now; place = 0; inside = c.args.inside }) c.args.cur.now.origin l.k (suc (length c.args.path.now)) (fields_view c.args.fields.now) (fields_view (drop l.field-index c.args.fields.now)) (fields_view (drop (l.field-index + 1) c.args.fields.now)) (field_of c.field-item.result) (map (option_map data_of) l.places) c.args.slots.now l.slots c.args.flags.now.rest l.flags.rest c.args.cur.now l.cur from p c.requires.bits c.requires.ready), (
+      named_at c.args.fields.now l.field-index c.field-item.result c.loop-field-test.true c.field-item.is c.requires.named,
+      p.fine)))
+
+pub read_fields-returns-in-Err-clause-fails : goal.read_fields-returns-in-Err-clause-fails
+read_fields-returns-in-Err-clause-fails t c =
+    let l = c.loop-field in
+    let from = fields_from c.args.fields.now l.field-index c.field-item.result c.loop-field-test.true c.field-item.is in
+    tells_map c.in-Err.stop _ _ (λ q at s place. next_stops (grammar_of c.args.root.now) place c.args.inside c.args.path.now l.path _ l.k (fields_view c.args.fields.now) (fields_view (drop l.field-index c.args.fields.now)) (fields_view (drop (l.field-index + 1) c.args.fields.now)) (field_of c.field-item.result) (map (option_map data_of) l.places) c.args.slots.now l.slots c.args.flags.now.rest l.flags.rest c.args.cur.now l.cur q at from l.invariant.path (l.invariant.turn place) s) c.in-Err.ensures.fails
+
+pub read_fields-loop-field-preserved : goal.read_fields-loop-field-preserved
+read_fields-loop-field-preserved t c =
+    let l = c.loop-field in
+    let from = fields_from c.args.fields.now l.field-index c.field-item.result c.loop-field-test.true c.field-item.is in
+    let d = c.in-Ok.ensures.read in
+    record {
+      place = ap (λ (n : ℕ). n + 1) l.invariant.place;
+      path = c.in-Ok.ensures.path ∙ l.invariant.path;
+      turn = λ place. rw d.1 (next_turn (grammar_of c.args.root.now) place c.args.inside c.args.path.now l.path c.args.cur.now.origin l.k (fields_view c.args.fields.now) (fields_view (drop l.field-index c.args.fields.now)) (fields_view (drop (l.field-index + 1) c.args.fields.now)) (field_of c.field-item.result) (map (option_map data_of) l.places) d.0 c.args.slots.now l.slots c.read_field.new.slots c.args.flags.now.rest l.flags.rest c.read_field.new.flags.rest c.args.cur.now l.cur c.read_field.new.cur from l.invariant.path (l.invariant.turn place) d.2);
+    }
+
+pub read_fields-returns-clause-read : goal.read_fields-returns-clause-read
+read_fields-returns-clause-read t c place =
+    let l = c.loop-field in
+    all_turns (grammar_of c.args.root.now) (record { path = c.args.path.now; place = place; inside = c.args.inside }) c.args.cur.now.origin l.k l.field-index c.args.fields.now (map (option_map data_of) l.places) c.args.slots.now l.slots c.args.flags.now.rest l.flags.rest c.args.cur.now l.cur c.loop-field-test.false l.auto.field-index-end l.invariant.place (l.invariant.turn place)
+
+pub read_seq-count_of-requires : goal.read_seq-count_of-requires
+read_seq-count_of-requires t c = few_fields (grammar_of c.args.root.now) _ c.args.seq.now.fields c.items.result.now c.args.seq.now.home (length c.args.path.now) c.args.slots.now (view_seq_form c.args.seq.now) c.items.ensures c.requires.ready
+
+pub read_seq-read_fields-requires : goal.read_seq-read_fields-requires
+read_seq-read_fields-requires t c =
+    let root = grammar_of c.args.root.now in
+    let count : c.count_of.result ≡ presence_count (fields_view c.args.seq.now.fields) = c.count_of.ensures ∙ ap (λ x. presence_count (fields_view x)) c.items.ensures in
+    (search (rules, the_lemmas), (
+      few_fields (grammar_of c.args.root.now) _ c.args.seq.now.fields c.items-in-Ok.result.now c.args.seq.now.home (length c.args.path.now) c.args.slots.now (view_seq_form c.args.seq.now) c.items-in-Ok.ensures c.requires.ready, (
+      flags_are (grammar_of c.args.root.now) c.args.seq.now.fields c.items-in-Ok.result.now c.count_of.result c.args.cur.now c.in-Ok.window c.items-in-Ok.ensures count c.in-Ok.ensures.within c.in-Ok.ensures.window, (
+      fields_ready (grammar_of c.args.root.now) _ c.args.seq.now.fields c.items-in-Ok.result.now c.args.seq.now.home (length c.args.path.now) c.args.slots.now (view_seq_form c.args.seq.now) c.items-in-Ok.ensures c.requires.ready, (
+      fields_named _ c.args.seq.now.fields c.items-in-Ok.result.now c.args.seq.now.home (view_seq_form c.args.seq.now) c.items-in-Ok.ensures c.requires.named,
+      c.requires.fine)))))
+
+pub read_seq-returns-in_ok-left-in-Ok-read_fields-clause-read : goal.read_seq-returns-in_ok-left-in-Ok-read_fields-clause-read
+read_seq-returns-in_ok-left-in-Ok-read_fields-clause-read t c =
+    let count : c.count_of.result ≡ presence_count (fields_view c.args.seq.now.fields) = c.count_of.ensures ∙ ap (λ x. presence_count (fields_view x)) c.items.ensures in
+    seq_read_at (grammar_of c.args.root.now) (record { path = c.args.path.now; place = c.args.from; inside = c.args.inside }) c.window.new.self.origin (length c.items-in-Ok.result.now) (length c.args.path.now) _ c.args.seq.now.fields c.items-in-Ok.result.now c.args.seq.now.home c.items-in-Ok-read_fields-2.result.now c.in-Ok-read_fields.places _ c.args.slots.now c.read_fields.new.slots c.items-in-Ok-read_fields.result.now c.in_ok-left-in-Ok-read_fields.left c.args.cur.now c.window.new.self c.read_fields.new.cur c.in-Ok.window c.count_of.result _
+      (view_seq_form c.args.seq.now) (view_seq c.in-Ok-read_fields.places) c.items-in-Ok.ensures c.items-in-Ok-read_fields-2.ensures c.items-in-Ok-read_fields.ensures c.in_ok-left-in-Ok-read_fields.ensures count c.in-Ok.ensures.within c.in-Ok.ensures.window c.in-Ok.ensures.moved c.requires.ready (c.in-Ok-read_fields.ensures.read c.args.from)
+
+pub read_seq-returns-in-Err-read_fields-clause-fails : goal.read_seq-returns-in-Err-read_fields-clause-fails
+read_seq-returns-in-Err-read_fields-clause-fails t c =
+    let count : c.count_of.result ≡ presence_count (fields_view c.args.seq.now.fields) = c.count_of.ensures ∙ ap (λ x. presence_count (fields_view x)) c.items.ensures in
+    tells_map c.in-Err-read_fields.stop _ _ (λ q at s. seq_fails_at (grammar_of c.args.root.now) (record { path = c.args.path.now; place = c.args.from; inside = c.args.inside }) (length c.args.path.now) _ c.args.seq.now.fields c.items-in-Ok.result.now c.args.seq.now.home c.args.slots.now c.args.cur.now c.window.new.self c.in-Ok.window c.count_of.result _ q at
+      (view_seq_form c.args.seq.now) c.items-in-Ok.ensures count c.in-Ok.ensures.within c.in-Ok.ensures.window c.in-Ok.ensures.moved c.requires.ready (s c.args.from)) c.in-Err-read_fields.ensures.fails
+
+pub read_seq-returns-in-Err-clause-fails : goal.read_seq-returns-in-Err-clause-fails
+read_seq-returns-in-Err-clause-fails t c =
+    let count : c.count_of.result ≡ presence_count (fields_view c.args.seq.now.fields) = c.count_of.ensures ∙ ap (λ x. presence_count (fields_view x)) c.items.ensures in
+    seq_short_at (grammar_of c.args.root.now) (record { path = c.args.path.now; place = c.args.from; inside = c.args.inside }) _ c.args.seq.now.fields c.args.seq.now.home c.args.slots.now c.args.cur.now c.count_of.result _ (view_seq_form c.args.seq.now) count c.named.ensures c.requires.fine c.in-Err.ensures.short
+
+pub read_field-returns-in-Inserted-clause-read : goal.read_field-returns-in-Inserted-clause-read
+read_field-returns-in-Inserted-clause-read t c =
+    let m = c.in-Inserted in
+    on_ok_map c.read_inserted.result (λ p. inserted_turn (grammar_of c.args.root.now) (field_of c.args.field.now) m.name (grammar_of m.node) m.slot c.args.inside c.args.path.now c.args.cur.now.origin c.args.k (map (option_map data_of) c.args.places.now) c.args.slots.now c.read_inserted.new.slots c.args.flags.now.rest c.args.cur.now c.read_inserted.new.cur
+      (ap field_of m.is ∙ view_inserted m.name m.node m.slot) p) c.read_inserted.ensures.read

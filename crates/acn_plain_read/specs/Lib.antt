@@ -1,0 +1,4 @@
+pub mod Decoded
+pub mod Present
+pub mod Sound
+pub mod Steps

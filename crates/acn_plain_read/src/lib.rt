@@ -1,0 +1,15 @@
+//! Values out of bits by a walk over the tree, slowly: what the fast way is compared with.
+#![tactic(auto)]
+
+mod leaves;
+mod numbers;
+mod presence;
+mod read;
+mod sizes;
+mod slot;
+mod steps;
+mod stop;
+mod strings;
+
+pub use read::read_node;
+pub use stop::Stop;

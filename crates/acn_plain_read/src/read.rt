@@ -1,0 +1,241 @@
+//! The walk.
+
+ghost use Rattle.std.specs.Prelude.{◌≡◌, ◌<◌, ◌+◌, ◌^◌, ℕ, suc, ◌∷◌, [], ◌++◌, List, Bool, Option, None, IfOk, IfErr, OnOk, IsTrue, length, map, option_map};
+ghost use Rattle.acn_grammar.specs.Fails.{presence_count};
+ghost use Rattle.acn_grammar.specs.Grammar.{Fields, Data, component, inserted, no_fields};
+ghost use Rattle.acn_grammar.specs.ItemsNamed.{ItemsNamed, FormItemsNamed, FieldsItemsNamed, field_items_named};
+ghost use Rattle.acn_grammar.specs.View.{grammar_of, form_of, data_of, field_of, fields_view, with_field};
+ghost use Rattle.acn_grammar.specs.declared.node.Body.TheVariants.{Seq as Seq_body};
+ghost use Rattle.acn_plain_read.specs.Decoded.{Tells, Fine, NodeStands, FormStands, FieldsStand, NodeRead, FormRead, NodeStops, FormStops, Turn, FieldsStop};
+
+use crate::leaves::{named, read_leaf};
+use crate::numbers::{note, without};
+use crate::presence::{count_of, is_there};
+use crate::slot::read_inserted;
+use crate::steps::{number_of, pad};
+use crate::stop::Stop;
+use crate::strings::{read_bits, read_octets};
+use acn_bits::ReadCursor;
+use acn_grammar::{Body, Field, Node, Presence, ReadFault, Seq, Value};
+use acn_num::{Path, Row};
+use std::alloc::Global;
+
+/// A node at a path.
+#[cycle(read)]
+pub fn read_node(
+    alloc: Global,
+    node: &Node,
+    root: &Node,
+    cur: &mut ReadCursor<'_>,
+    slots: &mut Row<(u32, i128)>,
+    path: &mut Path,
+    inside: bool,
+) -> Result<Value, Stop>
+    requires ready { (around : List ℕ) × NodeStands (grammar_of root.now) (length path.old) (grammar_of node.now) slots.old around }
+    requires named { ItemsNamed (grammar_of node.now) }
+    requires fine { Fine (grammar_of root.now) slots.old }
+    ensures read { IfOk result (λ v. NodeRead (grammar_of root.now) (grammar_of node.now) (data_of v) slots.old slots.new cur.old cur.new) }
+    ensures fails { IfErr result (λ e. Tells e (NodeStops (grammar_of root.now) (grammar_of node.now) inside path.old slots.old cur.old path.new)) }
+    ensures path { OnOk result (path.new ≡ path.old) }
+{
+    let from = cur.reach();
+    match pad(cur, node.align) {
+        Ok(()) => read_body(alloc, &node.body, root, cur, slots, path, inside, from),
+        Err(_) => Err(Stop::Fails {
+            reason: named(inside, ReadFault::Short),
+            at: from,
+        }),
+    }
+}
+
+#[cycle(read)]
+fn read_body(
+    alloc: Global,
+    body: &Body,
+    root: &Node,
+    cur: &mut ReadCursor<'_>,
+    slots: &mut Row<(u32, i128)>,
+    path: &mut Path,
+    inside: bool,
+    from: u64,
+) -> Result<Value, Stop>
+    requires ready { (around : List ℕ) × FormStands (grammar_of root.now) (length path.old) (form_of body.now) slots.old around }
+    requires named { FormItemsNamed (form_of body.now) }
+    requires fine { Fine (grammar_of root.now) slots.old }
+    ensures read { IfOk result (λ v. FormRead (grammar_of root.now) (form_of body.now) (data_of v) slots.old slots.new cur.old cur.new) }
+    ensures fails { IfErr result (λ e. Tells e (FormStops (grammar_of root.now) (form_of body.now) (record { path = path.old; place = from; inside = inside }) cur.old.origin slots.old cur.old path.new)) }
+    ensures path { OnOk result (path.new ≡ path.old) }
+{
+    match body {
+        Body::Num(leaf) => read_leaf(cur, leaf, inside, from),
+        Body::Seq(seq) => read_seq(alloc, seq, root, cur, slots, path, inside, from),
+        Body::Octets(sizing) => read_octets(alloc, cur, sizing, slots.items(), inside, from),
+        Body::Bits(sizing) => read_bits(alloc, cur, sizing, slots.items(), inside, from),
+        Body::Text(_) => Err(Stop::NoMemory),
+        Body::List(_, _) => Err(Stop::NoMemory),
+        Body::Choice(_) => Err(Stop::NoMemory),
+        Body::Contained(_, _) => Err(Stop::NoMemory),
+    }
+}
+
+#[cycle(read)]
+fn read_seq(
+    alloc: Global,
+    seq: &Seq,
+    root: &Node,
+    cur: &mut ReadCursor<'_>,
+    slots: &mut Row<(u32, i128)>,
+    path: &mut Path,
+    inside: bool,
+    from: u64,
+) -> Result<Value, Stop>
+    requires ready { (around : List ℕ) × FormStands (grammar_of root.now) (length path.old) (form_of (Seq_body seq.now)) slots.old around }
+    requires named { FormItemsNamed (form_of (Seq_body seq.now)) }
+    requires fine { Fine (grammar_of root.now) slots.old }
+    ensures read { IfOk result (λ v. FormRead (grammar_of root.now) (form_of (Seq_body seq.now)) (data_of v) slots.old slots.new cur.old cur.new) }
+    ensures fails { IfErr result (λ e. Tells e (FormStops (grammar_of root.now) (form_of (Seq_body seq.now)) (record { path = path.old; place = from; inside = inside }) cur.old.origin slots.old cur.old path.new)) }
+    ensures path { OnOk result (path.new ≡ path.old) }
+{
+    match cur.window(count_of(seq.fields.items())) {
+        Ok(window) => {
+            let mut flags = window;
+            match read_fields(
+                alloc,
+                seq.fields.items(),
+                root,
+                &mut flags,
+                cur,
+                slots,
+                path,
+                inside,
+            ) {
+                Ok(places) => {
+                    let left = without(alloc, slots.items(), seq.home.items())?;
+                    *slots = left;
+                    Ok(Value::Seq(places))
+                }
+                Err(stop) => Err(stop),
+            }
+        }
+        Err(_) => Err(Stop::Fails {
+            reason: named(inside, ReadFault::Short),
+            at: from,
+        }),
+    }
+}
+
+#[cycle(read)]
+fn read_fields(
+    alloc: Global,
+    fields: &[Field],
+    root: &Node,
+    flags: &mut ReadCursor<'_>,
+    cur: &mut ReadCursor<'_>,
+    slots: &mut Row<(u32, i128)>,
+    path: &mut Path,
+    inside: bool,
+) -> Result<Row<Option<Value>>, Stop>
+    requires few { length fields.now < 2 ^ 32 }
+    requires bits { presence_count (fields_view fields.now) ≡ length flags.old.rest }
+    requires ready { (around : List ℕ) × FieldsStand (grammar_of root.now) (suc (length path.old)) (fields_view fields.now) slots.old around }
+    requires named { FieldsItemsNamed (fields_view fields.now) }
+    requires fine { Fine (grammar_of root.now) slots.old }
+    ensures read { IfOk result (λ places. (place : ℕ) → Turn (grammar_of root.now) (record { path = path.old; place = place; inside = inside }) cur.old.origin 0 (length fields.now) (fields_view fields.now) no_fields (map (option_map data_of) places) slots.old slots.new flags.old.rest flags.new.rest cur.old cur.new) }
+    ensures fails { IfErr result (λ e. Tells e (λ r at. (place : ℕ) → FieldsStop (grammar_of root.now) (fields_view fields.now) flags.old.rest (record { path = path.old; place = place; inside = inside }) cur.old.origin 0 slots.old cur.old path.new r at)) }
+    ensures path { OnOk result (path.new ≡ path.old) }
+{
+    let mut places = Row::new(alloc);
+    let mut k = 0u32;
+    for field in fields {
+        match read_field(
+            alloc,
+            field,
+            root,
+            flags,
+            cur,
+            slots,
+            path,
+            inside,
+            k,
+            &mut places,
+        ) {
+            Ok(()) => k += 1,
+            Err(stop) => return Err(stop),
+        }
+    }
+    Ok(places)
+}
+
+#[cycle(read)]
+fn read_field(
+    alloc: Global,
+    field: &Field,
+    root: &Node,
+    flags: &mut ReadCursor<'_>,
+    cur: &mut ReadCursor<'_>,
+    slots: &mut Row<(u32, i128)>,
+    path: &mut Path,
+    inside: bool,
+    k: u32,
+    places: &mut Row<Option<Value>>,
+) -> Result<(), Stop>
+    requires ready { (around : List ℕ) × (fs : Fields) × FieldsStand (grammar_of root.now) (suc (length path.old)) (with_field (field_of field.now) fs) slots.old around × (presence_count (with_field (field_of field.now) fs) ≡ length flags.old.rest) }
+    requires named { IsTrue (field_items_named (field_of field.now)) }
+    requires fine { Fine (grammar_of root.now) slots.old }
+    ensures read { OnOk result ((done : List (Option Data)) × (map (option_map data_of) places.new ≡ map (option_map data_of) places.old ++ done) × ((place : ℕ) (fs : Fields) → Turn (grammar_of root.now) (record { path = path.old; place = place; inside = inside }) cur.old.origin k (suc k) (with_field (field_of field.now) fs) fs done slots.old slots.new flags.old.rest flags.new.rest cur.old cur.new)) }
+    ensures fails { IfErr result (λ e. Tells e (λ r at. (place : ℕ) (fs : Fields) → FieldsStop (grammar_of root.now) (with_field (field_of field.now) fs) flags.old.rest (record { path = path.old; place = place; inside = inside }) cur.old.origin k slots.old cur.old path.new r at)) }
+    ensures path { OnOk result (path.new ≡ path.old) }
+{
+    match field {
+        Field::Component { node, presence, slot, .. } => {
+            match read_component(
+                alloc, node, presence, *slot, root, flags, cur, slots, path, inside, k,
+            ) {
+                Ok(place) => {
+                    places.push(place)?;
+                    Ok(())
+                }
+                Err(stop) => Err(stop),
+            }
+        }
+        Field::Inserted { node, slot, .. } => {
+            read_inserted(node, *slot, root, cur, slots, path, inside, k)
+        }
+    }
+}
+
+#[cycle(read)]
+fn read_component(
+    alloc: Global,
+    node: &Node,
+    presence: &Presence,
+    slot: Option<u32>,
+    root: &Node,
+    flags: &mut ReadCursor<'_>,
+    cur: &mut ReadCursor<'_>,
+    slots: &mut Row<(u32, i128)>,
+    path: &mut Path,
+    inside: bool,
+    k: u32,
+) -> Result<Option<Value>, Stop>
+    requires ready { (around : List ℕ) × (fs : Fields) × FieldsStand (grammar_of root.now) (suc (length path.old)) (component [] (grammar_of node.now) presence.now None slot fs) slots.old around × (presence_count (component [] (grammar_of node.now) presence.now None slot fs) ≡ length flags.old.rest) }
+    requires named { ItemsNamed (grammar_of node.now) }
+    requires fine { Fine (grammar_of root.now) slots.old }
+    ensures read { IfOk result (λ there. (place : ℕ) (name : List ℕ) (default : Option (List ℕ)) (fs : Fields) → Turn (grammar_of root.now) (record { path = path.old; place = place; inside = inside }) cur.old.origin k (suc k) (component name (grammar_of node.now) presence.now default slot fs) fs (option_map data_of there ∷ []) slots.old slots.new flags.old.rest flags.new.rest cur.old cur.new) }
+    ensures fails { IfErr result (λ e. Tells e (λ r at. (place : ℕ) (name : List ℕ) (default : Option (List ℕ)) (fs : Fields) → FieldsStop (grammar_of root.now) (component name (grammar_of node.now) presence.now default slot fs) flags.old.rest (record { path = path.old; place = place; inside = inside }) cur.old.origin k slots.old cur.old path.new r at)) }
+    ensures path { OnOk result (path.new ≡ path.old) }
+{
+    if is_there(presence, flags, slots.items()) {
+        path.push(k);
+        match read_node(alloc, node, root, cur, slots, path, inside) {
+            Ok(value) => {
+                path.pop();
+                note(slots, slot, &number_of(&value))?;
+                Ok(Some(value))
+            }
+            Err(stop) => Err(stop),
+        }
+    } else {
+        Ok(None)
+    }
+}
