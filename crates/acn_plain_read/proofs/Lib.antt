@@ -1,7 +1,9 @@
+mod ChoiceReads
 mod Homes
 mod Loops
 mod Nodes
 mod Pads
+mod Runs
 mod Seqs
 mod SlotTurns
 mod Small

@@ -1,12 +1,14 @@
 -- Sizes, and octets and bits behind them.
 use Rattle.std.proofs.Common.{◌≡◌, ℕ, zero, suc, ◌+◌, ◌*◌, ◌^◌, ◌<◌, ◌≤◌, ℤ, pos, negsuc, Bool, true, false, List, [], ◌∷◌, ◌++◌, length, take, drop, Option, Some, None, refl, sym, ap, ◌∙◌, arith, inl, inr, ◌⊎◌, subst, append_assoc, append-nil, length-append, take-append-drop, ◌&&◌, IsTrue, rules}
-use Rattle.std.specs.Prelude.{◌<ℤ◌, ◌≤ℤ◌, nat_lt}
+use Rattle.std.specs.Prelude.{◌<ℤ◌, ◌≤ℤ◌, nat_lt, int_le}
 use Rattle.std.proofs.lemmas.Bool.Decides.{nat_tests}
 use Rattle.std.proofs.lemmas.Int.{ints}
 use Rattle.std.proofs.lemmas.Bool.{and_parts}
 use Rattle.std.proofs.lemmas.List.{length-take-le}
 use Rattle.acn_num.specs.Bits.{number, bits as bits_of, low_bits}
-use Rattle.acn_num.specs.Ranges.{In, are_ranges, all_within}
+use Rattle.acn_num.specs.Ranges.{In, has, are_ranges, all_within}
+use Rattle.acn_grammar.proofs.Texts.{either, le_fact}
+use Rattle.acn_grammar.proofs.Within.{between}
 use Rattle.acn_num.proofs.BitLists.{number_below, low_bits-number, length-bits, bits-append}
 use Rattle.acn_bits.specs.Reading.{Reading, Reads, passed}
 use Rattle.acn_grammar.specs.Code.{Any}
@@ -21,12 +23,18 @@ use Rattle.acn_grammar.specs.Spell.{SizePart, FormPart}
 use Rattle.acn_grammar.specs.declared.node.SizeRule.{SizeRule}
 use Rattle.acn_grammar.specs.declared.node.SizeRule.TheVariants.{Prefix, Slot, Ended}
 use Rattle.acn_grammar.specs.declared.node.Sizing.{Sizing}
-use Rattle.acn_grammar.proofs.Texts.{is_within}
 use Rattle.acn_text.specs.Texts.{SlotSays, SizeCode, NoSizeAt, fault_here}
-use Rattle.acn_plain_read.specs.Decoded.{Follows, Passes, Has, Fine, Noted, Stops, FormStands, FormRead, FormStops}
+use Rattle.std.specs.Prelude.{Result, Ok, Err, IfOk, IfErr}
+use Rattle.acn_grammar.specs.View.{data_of, form_of}
+use Rattle.acn_grammar.specs.Grammar.{text}
+use Rattle.acn_grammar.specs.declared.node.TextLeaf.{TextLeaf}
+use Rattle.acn_grammar.specs.declared.value.Value.{Value, Octets as OctetsValue, Bits as BitsValue, the_lemmas as value_lemmas}
+use Rattle.acn_grammar.specs.declared.node.Body.{Octets as OctetsBody, Bits as BitsBody, Text as TextBody, the_lemmas as node_lemmas}
+use Rattle.acn_plain_read.specs.declared.stop.Stop.{Stop}
+use Rattle.acn_plain_read.specs.Decoded.{Tells, Follows, Passes, Has, Fine, Noted, Stops, FormStands, FormRead, FormStops}
 use Rattle.acn_plain_read.specs.Steps.{AreBits, AreOctets, Named, NoForm, NoSize, NotGiven, RuleRead}
 use Rattle.acn_plain_read.proofs.Homes.{small_at}
-use Rattle.acn_plain_read.proofs.Nodes.{then_read, here_stops, form_within}
+use Rattle.acn_plain_read.proofs.Nodes.{here_stops, form_within, ok_map, stop_map}
 use Rattle.acn_plain_read.proofs.Pads.{read_front}
 
 -- Sizes.
@@ -37,13 +45,26 @@ rule_read root (Prefix low width) ks t k h m = tt
 rule_read root (Slot s) ks t k h m = (let x = (h s).0 k in (x.0, x.1, small_at root t s x.0 m x.1))
 rule_read root (Ended p) ks t k h m = tt
 
+ranges_within : (rs : List (ℤ × ℤ)) (x : ℤ) → all_within (pos 0) (pos 65536) rs ≡ true → In rs x → pos 0 ≤ℤ x
+ranges_within [] x w p = cc
+ranges_within (r ∷ rs) x w p =
+    let v = and_parts (int_le (pos 0) r.0) (int_le r.1 (pos 65536) && all_within (pos 0) (pos 65536) rs) w in
+    let low = le_fact (pos 0) r.0 v.0 in
+    either {F = pos 0 ≤ℤ x} (int_le r.0 x && int_le x r.1) (has rs x) p (λ o. (let b = (between r.0 r.1 x o).0 in omega (arith, ints))) (λ o. ranges_within rs x (and_parts (int_le r.1 (pos 65536)) (all_within (pos 0) (pos 65536) rs) v.1).1 o)
+
 -- a permitted size is the number that it keeps
 pub size_kept : (sizes : List (ℤ × ℤ)) (x : ℤ) → IsTrue (sizes_fine sizes) → In sizes x → x ≡ pos (kept x)
 size_kept sizes (pos n) f p = refl
 size_kept sizes (negsuc n) f p =
     let o = and_parts (are_ranges sizes) (all_within (pos 0) (pos 65536) sizes) (and_parts (nat_lt 0 (length sizes)) (are_ranges sizes && all_within (pos 0) (pos 65536) sizes) f).1 in
-    let h = (is_within (pos 65536) sizes (negsuc n) o.1 p).0 in
+    let h = ranges_within sizes (negsuc n) o.1 p in
     absurd (omega (arith, ints))
+
+pub sizes_of : (sizing : Sizing) → IsTrue (sizing_fine sizing) → IsTrue (sizes_fine sizing.sizes)
+sizes_of sizing f = (and_parts (sizes_fine sizing.sizes) (rule_fine sizing.sizes sizing.rule) f).0
+
+pub octet_small : (bs : List Bool) → 8 ≤ length bs → number (take 8 bs) < 256
+octet_small bs h = subst (λ (k : ℕ). number (take 8 bs) < 2 ^ k) (length-take-le 8 bs h) (number_below (take 8 bs))
 
 says_on : (rule : SizeRule) (given : Option ℕ) (t env : Env) → Follows t env → SlotSays rule given t → SlotSays rule given env
 says_on (Prefix low width) given t env f s = tt
@@ -144,6 +165,21 @@ one_bit (false ∷ bs) h = inr refl
 
 -- Forms.
 
+pub view_octets_value : (os : List ℕ) → data_of (OctetsValue os) ≡ octet_string os
+view_octets_value os = search (rules, value_lemmas)
+
+pub view_bits_value : (xs : List Bool) → data_of (BitsValue xs) ≡ bit_string xs
+view_bits_value xs = search (rules, value_lemmas)
+
+pub view_octets : (s : Sizing) → form_of (OctetsBody s) ≡ octets s
+view_octets s = search (rules, node_lemmas)
+
+pub view_bits : (s : Sizing) → form_of (BitsBody s) ≡ bits s
+view_bits s = search (rules, node_lemmas)
+
+pub view_text : (leaf : TextLeaf) → form_of (TextBody leaf) ≡ text leaf
+view_text leaf = search (rules, node_lemmas)
+
 pub octets_read : (root : Grammar) (sizing : Sizing) (n : ℕ) (os : List ℕ) (t : Env) (a b c : Reading) → Passes (λ env. SizePart sizing env n) t a b → Reads (AreOctets n os) b c → Passes (λ env. FormPart root Any (octets sizing) env (octet_string os)) t a c
 octets_read root sizing n os t a b c p q = both_read (λ bs. (env : Env) → Follows t env → SizePart sizing env n a.at bs) (AreOctets n os) (λ bs. (env : Env) → Follows t env → FormPart root Any (octets sizing) env (octet_string os) a.at bs) a b c
     (λ x y s o env f. record { front = x; back = y; whole = refl; first = subst (λ (m : ℕ). SizePart sizing env m a.at x) (sym o.size) (s env f); second = record { given = o.octets; spelled = o.same } }) p q
@@ -187,3 +223,23 @@ module _ (root : Grammar) where
     where
       says : ◌≡◌ {A = Fault} (record { path = here.path; reason = r; at = at }) (fault_here here n.1.0)
       says = (let e = n.0 in let q = n.1.1 in rw (e, q) refl)
+
+  -- the same in a walk, of what it sees as the form
+  pub form_passed_at : (form seen_as : Form) (t items : Env) (a b : Reading) (r : Result Value Stop) → seen_as ≡ form → items ≡ t → ((ks : Known) → form_after ks form ≡ ks) → Fine root t
+      → IfOk r (λ v. (root : Grammar) → Passes (λ env. FormPart root Any form env (data_of v)) items a b) → IfOk r (λ v. FormRead root seen_as (data_of v) t t a b)
+  form_passed_at form seen_as t items a b r e i same m h =
+      ok_map r _ _ (λ v p. subst (λ (x : Form). FormRead root x (data_of v) t t a b) (sym e) (form_passed form (data_of v) t a b same m (subst (λ (x : Env). Passes (λ env. FormPart root Any form env (data_of v)) x a b) i (p root)))) h
+
+  pub form_fails_at : (form seen_as : Form) (here : Here) (t items : Env) (a : Reading) (r : Result Value Stop) → seen_as ≡ form → items ≡ t → Fine root t
+      → IfErr r (λ s. Tells s (Named here.inside here.place (NoForm form items a))) → IfErr r (λ s. Tells s (FormStops root seen_as here a.origin t a here.path))
+  form_fails_at form seen_as here t items a r e i m h =
+      stop_map r _ _ (λ q at n. subst (λ (x : Form). FormStops root x here a.origin t a here.path q at) (sym e) (form_fails form here a.origin t a q at m (subst (λ (x : Env). Named here.inside here.place (NoForm form x a) q at) i n))) h
+
+  pub octets_rule : (seen_as : Form) (sizing : Sizing) (k : ℕ) (t items : Env) → seen_as ≡ octets sizing → items ≡ t → ((around : List ℕ) × FormStands root k seen_as t around) → Fine root t → RuleRead sizing.rule items
+  octets_rule seen_as sizing k t items e i st m = (let s = subst (λ (x : Form). FormStands root k x t st.0) e st.1 in subst (RuleRead sizing.rule) (sym i) (rule_read root sizing.rule s.known t s.is.1 s.noted.has m))
+
+  pub bits_rule : (seen_as : Form) (sizing : Sizing) (k : ℕ) (t items : Env) → seen_as ≡ bits sizing → items ≡ t → ((around : List ℕ) × FormStands root k seen_as t around) → Fine root t → RuleRead sizing.rule items
+  bits_rule seen_as sizing k t items e i st m = (let s = subst (λ (x : Form). FormStands root k x t st.0) e st.1 in subst (RuleRead sizing.rule) (sym i) (rule_read root sizing.rule s.known t s.is.1 s.noted.has m))
+
+  pub text_rule : (seen_as : Form) (leaf : TextLeaf) (k : ℕ) (t items : Env) → seen_as ≡ text leaf → items ≡ t → ((around : List ℕ) × FormStands root k seen_as t around) → Fine root t → RuleRead leaf.sized.rule items
+  text_rule seen_as leaf k t items e i st m = (let s = subst (λ (x : Form). FormStands root k x t st.0) e st.1 in subst (RuleRead leaf.sized.rule) (sym i) (rule_read root leaf.sized.rule s.known t s.is.1 s.noted.has m))

@@ -357,7 +357,7 @@ module _ (root : Grammar) where
   test_told ks t env (Flag s) h k f = says_number (at_slot t s) (at_slot env s) (pos 1) ((h s).0 k) (f s)
   test_told ks t env (Equals s n) h k f = says_number (at_slot t s) (at_slot env s) n ((h s).0 k) (f s)
 
-  tests_told : (ks : Known) (t env : Env) (ts : List Test) → Has ks t → TestsIn ks ts → Follows t env → (all_hold_now t ts ≡ true → AllHold env ts) × (all_hold_now t ts ≡ false → AllHold env ts → ⊥)
+  pub tests_told : (ks : Known) (t env : Env) (ts : List Test) → Has ks t → TestsIn ks ts → Follows t env → (all_hold_now t ts ≡ true → AllHold env ts) × (all_hold_now t ts ≡ false → AllHold env ts → ⊥)
   tests_told ks t env [] h k f = ((λ e. tt), (λ e q. cc))
   tests_told ks t env (test ∷ ts) h k f = both (holds_now t test) (all_hold_now t ts) (test_told ks t env test h k.0 f) (tests_told ks t env ts h k.1 f)
     where

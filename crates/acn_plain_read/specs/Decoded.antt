@@ -164,3 +164,7 @@ module _ (root : Grammar) where
     pub window : new.origin ≡ old.origin
     pub goes : (env : Env) → Follows later env → (es : Elements) (bs : List Bool) → RunPart (Spell root Any g env) es new.at bs → RunPart (Spell root Any g env) (in_front done es) old.at (front ++ bs)
     pub stops : (env : Env) → Follows later env → (tail : Tail) (n : ℕ) (fault : Fault) (reach : ℕ) → TailFails tail here origin g env n (length done + k) new.at new.rest fault reach → TailFails tail here origin g env (length done + n) k old.at old.rest fault (length front + reach)
+
+  abbrev pub TailStops : Tail → Here → (origin : ℕ) → Grammar → (n k : ℕ) → Env → Reading → (path : List ℕ) → Reason → (at : ℕ) → Type 0
+  TailStops tail here origin g n k before old path r at =
+      Stops (λ around. (depth : ℕ) × InnerStands depth g before around) (λ env. TailFails tail here origin g env n k) before old (record { path = path; reason = r; at = at })

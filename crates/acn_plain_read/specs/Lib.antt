@@ -1,3 +1,4 @@
+pub mod Choices
 pub mod Decoded
 pub mod Present
 pub mod Sound

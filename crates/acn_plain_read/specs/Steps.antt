@@ -66,3 +66,7 @@ IsNumber _ = ⊥
 abbrev pub noted_by : Option ℕ → ℤ → Env → Env
 noted_by None x read = read
 noted_by (Some s) x read = read ++ (s, x) ∷ []
+
+-- the character was added, unless one was lost
+abbrev pub Collected : List ℕ → (lost : Bool) → ℕ → List ℕ → (lost' : Bool) → Type 0
+Collected text lost c text' lost' = lost' ≡ false → (lost ≡ false) × (text' ≡ text ++ c ∷ [])

@@ -29,7 +29,7 @@ fn test_holds(test: &Test, numbers: &[(u32, i128)]) -> bool
     }
 }
 
-fn all_hold(tests: &[Test], numbers: &[(u32, i128)]) -> bool
+pub fn all_hold(tests: &[Test], numbers: &[(u32, i128)]) -> bool
     ensures { result ≡ all_hold_now numbers.now tests.now }
 {
     for test in tests {

@@ -1,22 +1,24 @@
 //! The walk.
 
-ghost use Rattle.std.specs.Prelude.{◌≡◌, ◌<◌, ◌+◌, ◌^◌, ℕ, suc, ◌∷◌, [], ◌++◌, List, Bool, Option, None, IfOk, IfErr, OnOk, IsTrue, length, map, option_map};
+ghost use Rattle.std.specs.Prelude.{◌≡◌, ◌<◌, ◌≤◌, ◌+◌, ◌^◌, ℕ, suc, ◌∷◌, [], ◌++◌, List, Bool, Option, None, IfOk, IfErr, OnOk, IsTrue, length, map, option_map};
 ghost use Rattle.acn_grammar.specs.Fails.{presence_count};
-ghost use Rattle.acn_grammar.specs.Grammar.{Fields, Data, component, inserted, no_fields};
+ghost use Rattle.acn_grammar.specs.Grammar.{Fields, Data, component, inserted, no_fields, list, contained};
 ghost use Rattle.acn_grammar.specs.ItemsNamed.{ItemsNamed, FormItemsNamed, FieldsItemsNamed, field_items_named};
 ghost use Rattle.acn_grammar.specs.View.{grammar_of, form_of, data_of, field_of, fields_view, with_field};
 ghost use Rattle.acn_grammar.specs.declared.node.Body.TheVariants.{Seq as Seq_body};
-ghost use Rattle.acn_plain_read.specs.Decoded.{Tells, Fine, NodeStands, FormStands, FieldsStand, NodeRead, FormRead, NodeStops, FormStops, Turn, FieldsStop};
+ghost use Rattle.acn_num.specs.declared.limits.TheConstants.{MOST_SIZE};
+ghost use Rattle.acn_plain_read.specs.Decoded.{Tells, Fine, NodeStands, FormStands, FieldsStand, InnerStands, RunTurn, TailStops, counted, NodeRead, FormRead, NodeStops, FormStops, Turn, FieldsStop};
 
 use crate::leaves::{named, read_leaf};
 use crate::numbers::{note, without};
 use crate::presence::{count_of, is_there};
+use crate::sizes::{is_ended, read_size};
 use crate::slot::read_inserted;
 use crate::steps::{number_of, pad};
 use crate::stop::Stop;
 use crate::strings::{read_bits, read_octets};
 use acn_bits::ReadCursor;
-use acn_grammar::{Body, Field, Node, Presence, ReadFault, Seq, Value};
+use acn_grammar::{Body, Field, Node, Presence, ReadFault, Reason, Seq, Sizing, Value};
 use acn_num::{Path, Row};
 use std::alloc::Global;
 
@@ -72,9 +74,13 @@ fn read_body(
         Body::Octets(sizing) => read_octets(alloc, cur, sizing, slots.items(), inside, from),
         Body::Bits(sizing) => read_bits(alloc, cur, sizing, slots.items(), inside, from),
         Body::Text(_) => Err(Stop::NoMemory),
-        Body::List(_, _) => Err(Stop::NoMemory),
+        Body::List(sizing, element) => read_list(
+            alloc, element.get(), sizing, root, cur, slots, path, inside, from,
+        ),
         Body::Choice(_) => Err(Stop::NoMemory),
-        Body::Contained(_, _) => Err(Stop::NoMemory),
+        Body::Contained(sizing, content) => read_contained(
+            alloc, content.get(), sizing, root, cur, slots, path, inside, from,
+        ),
     }
 }
 
@@ -238,4 +244,143 @@ fn read_component(
     } else {
         Ok(None)
     }
+}
+
+// A node inside another, at a step from it.
+#[cycle(read)]
+fn read_child(
+    alloc: Global,
+    node: &Node,
+    k: u32,
+    root: &Node,
+    cur: &mut ReadCursor<'_>,
+    slots: &mut Row<(u32, i128)>,
+    path: &mut Path,
+    inside: bool,
+) -> Result<Value, Stop>
+    requires ready { (around : List ℕ) × InnerStands (grammar_of root.now) (suc (length path.old)) (grammar_of node.now) slots.old around }
+    requires named { ItemsNamed (grammar_of node.now) }
+    requires fine { Fine (grammar_of root.now) slots.old }
+    ensures read { IfOk result (λ v. NodeRead (grammar_of root.now) (grammar_of node.now) (data_of v) slots.old slots.new cur.old cur.new) }
+    ensures fails { IfErr result (λ e. Tells e (NodeStops (grammar_of root.now) (grammar_of node.now) inside (path.old ++ k ∷ []) slots.old cur.old path.new)) }
+    ensures path { OnOk result (path.new ≡ path.old) }
+{
+    path.push(k);
+    match read_node(alloc, node, root, cur, slots, path, inside) {
+        Ok(value) => {
+            path.pop();
+            Ok(value)
+        }
+        Err(stop) => Err(stop),
+    }
+}
+
+#[cycle(read)]
+fn read_contained(
+    alloc: Global,
+    node: &Node,
+    sizing: &Sizing,
+    root: &Node,
+    cur: &mut ReadCursor<'_>,
+    slots: &mut Row<(u32, i128)>,
+    path: &mut Path,
+    inside: bool,
+    from: u64,
+) -> Result<Value, Stop>
+    requires ready { (around : List ℕ) × FormStands (grammar_of root.now) (length path.old) (contained sizing.now (grammar_of node.now)) slots.old around }
+    requires named { ItemsNamed (grammar_of node.now) }
+    requires fine { Fine (grammar_of root.now) slots.old }
+    ensures read { IfOk result (λ v. FormRead (grammar_of root.now) (contained sizing.now (grammar_of node.now)) (data_of v) slots.old slots.new cur.old cur.new) }
+    ensures fails { IfErr result (λ e. Tells e (FormStops (grammar_of root.now) (contained sizing.now (grammar_of node.now)) (record { path = path.old; place = from; inside = inside }) cur.old.origin slots.old cur.old path.new)) }
+    ensures path { OnOk result (path.new ≡ path.old) }
+{
+    match read_size(cur, sizing, slots.items(), inside, from) {
+        Ok(n) => match cur.window(8 * n) {
+            Ok(window) => {
+                let mut window = window;
+                match read_child(alloc, node, 0, root, &mut window, slots, path, true) {
+                    Ok(value) => {
+                        if window.left() < 8 {
+                            Ok(value)
+                        } else {
+                            Err(Stop::Fails {
+                                reason: Reason::ContentSize {
+                                    octets: n,
+                                    used: window.at(),
+                                },
+                                at: from,
+                            })
+                        }
+                    }
+                    Err(stop) => Err(stop),
+                }
+            }
+            Err(_) => Err(Stop::Fails {
+                reason: named(inside, ReadFault::Short),
+                at: from,
+            }),
+        },
+        Err(stop) => Err(stop),
+    }
+}
+
+#[cycle(read)]
+fn read_list(
+    alloc: Global,
+    node: &Node,
+    sizing: &Sizing,
+    root: &Node,
+    cur: &mut ReadCursor<'_>,
+    slots: &mut Row<(u32, i128)>,
+    path: &mut Path,
+    inside: bool,
+    from: u64,
+) -> Result<Value, Stop>
+    requires ready { (around : List ℕ) × FormStands (grammar_of root.now) (length path.old) (list sizing.now (grammar_of node.now)) slots.old around }
+    requires named { ItemsNamed (grammar_of node.now) }
+    requires fine { Fine (grammar_of root.now) slots.old }
+    ensures read { IfOk result (λ v. FormRead (grammar_of root.now) (list sizing.now (grammar_of node.now)) (data_of v) slots.old slots.new cur.old cur.new) }
+    ensures fails { IfErr result (λ e. Tells e (FormStops (grammar_of root.now) (list sizing.now (grammar_of node.now)) (record { path = path.old; place = from; inside = inside }) cur.old.origin slots.old cur.old path.new)) }
+    ensures path { OnOk result (path.new ≡ path.old) }
+{
+    if is_ended(&sizing.rule) {
+        return Err(Stop::NoMemory);
+    }
+    match read_size(cur, sizing, slots.items(), inside, from) {
+        Ok(n) => match read_run(alloc, node, n, root, cur, slots, path, inside) {
+            Ok(values) => Ok(Value::List(values)),
+            Err(stop) => Err(stop),
+        },
+        Err(stop) => Err(stop),
+    }
+}
+
+// So many elements.
+#[cycle(read)]
+fn read_run(
+    alloc: Global,
+    node: &Node,
+    n: u64,
+    root: &Node,
+    cur: &mut ReadCursor<'_>,
+    slots: &mut Row<(u32, i128)>,
+    path: &mut Path,
+    inside: bool,
+) -> Result<Row<Value>, Stop>
+    requires few { n ≤ MOST_SIZE }
+    requires ready { (around : List ℕ) × InnerStands (grammar_of root.now) (suc (length path.old)) (grammar_of node.now) slots.old around }
+    requires named { ItemsNamed (grammar_of node.now) }
+    requires fine { Fine (grammar_of root.now) slots.old }
+    ensures read { IfOk result (λ values. (place : ℕ) → (length values ≡ n) × RunTurn (grammar_of root.now) (record { path = path.old; place = place; inside = inside }) cur.old.origin (grammar_of node.now) 0 (map data_of values) slots.old slots.new cur.old cur.new) }
+    ensures fails { IfErr result (λ e. Tells e (λ r at. (place : ℕ) → TailStops (grammar_of root.now) counted (record { path = path.old; place = place; inside = inside }) cur.old.origin (grammar_of node.now) n 0 slots.old cur.old path.new r at)) }
+    ensures path { OnOk result (path.new ≡ path.old) }
+{
+    let mut values = Row::new(alloc);
+    for i in 0..n {
+        match read_child(alloc, node, i as u32, root, cur, slots, path, inside) {
+            Ok(value) => values.push(value)?,
+            Err(stop) => return Err(stop),
+        }
+    }
+    Ok(values)
 }

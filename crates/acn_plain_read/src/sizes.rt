@@ -1,10 +1,11 @@
 //! Sizes of strings and lists.
 
-ghost use Rattle.std.specs.Prelude.{◌≡◌, ◌≤◌, ◌^◌, ◌<ℤ◌, ℕ, ℤ, pos, None, Some, IsTrue, IfOk, IfErr};
+ghost use Rattle.std.specs.Prelude.{◌≡◌, ◌≤◌, ◌^◌, ◌<ℤ◌, ℕ, ℤ, pos, None, Some, false, IsTrue, IfOk, IfErr};
 ghost use Rattle.acn_num.specs.Ranges.{In};
 ghost use Rattle.acn_num.specs.declared.limits.TheConstants.{MOST_SIZE};
 ghost use Rattle.acn_grammar.specs.Fails.{kept};
 ghost use Rattle.acn_grammar.specs.LeafFails.{size_out_of_range};
+ghost use Rattle.acn_grammar.specs.Length.{ending};
 ghost use Rattle.acn_grammar.specs.Leaves.{sizes_fine, sizing_fine};
 ghost use Rattle.acn_grammar.specs.ReadFaults.{reason_of};
 ghost use Rattle.acn_grammar.specs.Spell.{SizePart};
@@ -48,7 +49,7 @@ fn permitted_size(sizes: &RangeSet, number: Option<i128>) -> Result<Option<u64>,
 }
 
 /// The size that a slot says, None where it stands in front.
-pub fn given_size(sizing: &Sizing, slots: &[(u32, i128)]) -> Result<Option<u64>, ReadFault>
+fn given_size(sizing: &Sizing, slots: &[(u32, i128)]) -> Result<Option<u64>, ReadFault>
     requires fine { IsTrue (sizes_fine sizing.now.sizes) }
     requires read { RuleRead sizing.now.rule slots.now }
     ensures given { IfOk result (λ given. IsGiven sizing.now.rule given) }
@@ -91,5 +92,16 @@ pub fn read_size(
             reason: named(inside, fault),
             at: from,
         }),
+    }
+}
+
+/// Whether a pattern ends the list.
+pub fn is_ended(rule: &SizeRule) -> bool
+    ensures { result ≡ false → ending rule.now ≡ None }
+{
+    match rule {
+        SizeRule::Prefix { .. } => false,
+        SizeRule::Slot(_) => false,
+        SizeRule::Ended(_) => true,
     }
 }

@@ -5,14 +5,21 @@ use Rattle.acn_grammar.specs.Grammar.{Grammar, Fields, node}
 use Rattle.acn_grammar.specs.View.{grammar_of, form_of, data_of, field_of, fields_view, with_field}
 use Rattle.acn_grammar.specs.declared.node.Node.{the_lemmas}
 use Rattle.acn_grammar.proofs.Views.{view_node, view_component, view_inserted}
+use Rattle.acn_plain_read.proofs.Runs.{contained_rule, contained_inner, contained_read, contained_overlong, contained_fails, contained_short, contained_unsized, list_sizing, list_rule, list_inner, mapped_length, list_read, list_fails, list_unsized, view_list_value, no_run, run_stands, run_stops_at, run_next}
+use Rattle.acn_plain_read.specs.Decoded.{FormRead, FormStops, InnerStands}
+use Rattle.acn_grammar.specs.Grammar.{Data, list, contained}
+use Rattle.acn_grammar.specs.LeafFails.{content_size}
+use Rattle.std.proofs.Common.{length-append}
 use Rattle.acn_plain_read.proofs.SlotTurns.{component_read}
+use Rattle.acn_grammar.specs.Grammar.{octets, bits, text}
+use Rattle.acn_plain_read.proofs.StringReads.{octets_rule, bits_rule, text_rule, view_octets, view_bits, view_text, form_passed_at, form_fails_at}
 use Rattle.acn_plain_read.specs.Steps.{noted_by}
 use Rattle.acn_grammar.specs.Grammar.{component, inserted}
 use Rattle.std.proofs.Common.{ℤ, Some}
 use Rattle.acn_plain_read.proofs.Nodes.{on_ok_map}
 use Rattle.acn_plain_read.specs.Decoded.{Follows, Tells, NodeRead, NodeStops, FieldsStop}
 use Rattle.acn_plain_read.specs.Present.{there_now}
-use Rattle.acn_plain_read.proofs.Nodes.{tells_map, stop_map, ok_map, node_read, node_fails_at, node_short_at}
+use Rattle.acn_plain_read.proofs.Nodes.{node_room, tells_map, stop_map, ok_map, node_read, node_fails_at, node_short_at}
 use Rattle.acn_plain_read.proofs.Turns.{bit_is, there_told, away_turn, component_stops, no_turn, depth_is}
 use Rattle.std.proofs.Common.{map, drop, ◌<◌, ◌≤◌, arith}
 use Rattle.std.specs.Prelude.{option_map}
@@ -155,3 +162,130 @@ read_field-returns-in-Inserted-clause-read t c =
     let m = c.in-Inserted in
     on_ok_map c.read_inserted.result (λ p. inserted_turn (grammar_of c.args.root.now) (field_of c.args.field.now) m.name (grammar_of m.node) m.slot c.args.inside c.args.path.now c.args.cur.now.origin c.args.k (map (option_map data_of) c.args.places.now) c.args.slots.now c.read_inserted.new.slots c.args.flags.now.rest c.args.cur.now c.read_inserted.new.cur
       (ap field_of m.is ∙ view_inserted m.name m.node m.slot) p) c.read_inserted.ensures.read
+
+pub read_body-read_octets-requires-clause-read : goal.read_body-read_octets-requires-clause-read
+read_body-read_octets-requires-clause-read t c = octets_rule (grammar_of c.args.root.now) (form_of c.args.body.now) c.in-Octets.sizing (length c.args.path.now) c.args.slots.now c.items.result.now (ap form_of c.in-Octets.is ∙ view_octets c.in-Octets.sizing) c.items.ensures c.requires.ready c.requires.fine
+
+pub read_body-returns-in-Octets-clause-read : goal.read_body-returns-in-Octets-clause-read
+read_body-returns-in-Octets-clause-read t c = form_passed_at (grammar_of c.args.root.now) (octets c.in-Octets.sizing) (form_of c.args.body.now) c.args.slots.now c.items.result.now c.args.cur.now c.read_octets.new.cur c.read_octets.result (ap form_of c.in-Octets.is ∙ view_octets c.in-Octets.sizing) c.items.ensures (λ ks. refl) c.requires.fine c.read_octets.ensures.read
+
+pub read_body-returns-in-Octets-clause-fails : goal.read_body-returns-in-Octets-clause-fails
+read_body-returns-in-Octets-clause-fails t c = form_fails_at (grammar_of c.args.root.now) (octets c.in-Octets.sizing) (form_of c.args.body.now) (record { path = c.args.path.now; place = c.args.from; inside = c.args.inside }) c.args.slots.now c.items.result.now c.args.cur.now c.read_octets.result (ap form_of c.in-Octets.is ∙ view_octets c.in-Octets.sizing) c.items.ensures c.requires.fine c.read_octets.ensures.fails
+
+pub read_body-read_bits-requires-clause-read : goal.read_body-read_bits-requires-clause-read
+read_body-read_bits-requires-clause-read t c = bits_rule (grammar_of c.args.root.now) (form_of c.args.body.now) c.in-Bits.sizing (length c.args.path.now) c.args.slots.now c.items-in-Bits.result.now (ap form_of c.in-Bits.is ∙ view_bits c.in-Bits.sizing) c.items-in-Bits.ensures c.requires.ready c.requires.fine
+
+pub read_body-returns-in-Bits-clause-read : goal.read_body-returns-in-Bits-clause-read
+read_body-returns-in-Bits-clause-read t c = form_passed_at (grammar_of c.args.root.now) (bits c.in-Bits.sizing) (form_of c.args.body.now) c.args.slots.now c.items-in-Bits.result.now c.args.cur.now c.read_bits.new.cur c.read_bits.result (ap form_of c.in-Bits.is ∙ view_bits c.in-Bits.sizing) c.items-in-Bits.ensures (λ ks. refl) c.requires.fine c.read_bits.ensures.read
+
+pub read_body-returns-in-Bits-clause-fails : goal.read_body-returns-in-Bits-clause-fails
+read_body-returns-in-Bits-clause-fails t c = form_fails_at (grammar_of c.args.root.now) (bits c.in-Bits.sizing) (form_of c.args.body.now) (record { path = c.args.path.now; place = c.args.from; inside = c.args.inside }) c.args.slots.now c.items-in-Bits.result.now c.args.cur.now c.read_bits.result (ap form_of c.in-Bits.is ∙ view_bits c.in-Bits.sizing) c.items-in-Bits.ensures c.requires.fine c.read_bits.ensures.fails
+
+pub read_child-push-requires : goal.read_child-push-requires
+read_child-push-requires t c = let r = c.requires.ready in node_room (grammar_of c.args.root.now) (grammar_of c.args.node.now) (length c.args.path.now) r.0 r.1.known r.1.is.1
+
+pub read_child-read_node-requires : goal.read_child-read_node-requires
+read_child-read_node-requires t c =
+    let r = c.requires.ready in
+    (search (rules, the_lemmas), (
+      (r.0, subst (λ (n : ℕ). NodeStands (grammar_of c.args.root.now) n (grammar_of c.args.node.now) c.args.slots.now r.0) (depth_is c.args.path.now c.push.new.self c.args.k c.push.ensures) (record { known = r.1.known; noted = r.1.noted; is = r.1.is.1 })), (
+      c.requires.named,
+      c.requires.fine)))
+
+pub read_child-returns-in-Err-clause-fails : goal.read_child-returns-in-Err-clause-fails
+read_child-returns-in-Err-clause-fails t c =
+    tells_map c.in-Err.stop _ _ (λ q at s. subst (λ (p : List ℕ). NodeStops (grammar_of c.args.root.now) (grammar_of c.args.node.now) c.args.inside p c.args.slots.now c.args.cur.now c.read_node.new.path q at) c.push.ensures s) c.in-Err.ensures.fails
+
+pub read_contained-read_size-requires : goal.read_contained-read_size-requires
+read_contained-read_size-requires t c = record { fine = c.requires.ready.1.is.0; read = contained_rule (grammar_of c.args.root.now) c.args.sizing.now (grammar_of c.args.node.now) (length c.args.path.now) c.args.slots.now c.items.result.now c.items.ensures c.requires.ready c.requires.fine }
+
+pub read_contained-read_child-requires : goal.read_contained-read_child-requires
+read_contained-read_child-requires t c = (search (rules, the_lemmas), (contained_inner (grammar_of c.args.root.now) c.args.sizing.now (grammar_of c.args.node.now) (length c.args.path.now) c.args.slots.now c.requires.ready, (c.requires.named, c.requires.fine)))
+
+pub read_contained-returns-then-left-lt8-clause-read : goal.read_contained-returns-then-left-lt8-clause-read
+read_contained-returns-then-left-lt8-clause-read t c =
+    let few = c.if-left-lt8.true in
+    let left = c.left.ensures in
+    contained_read (grammar_of c.args.root.now) c.args.sizing.now (grammar_of c.args.node.now) c.in-Ok.n (data_of c.in-Ok-read_child.value) c.args.slots.now c.read_child.new.slots c.items.result.now c.args.cur.now c.read_size.new.cur c.window.new.self c.in-Ok-window.window c.read_child.new.cur c.items.ensures c.in-Ok.ensures.read c.in-Ok-window.ensures.within c.in-Ok-window.ensures.window c.in-Ok-window.ensures.moved c.in-Ok-read_child.ensures.read (omega (arith, few, left))
+
+pub read_contained-returns-else-left-lt8-clause-fails : goal.read_contained-returns-else-left-lt8-clause-fails
+read_contained-returns-else-left-lt8-clause-fails t c =
+    let many = c.if-left-lt8.false in
+    let left = c.left.ensures in
+    subst (λ (p : List ℕ). FormStops (grammar_of c.args.root.now) (contained c.args.sizing.now (grammar_of c.args.node.now)) (record { path = c.args.path.now; place = c.args.from; inside = c.args.inside }) c.args.cur.now.origin c.args.slots.now c.args.cur.now p (content_size c.in-Ok.n c.at.result) c.args.from) (sym c.in-Ok-read_child.ensures.path)
+      (contained_overlong (grammar_of c.args.root.now) (record { path = c.args.path.now; place = c.args.from; inside = c.args.inside }) c.args.sizing.now (grammar_of c.args.node.now) c.in-Ok.n c.at.result (data_of c.in-Ok-read_child.value) c.args.slots.now c.read_child.new.slots c.items.result.now c.args.cur.now c.read_size.new.cur c.in-Ok-window.window c.read_child.new.cur c.items.ensures c.in-Ok.ensures.read c.requires.fine c.in-Ok-window.ensures.within c.in-Ok-window.ensures.window c.in-Ok-read_child.ensures.read (omega (arith, many, left)) c.at.ensures)
+
+pub read_contained-returns-in-Err-read_child-clause-fails : goal.read_contained-returns-in-Err-read_child-clause-fails
+read_contained-returns-in-Err-read_child-clause-fails t c =
+    tells_map c.in-Err-read_child.stop _ _ (λ q at s. contained_fails (grammar_of c.args.root.now) (record { path = c.args.path.now; place = c.args.from; inside = c.args.inside }) c.args.sizing.now (grammar_of c.args.node.now) c.in-Ok.n c.args.slots.now c.items.result.now c.args.cur.now c.read_size.new.cur c.in-Ok-window.window _ q at c.items.ensures c.in-Ok.ensures.read c.in-Ok-window.ensures.within c.in-Ok-window.ensures.window s) c.in-Err-read_child.ensures.fails
+
+pub read_contained-returns-in-Err-window-clause-fails : goal.read_contained-returns-in-Err-window-clause-fails
+read_contained-returns-in-Err-window-clause-fails t c =
+    contained_short (grammar_of c.args.root.now) (record { path = c.args.path.now; place = c.args.from; inside = c.args.inside }) c.args.sizing.now (grammar_of c.args.node.now) c.in-Ok.n c.args.slots.now c.items.result.now c.args.cur.now c.read_size.new.cur _ c.items.ensures c.in-Ok.ensures.read c.requires.fine c.named.ensures c.in-Err-window.ensures.short
+
+pub read_contained-returns-in-Err-clause-fails : goal.read_contained-returns-in-Err-clause-fails
+read_contained-returns-in-Err-clause-fails t c =
+    tells_map c.in-Err.stop _ _ (λ q at s. contained_unsized (grammar_of c.args.root.now) (record { path = c.args.path.now; place = c.args.from; inside = c.args.inside }) c.args.sizing.now (grammar_of c.args.node.now) c.args.slots.now c.items.result.now c.args.cur.now q at c.items.ensures c.requires.fine s) c.in-Err.ensures.fails
+
+pub read_list-read_size-requires : goal.read_list-read_size-requires
+read_list-read_size-requires t c =
+    let none = c.is_ended.ensures c.if-is_ended.false in
+    record { fine = list_sizing (grammar_of c.args.root.now) c.args.sizing.now (grammar_of c.args.node.now) (length c.args.path.now) c.args.slots.now none c.requires.ready; read = list_rule (grammar_of c.args.root.now) c.args.sizing.now (grammar_of c.args.node.now) (length c.args.path.now) c.args.slots.now c.items.result.now c.items.ensures c.requires.ready c.requires.fine }
+
+pub read_list-read_run-requires : goal.read_list-read_run-requires
+read_list-read_run-requires t c = (search (rules, the_lemmas), (c.in-Ok.ensures.few, (list_inner (grammar_of c.args.root.now) c.args.sizing.now (grammar_of c.args.node.now) (length c.args.path.now) c.args.slots.now c.requires.ready, (c.requires.named, c.requires.fine))))
+
+pub read_list-returns-in-Ok-read_run-clause-read : goal.read_list-returns-in-Ok-read_run-clause-read
+read_list-returns-in-Ok-read_run-clause-read t c =
+    let none = c.is_ended.ensures c.if-is_ended.false in
+    let r = c.in-Ok-read_run.ensures.read c.args.from in
+    subst (λ (d : Data). FormRead (grammar_of c.args.root.now) (list c.args.sizing.now (grammar_of c.args.node.now)) d c.args.slots.now c.read_run.new.slots c.args.cur.now c.read_run.new.cur) (sym (view_list_value c.in-Ok-read_run.values))
+      (list_read (grammar_of c.args.root.now) (record { path = c.args.path.now; place = c.args.from; inside = c.args.inside }) c.read_size.new.cur.origin c.args.sizing.now (grammar_of c.args.node.now) c.in-Ok.n (map data_of c.in-Ok-read_run.values) c.args.slots.now c.read_run.new.slots c.items.result.now c.args.cur.now c.read_size.new.cur c.read_run.new.cur none c.items.ensures c.in-Ok.ensures.read (mapped_length c.in-Ok-read_run.values ∙ r.0) r.1)
+
+pub read_list-returns-in-Err-read_run-clause-fails : goal.read_list-returns-in-Err-read_run-clause-fails
+read_list-returns-in-Err-read_run-clause-fails t c =
+    let none = c.is_ended.ensures c.if-is_ended.false in
+    tells_map c.in-Err-read_run.stop _ _ (λ q at s. list_fails (grammar_of c.args.root.now) (record { path = c.args.path.now; place = c.args.from; inside = c.args.inside }) c.read_size.new.cur.origin c.args.sizing.now (grammar_of c.args.node.now) c.in-Ok.n c.args.slots.now c.items.result.now c.args.cur.now c.read_size.new.cur _ q at none c.items.ensures c.in-Ok.ensures.read (s c.args.from)) c.in-Err-read_run.ensures.fails
+
+pub read_list-returns-in-Err-clause-fails : goal.read_list-returns-in-Err-clause-fails
+read_list-returns-in-Err-clause-fails t c =
+    let none = c.is_ended.ensures c.if-is_ended.false in
+    tells_map c.in-Err.stop _ _ (λ q at s. list_unsized (grammar_of c.args.root.now) (record { path = c.args.path.now; place = c.args.from; inside = c.args.inside }) c.args.sizing.now (grammar_of c.args.node.now) c.args.slots.now c.items.result.now c.args.cur.now q at none c.items.ensures c.requires.fine s) c.in-Err.ensures.fails
+
+pub read_run-loop-i-init : goal.read_run-loop-i-init
+read_run-loop-i-init t c = record {
+  path = refl;
+  count = ap length c.new-values.ensures;
+  turn = λ place. rw c.new-values.ensures (no_run (grammar_of c.args.root.now) (record { path = c.args.path.now; place = place; inside = c.args.inside }) c.args.cur.now.origin (grammar_of c.args.node.now) 0 c.args.slots.now c.args.cur.now c.requires.fine);
+}
+
+pub read_run-read_child-requires : goal.read_run-read_child-requires
+read_run-read_child-requires t c =
+    let l = c.loop-i in
+    let p = l.invariant.turn 0 in
+    (search (rules, the_lemmas), (subst (λ (path : List ℕ). (around : List ℕ) × InnerStands (grammar_of c.args.root.now) (suc (length path)) (grammar_of c.args.node.now) l.slots around) (sym l.invariant.path)
+      (run_stands (grammar_of c.args.root.now) (record { path = c.args.path.now; place = 0; inside = c.args.inside }) c.args.cur.now.origin (grammar_of c.args.node.now) 0 (suc (length c.args.path.now)) (map data_of l.values) c.args.slots.now l.slots c.args.cur.now l.cur p c.requires.ready), (c.requires.named, p.fine)))
+
+pub read_run-returns-in-Err-clause-fails : goal.read_run-returns-in-Err-clause-fails
+read_run-returns-in-Err-clause-fails t c =
+    let l = c.loop-i in
+    tells_map c.in-Err.stop _ _ (λ q at s place. run_stops_at (grammar_of c.args.root.now) place c.args.inside c.args.path.now l.path c.args.cur.now.origin (grammar_of c.args.node.now) c.args.n l.i (map data_of l.values) c.args.slots.now l.slots c.args.cur.now l.cur _ q at (l.invariant.turn place).window (mapped_length l.values ∙ l.invariant.count) c.loop-i-test.true l.invariant.path (l.invariant.turn place) s) c.in-Err.ensures.fails
+
+pub read_run-returns-clause-read : goal.read_run-returns-clause-read
+read_run-returns-clause-read t c place =
+    let l = c.loop-i in
+    let over = c.loop-i-test.false in
+    let within = l.auto.i-end in
+    (l.invariant.count ∙ omega (arith, over, within), l.invariant.turn place)
+
+pub read_run-returns-clause-path : goal.read_run-returns-clause-path
+read_run-returns-clause-path t c = c.loop-i.invariant.path
+
+pub read_run-loop-i-preserved : goal.read_run-loop-i-preserved
+read_run-loop-i-preserved t c =
+    let l = c.loop-i in
+    record {
+      path = c.in-Ok.ensures.path ∙ l.invariant.path;
+      count = ap length c.in_ok-push-in-Ok.ensures.ok ∙ (length-append l.values (c.in-Ok.value ∷ []) ∙ ap (λ (n : ℕ). n + 1) l.invariant.count);
+      turn = λ place. run_next (grammar_of c.args.root.now) place c.args.inside c.args.path.now l.path c.args.cur.now.origin (grammar_of c.args.node.now) (map data_of l.values) (data_of c.in-Ok.value) (map data_of c.push.new.self) c.args.slots.now l.slots c.read_child.new.slots c.args.cur.now l.cur c.read_child.new.cur (ap (map data_of) c.in_ok-push-in-Ok.ensures.ok ∙ map-append data_of l.values (c.in-Ok.value ∷ [])) (l.invariant.turn place) c.in-Ok.ensures.read;
+    }
