@@ -35,7 +35,7 @@ range_ends low high (r ∷ s ∷ rs) h = cc
 pub in_range : (low high : ℤ) (set : List (ℤ × ℤ)) (x : ℤ) → is_range low high set ≡ true → In set x → (low ≤ℤ x) × (x ≤ℤ high)
 in_range low high set x h p = ends-has set x (low, high) p (range_ends low high set h)
 
-below_is : (x y : ℤ) → int_lt x y ≡ true → x <ℤ y
+pub below_is : (x y : ℤ) → int_lt x y ≡ true → x <ℤ y
 below_is x y h = grind (arith, ints, nat_tests)
 
 top_of : (coding : NumCoding) (low high : ℤ) → is_below coding low high ≡ true → high <ℤ pos (2 ^ 64)

@@ -1,5 +1,5 @@
 -- Which alternative of a CHOICE the numbers choose that were read.
-use Rattle.std.specs.Prelude.{◌≡◌, ℕ, zero, suc, ◌<◌, ◌≤◌, ℤ, pos, Bool, true, false, List, [], ◌∷◌, length, take, Option, Some, None, option_map, if◌then◌else◌, slice_get}
+use Rattle.std.specs.Prelude.{◌≡◌, ℕ, zero, suc, ◌<◌, ◌≤◌, ◌^◌, ◌<ℤ◌, ℤ, pos, Bool, true, false, List, [], ◌∷◌, length, take, Option, Some, None, option_map, if◌then◌else◌, slice_get}
 use Rattle.acn_bits.specs.Reading.{Reading, passed}
 use Rattle.acn_grammar.specs.Env.{Env, at_slot}
 use Rattle.acn_grammar.specs.Fails.{Here, IndexFails, IndexIs, NoneChosen, count_of}
@@ -20,11 +20,17 @@ abbrev pub first_case : (List ℕ → List Test → Bool) → (k : ℕ) → Alte
 first_case p k no_alternatives = None
 first_case p k (alternative name g tests more) = if p name tests then Some k else first_case p (suc k) more
 
+-- the node of the alternative of an index
+abbrev pub grammar_at : Alternatives → ℕ → Option Grammar
+grammar_at no_alternatives i = None
+grammar_at (alternative name g tests more) zero = Some g
+grammar_at (alternative name g tests more) (suc i) = grammar_at more i
+
 -- what the choice uses was read
 abbrev pub RuleKnown : ChoiceRule → Alternatives → Env → Type 0
 RuleKnown (Index width) cases read = Unit {0}
 RuleKnown Tests cases read = (ks : Known) × Has ks read × ((i : ℕ) → TestsIn ks (tests_at cases i))
-RuleKnown (Item s) cases read = (x : ℤ) × (at_slot read s ≡ Some x)
+RuleKnown (Item s) cases read = (x : ℤ) × (at_slot read s ≡ Some x) × (x <ℤ pos (2 ^ 64))
 
 -- the number is that of an item of this name
 abbrev pub IsName : List (List ℕ × ℤ) → ℤ → List ℕ → Type 0

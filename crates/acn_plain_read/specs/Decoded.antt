@@ -3,7 +3,7 @@ use Rattle.std.specs.Prelude.{◌≡◌, ℕ, zero, suc, ◌+◌, ◌^◌, ℤ, 
 use Rattle.std.specs.List.{AllByRecursion}
 use Rattle.acn_num.specs.Ranges.{In}
 use Rattle.acn_bits.specs.Reading.{Reading, Reads}
-use Rattle.acn_grammar.specs.Grammar.{Grammar, Form, Fields, Data, Places, Elements, empty, filled, element}
+use Rattle.acn_grammar.specs.Grammar.{Grammar, Form, Fields, Alternatives, Data, Places, Elements, empty, filled, element}
 use Rattle.acn_grammar.specs.Code.{Any}
 use Rattle.acn_grammar.specs.Env.{Env, at_slot}
 use Rattle.acn_grammar.specs.Fails.{Fault, Failing, Here, Fails, FormFails, FieldsFail, presence_count, RunFails, EndedFails}
@@ -14,7 +14,7 @@ use Rattle.acn_grammar.specs.Scoped.{Known, after, form_after, fields_after}
 use Rattle.acn_grammar.specs.Slots.{domain_of}
 use Rattle.acn_grammar.specs.Spell.{Part, RunPart, Spell, FormPart, FieldsPart}
 use Rattle.acn_grammar.specs.Tree.{holds}
-use Rattle.acn_plain_read.specs.Sound.{Sound, FormSound, FieldsSound, NothingLeaves}
+use Rattle.acn_plain_read.specs.Sound.{Sound, FormSound, FieldsSound, AlternativesSound, NothingLeaves}
 use Rattle.acn_grammar.specs.declared.node.Sizing.{Sizing}
 use Rattle.acn_plain_read.specs.declared.stop.Stop.{Stop}
 use Rattle.acn_plain_read.specs.declared.stop.Stop.TheVariants.{Fails as Failed, NoMemory}
@@ -87,6 +87,9 @@ module _ (root : Grammar) where
 
   abbrev pub FieldsStand : (k : ℕ) → Fields → Env → (around : List ℕ) → Type 0
   FieldsStand k fields read around = Stands (λ a ks. FieldsSound root k a ks fields) read around
+
+  abbrev pub CasesStand : (k : ℕ) → Alternatives → Env → (around : List ℕ) → Type 0
+  CasesStand k cases read around = Stands (λ a ks. AlternativesSound root k a ks cases) read around
 
   -- a node behind which the same slots are known as before it
   abbrev pub InnerStands : (k : ℕ) → Grammar → Env → (around : List ℕ) → Type 0

@@ -1,14 +1,16 @@
 //! The walk.
 
-ghost use Rattle.std.specs.Prelude.{◌≡◌, ◌<◌, ◌≤◌, ◌+◌, ◌^◌, ℕ, suc, ◌∷◌, [], ◌++◌, List, Bool, Option, None, IfOk, IfErr, OnOk, IsTrue, length, map, option_map};
+ghost use Rattle.std.specs.Prelude.{◌≡◌, ◌<◌, ◌≤◌, ◌+◌, ◌^◌, ℕ, suc, ◌∷◌, [], ◌++◌, List, Option, Some, None, IfOk, IfErr, OnOk, IsTrue, length, map, option_map};
 ghost use Rattle.acn_grammar.specs.Fails.{presence_count};
-ghost use Rattle.acn_grammar.specs.Grammar.{Fields, Data, component, inserted, no_fields, list, contained};
-ghost use Rattle.acn_grammar.specs.ItemsNamed.{ItemsNamed, FormItemsNamed, FieldsItemsNamed, field_items_named};
-ghost use Rattle.acn_grammar.specs.View.{grammar_of, form_of, data_of, field_of, fields_view, with_field};
+ghost use Rattle.acn_grammar.specs.Grammar.{Grammar, Fields, Data, component, inserted, no_fields, list, choice, contained};
+ghost use Rattle.acn_grammar.specs.ItemsNamed.{ItemsNamed, FormItemsNamed, FieldsItemsNamed, AlternativesItemsNamed, field_items_named};
+ghost use Rattle.acn_grammar.specs.View.{grammar_of, form_of, data_of, field_of, fields_view, with_field, alternatives_view};
 ghost use Rattle.acn_grammar.specs.declared.node.Body.TheVariants.{Seq as Seq_body};
 ghost use Rattle.acn_num.specs.declared.limits.TheConstants.{MOST_SIZE};
-ghost use Rattle.acn_plain_read.specs.Decoded.{Tells, Fine, NodeStands, FormStands, FieldsStand, InnerStands, RunTurn, TailStops, counted, NodeRead, FormRead, NodeStops, FormStops, Turn, FieldsStop};
+ghost use Rattle.acn_plain_read.specs.Choices.{grammar_at};
+ghost use Rattle.acn_plain_read.specs.Decoded.{Tells, Fine, NodeStands, FormStands, FieldsStand, InnerStands, CasesStand, RunTurn, TailStops, counted, NodeRead, FormRead, NodeStops, FormStops, Turn, FieldsStop};
 
+use crate::choices::pick;
 use crate::leaves::{named, read_leaf};
 use crate::numbers::{note, without};
 use crate::presence::{count_of, is_there};
@@ -18,8 +20,9 @@ use crate::steps::{number_of, pad};
 use crate::stop::Stop;
 use crate::strings::{read_bits, read_octets};
 use acn_bits::ReadCursor;
-use acn_grammar::{Body, Field, Node, Presence, ReadFault, Reason, Seq, Sizing, Value};
-use acn_num::{Path, Row};
+use acn_grammar::{
+    Alternative, Body, ChoiceRule, Field, Node, Presence, ReadFault, Reason, Seq, Sizing, Value};
+use acn_num::{Boxed, Path, Row};
 use std::alloc::Global;
 
 /// A node at a path.
@@ -77,7 +80,17 @@ fn read_body(
         Body::List(sizing, element) => read_list(
             alloc, element.get(), sizing, root, cur, slots, path, inside, from,
         ),
-        Body::Choice(_) => Err(Stop::NoMemory),
+        Body::Choice(choice) => read_choice(
+            alloc,
+            choice.alternatives.items(),
+            choice.rule,
+            root,
+            cur,
+            slots,
+            path,
+            inside,
+            from,
+        ),
         Body::Contained(sizing, content) => read_contained(
             alloc, content.get(), sizing, root, cur, slots, path, inside, from,
         ),
@@ -383,4 +396,62 @@ fn read_run(
         }
     }
     Ok(values)
+}
+
+#[cycle(read)]
+fn read_choice(
+    alloc: Global,
+    alternatives: &[Alternative],
+    rule: ChoiceRule,
+    root: &Node,
+    cur: &mut ReadCursor<'_>,
+    slots: &mut Row<(u32, i128)>,
+    path: &mut Path,
+    inside: bool,
+    from: u64,
+) -> Result<Value, Stop>
+    requires ready { (around : List ℕ) × FormStands (grammar_of root.now) (length path.old) (choice (alternatives_view alternatives.now) rule) slots.old around }
+    requires named { AlternativesItemsNamed (alternatives_view alternatives.now) }
+    requires fine { Fine (grammar_of root.now) slots.old }
+    ensures read { IfOk result (λ v. FormRead (grammar_of root.now) (choice (alternatives_view alternatives.now) rule) (data_of v) slots.old slots.new cur.old cur.new) }
+    ensures fails { IfErr result (λ e. Tells e (FormStops (grammar_of root.now) (choice (alternatives_view alternatives.now) rule) (record { path = path.old; place = from; inside = inside }) cur.old.origin slots.old cur.old path.new)) }
+    ensures path { OnOk result (path.new ≡ path.old) }
+{
+    match pick(cur, alternatives, &rule, slots.items(), root, inside, from) {
+        Ok(i) => match read_alternative(alloc, alternatives, i, root, cur, slots, path, inside) {
+            Ok(value) => {
+                let boxed = Boxed::new(alloc, value)?;
+                Ok(Value::Alt(i, boxed))
+            }
+            Err(stop) => Err(stop),
+        },
+        Err(stop) => Err(stop),
+    }
+}
+
+#[cycle(read)]
+fn read_alternative(
+    alloc: Global,
+    alternatives: &[Alternative],
+    i: u32,
+    root: &Node,
+    cur: &mut ReadCursor<'_>,
+    slots: &mut Row<(u32, i128)>,
+    path: &mut Path,
+    inside: bool,
+) -> Result<Value, Stop>
+    requires there { i < length alternatives.now }
+    requires ready { (around : List ℕ) × CasesStand (grammar_of root.now) (suc (length path.old)) (alternatives_view alternatives.now) slots.old around }
+    requires named { AlternativesItemsNamed (alternatives_view alternatives.now) }
+    requires fine { Fine (grammar_of root.now) slots.old }
+    ensures read { IfOk result (λ v. (g : Grammar) → grammar_at (alternatives_view alternatives.now) i ≡ Some g → NodeRead (grammar_of root.now) g (data_of v) slots.old slots.new cur.old cur.new) }
+    ensures fails { IfErr result (λ e. Tells e (λ r at. (g : Grammar) → grammar_at (alternatives_view alternatives.now) i ≡ Some g → NodeStops (grammar_of root.now) g inside (path.old ++ i ∷ []) slots.old cur.old path.new r at)) }
+    ensures path { OnOk result (path.new ≡ path.old) }
+{
+    match alternatives.get(i as usize) {
+        Some(alternative) => {
+            read_child(alloc, &alternative.node, i, root, cur, slots, path, inside)
+        }
+        None => unreachable!(),
+    }
 }

@@ -22,7 +22,7 @@ use acn_num::RangeSet;
 use acn_text::read_sizing;
 
 // The size that a number is, 0 where it lies below.
-fn kept_number(x: &i128) -> u64
+pub fn kept_number(x: &i128) -> u64
     requires { x.now <ℤ pos (2 ^ 64) }
     ensures { result ≡ kept x.now }
 {

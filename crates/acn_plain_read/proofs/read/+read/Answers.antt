@@ -10,6 +10,13 @@ use Rattle.acn_plain_read.specs.Decoded.{FormRead, FormStops, InnerStands}
 use Rattle.acn_grammar.specs.Grammar.{Data, list, contained}
 use Rattle.acn_grammar.specs.LeafFails.{content_size}
 use Rattle.std.proofs.Common.{length-append}
+use Rattle.acn_plain_read.proofs.ChoiceReads.{body_is, body_choice, body_choice_fails, choice_few, choice_rule_known, choice_fits, choice_inner, choice_named, choice_none_at, choice_fails_at, choice_read_at, view_choice, count_cases, case_inner, view_named, case_at, alternative_read, alternative_fails}
+use Rattle.acn_grammar.specs.declared.node.Choice.{out-Choice}
+use Rattle.acn_grammar.specs.declared.node.Alternative.{the_lemmas as alternative_lemmas}
+use Rattle.acn_grammar.specs.declared.value.Value.{Alt as AltValue}
+use Rattle.acn_plain_read.specs.Choices.{grammar_at}
+use Rattle.acn_grammar.specs.Grammar.{Form, choice}
+use Rattle.acn_grammar.specs.View.{alternatives_view}
 use Rattle.acn_plain_read.proofs.SlotTurns.{component_read}
 use Rattle.acn_grammar.specs.Grammar.{octets, bits, text}
 use Rattle.acn_plain_read.proofs.StringReads.{octets_rule, bits_rule, text_rule, view_octets, view_bits, view_text, form_passed_at, form_fails_at}
@@ -289,3 +296,57 @@ read_run-loop-i-preserved t c =
       count = ap length c.in_ok-push-in-Ok.ensures.ok ∙ (length-append l.values (c.in-Ok.value ∷ []) ∙ ap (λ (n : ℕ). n + 1) l.invariant.count);
       turn = λ place. run_next (grammar_of c.args.root.now) place c.args.inside c.args.path.now l.path c.args.cur.now.origin (grammar_of c.args.node.now) (map data_of l.values) (data_of c.in-Ok.value) (map data_of c.push.new.self) c.args.slots.now l.slots c.read_child.new.slots c.args.cur.now l.cur c.read_child.new.cur (ap (map data_of) c.in_ok-push-in-Ok.ensures.ok ∙ map-append data_of l.values (c.in-Ok.value ∷ [])) (l.invariant.turn place) c.in-Ok.ensures.read;
     }
+
+pub read_choice-pick-requires : goal.read_choice-pick-requires
+read_choice-pick-requires t c = record {
+  few = choice_few (grammar_of c.args.root.now) c.args.alternatives.now c.args.alternatives.now c.args.rule (length c.args.path.now) c.args.slots.now refl c.requires.ready;
+  known = choice_rule_known (grammar_of c.args.root.now) c.args.alternatives.now c.args.alternatives.now c.args.rule (length c.args.path.now) c.args.slots.now c.items.result.now refl c.items.ensures c.requires.fine c.requires.ready;
+  fits = choice_fits (grammar_of c.args.root.now) c.args.alternatives.now c.args.rule (length c.args.path.now) c.args.slots.now c.requires.ready;
+}
+
+pub read_choice-read_alternative-requires : goal.read_choice-read_alternative-requires
+read_choice-read_alternative-requires t c =
+    (search (rules, the_lemmas),
+      (let there = c.in-Ok.ensures.picked.there in let n = count_cases c.args.alternatives.now in omega (arith, there, n),
+      (choice_inner (grammar_of c.args.root.now) c.args.alternatives.now c.args.alternatives.now c.args.rule (length c.args.path.now) c.args.slots.now refl c.requires.ready, (c.requires.named, c.requires.fine))))
+
+pub read_choice-returns-in_ok-boxed-in-Ok-read_alternative-clause-read : goal.read_choice-returns-in_ok-boxed-in-Ok-read_alternative-clause-read
+read_choice-returns-in_ok-boxed-in-Ok-read_alternative-clause-read t c =
+    choice_read_at (grammar_of c.args.root.now) (choice (alternatives_view c.args.alternatives.now) c.args.rule) c.args.alternatives.now c.args.alternatives.now c.args.rule c.in-Ok.i _ c.in-Ok-read_alternative.value c.args.slots.now c.read_alternative.new.slots c.items.result.now c.args.cur.now c.pick.new.cur c.read_alternative.new.cur refl refl c.items.ensures (ap (AltValue c.in-Ok.i) c.in_ok-boxed-in-Ok-read_alternative.ensures) c.in-Ok.ensures.picked
+      c.in-Ok-read_alternative.ensures.read
+
+pub read_choice-returns-in-Err-read_alternative-clause-fails : goal.read_choice-returns-in-Err-read_alternative-clause-fails
+read_choice-returns-in-Err-read_alternative-clause-fails t c =
+    tells_map c.in-Err-read_alternative.stop _ _ (λ q at s. choice_fails_at (grammar_of c.args.root.now) (choice (alternatives_view c.args.alternatives.now) c.args.rule) (record { path = c.args.path.now; place = c.args.from; inside = c.args.inside }) c.args.alternatives.now c.args.alternatives.now c.args.rule c.in-Ok.i c.args.slots.now c.items.result.now c.args.cur.now c.pick.new.cur _ q at refl refl c.items.ensures c.in-Ok.ensures.picked s) c.in-Err-read_alternative.ensures.fails
+
+pub read_choice-returns-in-Err-clause-fails : goal.read_choice-returns-in-Err-clause-fails
+read_choice-returns-in-Err-clause-fails t c =
+    tells_map c.in-Err.stop _ _ (λ q at s. choice_none_at (grammar_of c.args.root.now) (choice (alternatives_view c.args.alternatives.now) c.args.rule) (record { path = c.args.path.now; place = c.args.from; inside = c.args.inside }) c.args.alternatives.now c.args.alternatives.now c.args.rule c.args.slots.now c.items.result.now c.args.cur.now q at refl refl c.items.ensures c.requires.fine s) c.in-Err.ensures.fails
+
+pub read_body-read_choice-requires : goal.read_body-read_choice-requires
+read_body-read_choice-requires t c =
+    (search (rules, the_lemmas), (
+      body_choice (grammar_of c.args.root.now) (form_of c.args.body.now) (out-Choice c.in-Choice.choice).alternatives c.items-in-Choice.result.now (out-Choice c.in-Choice.choice).rule (length c.args.path.now) c.args.slots.now (ap form_of c.in-Choice.is ∙ view_choice c.in-Choice.choice) c.items-in-Choice.ensures c.requires.ready, (
+      choice_named (form_of c.args.body.now) (out-Choice c.in-Choice.choice).alternatives c.items-in-Choice.result.now (out-Choice c.in-Choice.choice).rule (ap form_of c.in-Choice.is ∙ view_choice c.in-Choice.choice) c.items-in-Choice.ensures c.requires.named,
+      c.requires.fine)))
+
+pub read_body-returns-in-Choice-clause-read : goal.read_body-returns-in-Choice-clause-read
+read_body-returns-in-Choice-clause-read t c =
+    ok_map c.read_choice.result _ _ (λ v f. subst (λ (x : Form). FormRead (grammar_of c.args.root.now) x (data_of v) c.args.slots.now c.read_choice.new.slots c.args.cur.now c.read_choice.new.cur) (sym (body_is (form_of c.args.body.now) (out-Choice c.in-Choice.choice).alternatives c.items-in-Choice.result.now (out-Choice c.in-Choice.choice).rule (ap form_of c.in-Choice.is ∙ view_choice c.in-Choice.choice) c.items-in-Choice.ensures)) f) c.read_choice.ensures.read
+
+pub read_body-returns-in-Choice-clause-fails : goal.read_body-returns-in-Choice-clause-fails
+read_body-returns-in-Choice-clause-fails t c =
+    body_choice_fails (grammar_of c.args.root.now) (form_of c.args.body.now) (out-Choice c.in-Choice.choice).alternatives c.items-in-Choice.result.now (out-Choice c.in-Choice.choice).rule (record { path = c.args.path.now; place = c.args.from; inside = c.args.inside }) c.args.cur.now.origin c.args.slots.now c.args.cur.now c.read_choice.new.path c.read_choice.result (ap form_of c.in-Choice.is ∙ view_choice c.in-Choice.choice) c.items-in-Choice.ensures c.read_choice.ensures.fails
+
+pub read_alternative-read_child-requires : goal.read_alternative-read_child-requires
+read_alternative-read_child-requires t c =
+    (search (rules, the_lemmas, alternative_lemmas), (
+      case_inner (grammar_of c.args.root.now) c.args.alternatives.now c.args.i c.in-Some.alternative.now (suc (length c.args.path.now)) c.args.slots.now (case_at c.args.alternatives.now c.args.i c.in-Some.alternative.now _ c.requires.there c.in-Some.ensures.lookup.1) c.requires.ready, (
+      view_named c.args.alternatives.now c.args.i c.in-Some.alternative.now (case_at c.args.alternatives.now c.args.i c.in-Some.alternative.now _ c.requires.there c.in-Some.ensures.lookup.1) c.requires.named,
+      c.requires.fine)))
+
+pub read_alternative-returns-clause-read : goal.read_alternative-returns-clause-read
+read_alternative-returns-clause-read t c = alternative_read (grammar_of c.args.root.now) c.args.alternatives.now c.args.i c.in-Some.alternative.now c.args.slots.now c.read_child.new.slots c.args.cur.now c.read_child.new.cur c.read_child.result (case_at c.args.alternatives.now c.args.i c.in-Some.alternative.now _ c.requires.there c.in-Some.ensures.lookup.1) c.read_child.ensures.read
+
+pub read_alternative-returns-clause-fails : goal.read_alternative-returns-clause-fails
+read_alternative-returns-clause-fails t c = alternative_fails (grammar_of c.args.root.now) c.args.alternatives.now c.args.i c.in-Some.alternative.now c.args.inside (c.args.path.now ++ c.args.i ∷ []) c.read_child.new.path c.args.slots.now c.args.cur.now c.read_child.result (case_at c.args.alternatives.now c.args.i c.in-Some.alternative.now _ c.requires.there c.in-Some.ensures.lookup.1) c.read_child.ensures.fails
