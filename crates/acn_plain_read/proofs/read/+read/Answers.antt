@@ -11,7 +11,8 @@ use Rattle.acn_grammar.specs.Grammar.{Data, list, contained}
 use Rattle.acn_grammar.specs.LeafFails.{content_size}
 use Rattle.std.proofs.Common.{length-append}
 use Rattle.acn_plain_read.proofs.ChoiceReads.{body_is, body_choice, body_choice_fails, choice_few, choice_rule_known, choice_fits, choice_inner, choice_named, choice_none_at, choice_fails_at, choice_read_at, view_choice, count_cases, case_inner, view_named, case_at, alternative_read, alternative_fails}
-use Rattle.acn_grammar.specs.declared.node.Choice.{out-Choice}
+use Rattle.acn_grammar.specs.declared.node.Choice.{out-Choice, size_is-Choice}
+use Rattle.acn_grammar.specs.declared.node.Body.{size-Body}
 use Rattle.acn_grammar.specs.declared.node.Alternative.{the_lemmas as alternative_lemmas}
 use Rattle.acn_grammar.specs.declared.value.Value.{Alt as AltValue}
 use Rattle.acn_plain_read.specs.Choices.{grammar_at}
@@ -325,7 +326,7 @@ read_choice-returns-in-Err-clause-fails t c =
 
 pub read_body-read_choice-requires : goal.read_body-read_choice-requires
 read_body-read_choice-requires t c =
-    (search (rules, the_lemmas), (
+    (let a = size_is-Choice c.in-Choice.choice in let b = ap size-Body c.in-Choice.is in let items = c.items-in-Choice.ensures in search (rules, the_lemmas, a, b, items), (
       body_choice (grammar_of c.args.root.now) (form_of c.args.body.now) (out-Choice c.in-Choice.choice).alternatives c.items-in-Choice.result.now (out-Choice c.in-Choice.choice).rule (length c.args.path.now) c.args.slots.now (ap form_of c.in-Choice.is ∙ view_choice c.in-Choice.choice) c.items-in-Choice.ensures c.requires.ready, (
       choice_named (form_of c.args.body.now) (out-Choice c.in-Choice.choice).alternatives c.items-in-Choice.result.now (out-Choice c.in-Choice.choice).rule (ap form_of c.in-Choice.is ∙ view_choice c.in-Choice.choice) c.items-in-Choice.ensures c.requires.named,
       c.requires.fine)))
