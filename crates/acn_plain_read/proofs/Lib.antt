@@ -8,4 +8,5 @@ mod Seqs
 mod SlotTurns
 mod Small
 mod StringReads
+mod Tops
 mod Turns

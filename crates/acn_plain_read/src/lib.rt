@@ -2,6 +2,7 @@
 #![tactic(auto)]
 
 mod choices;
+mod decode;
 mod leaves;
 mod numbers;
 mod presence;
@@ -13,5 +14,4 @@ mod steps;
 mod stop;
 mod strings;
 
-pub use read::read_node;
-pub use stop::Stop;
+pub use decode::read_root;
