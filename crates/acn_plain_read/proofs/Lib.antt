@@ -8,5 +8,6 @@ mod Seqs
 mod SlotTurns
 mod Small
 mod StringReads
+mod TextReads
 mod Tops
 mod Turns

@@ -66,13 +66,13 @@ sizes_of sizing f = (and_parts (sizes_fine sizing.sizes) (rule_fine sizing.sizes
 pub octet_small : (bs : List Bool) → 8 ≤ length bs → number (take 8 bs) < 256
 octet_small bs h = subst (λ (k : ℕ). number (take 8 bs) < 2 ^ k) (length-take-le 8 bs h) (number_below (take 8 bs))
 
-says_on : (rule : SizeRule) (given : Option ℕ) (t env : Env) → Follows t env → SlotSays rule given t → SlotSays rule given env
+pub says_on : (rule : SizeRule) (given : Option ℕ) (t env : Env) → Follows t env → SlotSays rule given t → SlotSays rule given env
 says_on (Prefix low width) given t env f s = tt
 says_on (Slot k) given t env f s = (s.0, s.1, f k (pos s.0) s.2)
 says_on (Ended p) given t env f s = tt
 
 pub not_given : (sizing : Sizing) (s : ℕ) (t : Env) (x : ℤ) (r : Reason) → sizing.rule ≡ Slot s → at_slot t s ≡ Some x → (In sizing.sizes x → ⊥) → r ≡ size_out_of_range (kept x) → NotGiven sizing t r
-not_given sizing s t x r rule e out is = record { fails = λ here env at rest f. subst (λ (q : SizeRule). RuleFails here sizing q env at rest (fault_here here r) 0) (sym rule) (x, f s x e, out, ap (fault_here here) is, refl) }
+not_given sizing s t x r rule e out is = record { slot = s; rule = rule; fails = λ here env at rest f. subst (λ (q : SizeRule). RuleFails here sizing q env at rest (fault_here here r) 0) (sym rule) (x, f s x e, out, ap (fault_here here) is, refl) }
 
 pub size_passed : (sizing : Sizing) (given : Option ℕ) (n : ℕ) (t : Env) (a b : Reading) → SlotSays sizing.rule given t → Reads (SizeCode sizing given n) a b → Passes (λ env. SizePart sizing env n) t a b
 size_passed sizing given n t a b s r = record { front = r.front; split = r.split; moved = r.moved; window = r.window; holds = λ env f. r.holds env a.at (says_on sizing.rule given t env f s) }

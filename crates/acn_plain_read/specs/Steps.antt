@@ -39,6 +39,8 @@ pub record NoSize (sizing : Sizing) (read : Env) (old : Reading) (r : Reason) : 
 
 -- what a slot says is no size
 pub record NotGiven (sizing : Sizing) (read : Env) (r : Reason) : Type 0 where
+  pub slot : ℕ
+  pub rule : sizing.rule ≡ Slot slot
   pub fails : (here : Here) (env : Env) (at : ℕ) (rest : List Bool) → Follows read env → SizeFails here sizing env at rest (fault_here here r) 0
 
 -- no value of the form stands here, whatever the tree and the numbers are that weren't read

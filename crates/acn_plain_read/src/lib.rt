@@ -13,5 +13,6 @@ mod slot_leaf;
 mod steps;
 mod stop;
 mod strings;
+mod texts;
 
 pub use decode::read_root;

@@ -19,6 +19,7 @@ use crate::slot::read_inserted;
 use crate::steps::{number_of, pad};
 use crate::stop::Stop;
 use crate::strings::{read_bits, read_octets};
+use crate::texts::read_text;
 use acn_bits::ReadCursor;
 use acn_grammar::{
     Alternative, Body, ChoiceRule, Field, Node, Presence, ReadFault, Reason, Seq, Sizing, Value};
@@ -76,7 +77,7 @@ fn read_body(
         Body::Seq(seq) => read_seq(alloc, seq, root, cur, slots, path, inside, from),
         Body::Octets(sizing) => read_octets(alloc, cur, sizing, slots.items(), inside, from),
         Body::Bits(sizing) => read_bits(alloc, cur, sizing, slots.items(), inside, from),
-        Body::Text(_) => Err(Stop::NoMemory),
+        Body::Text(leaf) => read_text(alloc, cur, leaf, slots.items(), inside, from),
         Body::List(sizing, element) => read_list(
             alloc, element.get(), sizing, root, cur, slots, path, inside, from,
         ),

@@ -49,7 +49,7 @@ fn permitted_size(sizes: &RangeSet, number: Option<i128>) -> Result<Option<u64>,
 }
 
 /// The size that a slot says, None where it stands in front.
-fn given_size(sizing: &Sizing, slots: &[(u32, i128)]) -> Result<Option<u64>, ReadFault>
+pub fn given_size(sizing: &Sizing, slots: &[(u32, i128)]) -> Result<Option<u64>, ReadFault>
     requires fine { IsTrue (sizes_fine sizing.now.sizes) }
     requires read { RuleRead sizing.now.rule slots.now }
     ensures given { IfOk result (λ given. IsGiven sizing.now.rule given) }

@@ -351,3 +351,12 @@ read_alternative-returns-clause-read t c = alternative_read (grammar_of c.args.r
 
 pub read_alternative-returns-clause-fails : goal.read_alternative-returns-clause-fails
 read_alternative-returns-clause-fails t c = alternative_fails (grammar_of c.args.root.now) c.args.alternatives.now c.args.i c.in-Some.alternative.now c.args.inside (c.args.path.now ++ c.args.i ∷ []) c.read_child.new.path c.args.slots.now c.args.cur.now c.read_child.result (case_at c.args.alternatives.now c.args.i c.in-Some.alternative.now _ c.requires.there c.in-Some.ensures.lookup.1) c.read_child.ensures.fails
+
+pub read_body-read_text-requires-clause-read : goal.read_body-read_text-requires-clause-read
+read_body-read_text-requires-clause-read t c = text_rule (grammar_of c.args.root.now) (form_of c.args.body.now) c.in-Text.leaf (length c.args.path.now) c.args.slots.now c.items-in-Text.result.now (ap form_of c.in-Text.is ∙ view_text c.in-Text.leaf) c.items-in-Text.ensures c.requires.ready c.requires.fine
+
+pub read_body-returns-in-Text-clause-read : goal.read_body-returns-in-Text-clause-read
+read_body-returns-in-Text-clause-read t c = form_passed_at (grammar_of c.args.root.now) (text c.in-Text.leaf) (form_of c.args.body.now) c.args.slots.now c.items-in-Text.result.now c.args.cur.now c.read_text.new.cur c.read_text.result (ap form_of c.in-Text.is ∙ view_text c.in-Text.leaf) c.items-in-Text.ensures (λ ks. refl) c.requires.fine c.read_text.ensures.read
+
+pub read_body-returns-in-Text-clause-fails : goal.read_body-returns-in-Text-clause-fails
+read_body-returns-in-Text-clause-fails t c = form_fails_at (grammar_of c.args.root.now) (text c.in-Text.leaf) (form_of c.args.body.now) (record { path = c.args.path.now; place = c.args.from; inside = c.args.inside }) c.args.slots.now c.items-in-Text.result.now c.args.cur.now c.read_text.result (ap form_of c.in-Text.is ∙ view_text c.in-Text.leaf) c.items-in-Text.ensures c.requires.fine c.read_text.ensures.fails
