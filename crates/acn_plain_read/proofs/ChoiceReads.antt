@@ -40,7 +40,7 @@ use Rattle.acn_plain_read.proofs.Turns.{noted_same}
 use Rattle.acn_grammar.specs.Fails.{kept, seen}
 use Rattle.std.specs.Prelude.{◌<ℤ◌, int_lt}
 use Rattle.acn_grammar.specs.Asks.{same_name}
-use Rattle.acn_grammar.specs.Env.{Env, at_slot, AllHold}
+use Rattle.acn_grammar.specs.Env.{Env, at_slot}
 use Rattle.acn_grammar.specs.Fails.{NoneChosen, count_of}
 use Rattle.acn_grammar.specs.Grammar.{Grammar, Alternatives, no_alternatives, alternative}
 use Rattle.acn_grammar.specs.Scoped.{Known, TestsIn, tests_at}
@@ -51,7 +51,7 @@ use Rattle.acn_grammar.specs.declared.node.ChoiceRule.TheVariants.{Index, Tests,
 use Rattle.acn_grammar.specs.declared.node.Test.{Test}
 use Rattle.acn_grammar.proofs.Characters.{same_name-is, same_name-refl}
 use Rattle.acn_plain_read.specs.Choices.{first_case, grammar_at, ChosenAt, IsName, NoName, IsItem, Choosing, Unchosen, RuleKnown, Picked, NoCase}
-use Rattle.acn_plain_read.specs.Decoded.{CasesStand, InnerStands, Follows, Has, Fine, Noted, FormStands, NodeStops, FormStops, NodeRead, FormRead}
+use Rattle.acn_plain_read.specs.Decoded.{CasesStand, InnerStands, Follows, Fine, FormStands, NodeStops, FormStops, NodeRead, FormRead}
 use Rattle.acn_plain_read.specs.Present.{all_hold_now}
 use Rattle.acn_plain_read.proofs.Turns.{tests_told}
 
@@ -338,8 +338,19 @@ module _ (root : Grammar) where
     fine = s.fine;
     within = λ around st. (let q = case_sound root (suc st.0) around st.1.known cases i g e st.1.is.3 in s.within around (suc st.0, record { known = st.1.known; noted = st.1.noted; is = q.1 }));
     reach = index_width rule + s.reach;
-    fails = λ env f. inr (i, p.is, (p.room, (s.reach, case_fails root rule env here a.origin cases i i g (a.at + index_width rule) (drop (index_width rule) a.rest) (record { path = path; reason = r; at = at }) s.reach e (p.chosen env (s.grown env f))
-        (subst (λ (x : Reading). Fails root g env here.inside x.origin (here.path ++ i ∷ []) x.at x.rest (record { path = path; reason = r; at = at }) s.reach) p.moved (s.fails env f)), refl)));
+    fails = λ env f. inr (
+      i,
+      p.is,
+      (
+        p.room,
+        (
+          s.reach,
+          case_fails root rule env here a.origin cases i i g (a.at + index_width rule) (drop (index_width rule) a.rest) (record { path = path; reason = r; at = at }) s.reach e (p.chosen env (s.grown env f))
+              (subst (λ (x : Reading). Fails root g env here.inside x.origin (here.path ++ i ∷ []) x.at x.rest (record { path = path; reason = r; at = at }) s.reach) p.moved (s.fails env f)),
+          refl,
+        ),
+      ),
+    );
   }
 
   pub choice_none : (here : Here) (cases : Alternatives) (rule : ChoiceRule) (t : Env) (a : Reading) (r : Reason) (at : ℕ) → Fine root t → Named here.inside here.place (NoCase root cases rule t a) r at → FormStops root (choice cases rule) here a.origin t a here.path r at
@@ -373,7 +384,7 @@ module _ (root : Grammar) where
       let q : Picked root (alternatives_view as') rule t a b i = subst (λ (x : Env). Picked root (alternatives_view as') rule x a b i) s (subst (λ (x : List Alternative). Picked root (alternatives_view x) rule slots a b i) is p) in
       let g = case_there (alternatives_view as') i q.there in
       subst (λ (x : Form). FormRead root x (data_of v) t t' a c) (sym e) (subst (λ (d : Data). FormRead root (choice (alternatives_view as') rule) d t t' a c) (sym (ap data_of same ∙ view_alt_value i value))
-        (choice_read (alternatives_view as') rule i g.0 (data_of value) t t' a b c g.1 q (n g.0 (subst (λ (x : List Alternative). grammar_at (alternatives_view x) i ≡ Some g.0) (sym is) g.1))))
+      (choice_read (alternatives_view as') rule i g.0 (data_of value) t t' a b c g.1 q (n g.0 (subst (λ (x : List Alternative). grammar_at (alternatives_view x) i ≡ Some g.0) (sym is) g.1))))
 
   pub choice_fails_at : (seen_as : Form) (here : Here) (as' items : List Alternative) (rule : ChoiceRule) (i : ℕ) (t slots : Env) (a b : Reading) (path : List ℕ) (r : Reason) (at : ℕ) → seen_as ≡ choice (alternatives_view as') rule → items ≡ as' → slots ≡ t → Picked root (alternatives_view items) rule slots a b i
       → ((g : Grammar) → grammar_at (alternatives_view items) i ≡ Some g → NodeStops root g here.inside (here.path ++ i ∷ []) t b path r at) → FormStops root seen_as here a.origin t a path r at
@@ -381,12 +392,12 @@ module _ (root : Grammar) where
       let q : Picked root (alternatives_view as') rule t a b i = subst (λ (x : Env). Picked root (alternatives_view as') rule x a b i) s (subst (λ (x : List Alternative). Picked root (alternatives_view x) rule slots a b i) is p) in
       let g = case_there (alternatives_view as') i q.there in
       subst (λ (x : Form). FormStops root x here a.origin t a path r at) (sym e)
-        (choice_fails here (alternatives_view as') rule i g.0 t a b path r at g.1 q (n g.0 (subst (λ (x : List Alternative). grammar_at (alternatives_view x) i ≡ Some g.0) (sym is) g.1)))
+      (choice_fails here (alternatives_view as') rule i g.0 t a b path r at g.1 q (n g.0 (subst (λ (x : List Alternative). grammar_at (alternatives_view x) i ≡ Some g.0) (sym is) g.1)))
 
   pub choice_none_at : (seen_as : Form) (here : Here) (as' items : List Alternative) (rule : ChoiceRule) (t slots : Env) (a : Reading) (r : Reason) (at : ℕ) → seen_as ≡ choice (alternatives_view as') rule → items ≡ as' → slots ≡ t → Fine root t → Named here.inside here.place (NoCase root (alternatives_view items) rule slots a) r at → FormStops root seen_as here a.origin t a here.path r at
   choice_none_at seen_as here as' items rule t slots a r at e is s m n =
       subst (λ (x : Form). FormStops root x here a.origin t a here.path r at) (sym e)
-        (choice_none here (alternatives_view as') rule t a r at m (subst (λ (x : Env). Named here.inside here.place (NoCase root (alternatives_view as') rule x a) r at) s (subst (λ (x : List Alternative). Named here.inside here.place (NoCase root (alternatives_view x) rule slots a) r at) is n)))
+      (choice_none here (alternatives_view as') rule t a r at m (subst (λ (x : Env). Named here.inside here.place (NoCase root (alternatives_view as') rule x a) r at) s (subst (λ (x : List Alternative). Named here.inside here.place (NoCase root (alternatives_view x) rule slots a) r at) is n)))
 
 pub view_named : (as' : List Alternative) (i : ℕ) (a : Alternative) → slice_get as' i ≡ Some a → AlternativesItemsNamed (alternatives_view as') → ItemsNamed (grammar_of a.node)
 view_named as' i a e n = case_named (alternatives_view as') i (grammar_of a.node) (view_case as' i a e) n

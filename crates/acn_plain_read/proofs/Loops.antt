@@ -1,19 +1,17 @@
 -- The loop over fields.
-use Rattle.std.proofs.Common.{◌≡◌, ℕ, zero, suc, ◌+◌, ◌<◌, ◌≤◌, List, [], ◌∷◌, ◌++◌, length, map, drop, get_or, Option, None, Some, refl, sym, ap, ◌∙◌, arith, subst, Bool, append-nil}
-use Rattle.std.proofs.lemmas.List.{drop_more, drop_all}
-use Rattle.std.specs.Prelude.{option_map}
+use Rattle.std.proofs.Common.{◌≡◌, ℕ, zero, suc, ◌+◌, ◌<◌, ◌≤◌, List, [], ◌∷◌, ◌++◌, length, drop, get_or, Option, refl, sym, arith, subst, Bool, append-nil}
+use Rattle.std.proofs.lemmas.List.{drop_more}
 use Rattle.acn_bits.specs.Reading.{Reading}
 use Rattle.acn_grammar.specs.Env.{Env}
-use Rattle.acn_grammar.specs.Fails.{Fault, Here, presence_count}
-use Rattle.acn_grammar.specs.Grammar.{Grammar, Fields, Data, Form, component, inserted, no_fields}
+use Rattle.acn_grammar.specs.Fails.{Here, presence_count}
+use Rattle.acn_grammar.specs.Grammar.{Grammar, Fields, Data, component, inserted, no_fields}
 use Rattle.acn_grammar.specs.LeafFails.{Reason}
-use Rattle.acn_grammar.specs.Scoped.{Known}
 use Rattle.acn_grammar.specs.View.{OneField, a_component, fields_view, field_of, with_field}
 use Rattle.acn_grammar.specs.declared.node.Field.{Field}
 use Rattle.acn_grammar.specs.declared.node.Presence.{Presence}
-use Rattle.acn_plain_read.specs.Decoded.{Stands, FieldsStand, Turn, FieldsStop}
+use Rattle.acn_plain_read.specs.Decoded.{FieldsStand, Turn, FieldsStop}
 use Rattle.acn_grammar.specs.ItemsNamed.{FieldsItemsNamed, fields_items_named, field_items_named, items_named}
-use Rattle.std.proofs.Common.{IsTrue, ◌&&◌, true}
+use Rattle.std.proofs.Common.{IsTrue}
 use Rattle.std.proofs.lemmas.Bool.{and_parts}
 use Rattle.acn_grammar.specs.View.{an_inserted}
 use Rattle.acn_plain_read.proofs.Turns.{more_turns, turn_stops}
@@ -38,7 +36,7 @@ module _ (root : Grammar) where
   next_turn place inside path path' origin k all rest next f done more t t' t'' flags flags' flags'' a b c e same p q =
       subst (λ (n : ℕ). Turn root (record { path = path; place = place; inside = inside }) a.origin 0 n all next (done ++ more) t t'' flags flags'' a c) (one_up k) (more_turns root (record { path = path; place = place; inside = inside }) a.origin b.origin 0 k (suc k) all rest next done more t t' t'' flags flags' flags'' a b c p.window p
       (subst (λ (x : Fields). Turn root (record { path = path; place = place; inside = inside }) b.origin k (suc k) x next more t' t'' flags' flags'' b c) (sym e)
-        (subst (λ (x : List ℕ). Turn root (record { path = x; place = place; inside = inside }) b.origin k (suc k) (with_field f next) next more t' t'' flags' flags'' b c) same (q place next))))
+      (subst (λ (x : List ℕ). Turn root (record { path = x; place = place; inside = inside }) b.origin k (suc k) (with_field f next) next more t' t'' flags' flags'' b c) same (q place next))))
     where
       one_up : (n : ℕ) → suc n ≡ n + 1
       one_up n = omega arith
@@ -51,14 +49,14 @@ module _ (root : Grammar) where
   next_stops place inside path path' end k all rest next f done t t' flags flags' a b r at e same p q =
       turn_stops root (record { path = path; place = place; inside = inside }) a.origin b.origin 0 k all rest done t t' flags flags' a b end r at p.window p
       (subst (λ (x : Fields). FieldsStop root x flags' (record { path = path; place = place; inside = inside }) b.origin k t' b end r at) (sym e)
-        (subst (λ (x : List ℕ). FieldsStop root (with_field f next) flags' (record { path = x; place = place; inside = inside }) b.origin k t' b end r at) same (q place next)))
+      (subst (λ (x : List ℕ). FieldsStop root (with_field f next) flags' (record { path = x; place = place; inside = inside }) b.origin k t' b end r at) same (q place next)))
 
   -- at the end no field is left
   pub all_turns : (here : Here) (origin k i : ℕ) (fields : List Field) (done : List (Option Data)) (t t' : Env) (flags flags' : List Bool) (a b : Reading) → length fields ≤ i → i ≤ length fields → k ≡ i
       → Turn root here origin 0 k (fields_view fields) (fields_view (drop i fields)) done t t' flags flags' a b → Turn root here origin 0 (length fields) (fields_view fields) no_fields done t t' flags flags' a b
   all_turns here origin k i fields done t t' flags flags' a b over within same p =
       subst (λ (n : ℕ). Turn root here origin 0 n (fields_view fields) no_fields done t t' flags flags' a b) (omega (arith, over, within, same))
-        (subst (λ (x : List Field). Turn root here origin 0 k (fields_view fields) (fields_view x) done t t' flags flags' a b) (drop_past i fields (omega (arith, over))) p)
+      (subst (λ (x : List Field). Turn root here origin 0 k (fields_view fields) (fields_view x) done t t' flags flags' a b) (drop_past i fields (omega (arith, over))) p)
     where
       drop_past : (n : ℕ) (xs : List Field) → length xs ≤ n → drop n xs ≡ []
       drop_past zero [] h = refl

@@ -1,5 +1,5 @@
 -- Parts that were read, and what fails behind them.
-use Rattle.std.proofs.Common.{◌≡◌, ℕ, zero, suc, ◌+◌, ◌<◌, ◌≤◌, ℤ, Bool, true, false, List, [], ◌∷◌, ◌++◌, length, Option, Some, None, refl, sym, ap, ◌∙◌, arith, inl, inr, ◌⊎◌, subst, append_assoc, length-append}
+use Rattle.std.proofs.Common.{◌≡◌, ℕ, zero, suc, ◌+◌, ◌<◌, ℤ, Bool, true, false, List, ◌++◌, length, None, refl, sym, ap, ◌∙◌, arith, inl, inr, subst, append_assoc, length-append}
 use Rattle.std.specs.Prelude.{Result, Ok, Err, IfOk, IfErr, OnOk}
 use Rattle.acn_bits.specs.Reading.{Reading}
 use Rattle.acn_bits.specs.Reading.{Reads}
@@ -7,7 +7,7 @@ use Rattle.acn_ints.specs.Reads as readings
 use Rattle.acn_grammar.specs.Code.{Any, Code, NumberOf}
 use Rattle.acn_grammar.specs.Env.{Env, at_slot}
 use Rattle.acn_grammar.specs.Fails.{Fault, Failing, Here, Behind, Fails, FormFails}
-use Rattle.acn_grammar.specs.Grammar.{Grammar, Form, Fields, Data, node, num}
+use Rattle.acn_grammar.specs.Grammar.{Grammar, Form, Data, node, num}
 use Rattle.acn_grammar.specs.LeafFails.{Reason, short}
 use Rattle.acn_grammar.specs.Length.{padding}
 use Rattle.acn_grammar.specs.Scoped.{Known}
@@ -15,9 +15,9 @@ use Rattle.acn_grammar.specs.Tree.{holds, is_align}
 use Rattle.acn_grammar.specs.Leaves.{num_fine}
 use Rattle.std.proofs.Common.{IsTrue}
 use Rattle.acn_plain_read.specs.Sound.{Sound}
-use Rattle.acn_grammar.specs.Spell.{Part, ◌then◌, Padding, Spell, FormPart}
+use Rattle.acn_grammar.specs.Spell.{Part, ◌then◌, Padding, FormPart}
 use Rattle.acn_grammar.specs.declared.node.NumLeaf.{NumLeaf}
-use Rattle.acn_plain_read.specs.Decoded.{Follows, Grows, Passes, Tells, Fine, Has, Within, Noted, NodeStands, FormStands, Stops, FormRead, NodeRead, NodeStops, FormStops}
+use Rattle.acn_plain_read.specs.Decoded.{Follows, Grows, Passes, Tells, Fine, Within, Noted, NodeStands, FormStands, Stops, FormRead, NodeRead, NodeStops, FormStops}
 use Rattle.acn_plain_read.specs.Steps.{PadPassed, Named}
 use Rattle.acn_plain_read.specs.declared.stop.Stop.{Stop}
 use Rattle.acn_plain_read.specs.declared.stop.Stop.TheVariants.{Fails as Failed, NoMemory}

@@ -1,27 +1,25 @@
 -- Elements that were read, one behind another, and contents in their window.
-use Rattle.std.proofs.Common.{◌≡◌, ℕ, zero, suc, ◌+◌, ◌-◌, ◌*◌, ◌%◌, ◌<◌, ◌≤◌, Bool, true, false, List, [], ◌∷◌, ◌++◌, length, map, take, drop, Option, Some, None, refl, sym, ap, ◌∙◌, arith, inl, inr, ◌⊎◌, subst, append_assoc, length-append, take-append-drop, append-nil, rules, pos, IsTrue, ◌&&◌}
-use Rattle.std.specs.Prelude.{Result, Ok, Err, IfOk, IfErr}
+use Rattle.std.proofs.Common.{◌≡◌, ℕ, suc, ◌+◌, ◌-◌, ◌*◌, ◌%◌, ◌<◌, ◌≤◌, Bool, true, false, List, [], ◌∷◌, ◌++◌, length, map, take, Option, Some, None, refl, sym, ap, ◌∙◌, arith, inl, inr, ◌⊎◌, subst, append_assoc, length-append, take-append-drop, append-nil, rules, IsTrue, ◌&&◌}
 use Rattle.std.proofs.lemmas.List.{length-take-le}
 use Rattle.std.proofs.lemmas.Bool.{and_parts}
-use Rattle.acn_bits.specs.Reading.{Reading, Reads, passed, window_of}
+use Rattle.acn_bits.specs.Reading.{Reading, passed, window_of}
 use Rattle.acn_grammar.specs.Code.{Any}
-use Rattle.acn_grammar.specs.Env.{Env, at_slot}
-use Rattle.acn_grammar.specs.Fails.{Fault, Failing, Here, Behind, Short, Sized, Overlong, RunFails, ListFails, Fails, FormFails, SizeFails, seen}
-use Rattle.acn_grammar.specs.Grammar.{Grammar, Form, Data, Elements, list, contained, list_of, no_elements, element, element_count}
+use Rattle.acn_grammar.specs.Env.{Env}
+use Rattle.acn_grammar.specs.Fails.{Fault, Failing, Here, Behind, Short, Overlong, ListFails, Fails, FormFails, SizeFails, seen}
+use Rattle.acn_grammar.specs.Grammar.{Grammar, Data, Elements, list, contained, list_of, no_elements, element, element_count}
 use Rattle.acn_grammar.specs.LeafFails.{Reason, short, content_size}
 use Rattle.acn_grammar.specs.Leaves.{sizing_fine, list_fine, sizes_fine, list_rule_fine}
 use Rattle.acn_grammar.specs.Length.{ending}
-use Rattle.acn_grammar.specs.Scoped.{Known, after}
-use Rattle.acn_grammar.specs.Spell.{Part, ListPart, RunPart, SizePart, Spell, FormPart}
-use Rattle.acn_grammar.specs.View.{data_of, elements_of, elements_view}
+use Rattle.acn_grammar.specs.Scoped.{after}
+use Rattle.acn_grammar.specs.Spell.{Part, ListPart, RunPart, SizePart, Spell}
+use Rattle.acn_grammar.specs.View.{data_of, elements_of}
 use Rattle.acn_grammar.specs.declared.node.SizeRule.{SizeRule}
 use Rattle.acn_grammar.specs.declared.node.SizeRule.TheVariants.{Prefix, Slot, Ended}
 use Rattle.acn_grammar.specs.declared.node.Sizing.{Sizing}
 use Rattle.acn_grammar.specs.declared.value.Value.{Value, List as ListValue, the_lemmas as value_lemmas}
 use Rattle.acn_text.specs.Texts.{fault_here}
-use Rattle.acn_plain_read.specs.Decoded.{Follows, Grows, Passes, Fine, Noted, Within, Stands, NodeStands, FormStands, InnerStands, Stops, FormRead, NodeRead, NodeStops, FormStops, Tail, counted, ended, TailFails, TailStops, RunTurn, in_front}
+use Rattle.acn_plain_read.specs.Decoded.{Follows, Passes, Fine, Within, FormStands, InnerStands, Stops, FormRead, NodeRead, NodeStops, FormStops, Tail, counted, ended, TailFails, TailStops, RunTurn, in_front}
 use Rattle.acn_plain_read.specs.Steps.{Named, NoSize, RuleRead}
-use Rattle.acn_plain_read.specs.Sound.{NothingLeaves, Sound, FormSound}
 use Rattle.acn_plain_read.proofs.Nodes.{here_stops, form_within, behind}
 use Rattle.acn_plain_read.proofs.StringReads.{rule_read}
 use Rattle.acn_plain_read.proofs.Turns.{noted_same}
@@ -87,17 +85,20 @@ module _ (root : Grammar) where
         window = q.window ∙ p.window;
         goes = λ env f es bs h. subst (λ (x : Elements). RunPart (Spell root Any g env) x a.at ((p.front ++ q.front) ++ bs)) (sym (in_front_more done (d ∷ []) es))
             (subst (λ (x : List Bool). RunPart (Spell root Any g env) (in_front done (element d es)) a.at x) (sym (append_assoc p.front q.front bs))
-              (p.goes env (n.grown env f) (element d es) (q.front ++ bs) (record { front = q.front; back = bs; whole = refl; first = q.holds env f; second = subst (λ (m : ℕ). RunPart (Spell root Any g env) es m bs) q.moved h })));
+            (p.goes env (n.grown env f) (element d es) (q.front ++ bs) (record { front = q.front; back = bs; whole = refl; first = q.holds env f; second = subst (λ (m : ℕ). RunPart (Spell root Any g env) es m bs) q.moved h })));
         stops = λ env f tail m fault reach h. counts_to env tail m fault reach (p.stops env (n.grown env f) tail (suc m) fault (length q.front + reach)
-            (into_tail tail here origin g env m (length done + k) b.at b.rest fault (length q.front + reach) (d, record {
-              front = q.front;
-              back = c.rest;
-              whole = q.split;
-              spelled = q.holds env f;
-              more = reach;
-              fails = subst (λ (x : ℕ). TailFails root tail here origin g env m (suc (length done + k)) x c.rest fault reach) q.moved (subst (λ (x : ℕ). TailFails root tail here origin g env m x c.at c.rest fault reach) next h);
-              reaches = refl;
-            })));
+            (into_tail tail here origin g env m (length done + k) b.at b.rest fault (length q.front + reach) (
+              d,
+              record {
+                front = q.front;
+                back = c.rest;
+                whole = q.split;
+                spelled = q.holds env f;
+                more = reach;
+                fails = subst (λ (x : ℕ). TailFails root tail here origin g env m (suc (length done + k)) x c.rest fault reach) q.moved (subst (λ (x : ℕ). TailFails root tail here origin g env m x c.at c.rest fault reach) next h);
+                reaches = refl;
+              },
+            )));
       }
     where
       next : length (done ++ d ∷ []) + k ≡ suc (length done + k)
@@ -106,7 +107,7 @@ module _ (root : Grammar) where
       counts_to : (env : Env) (tail : Tail) (m : ℕ) (fault : Fault) (reach : ℕ) → TailFails root tail here origin g env (length done + suc m) k a.at a.rest fault (length p.front + (length n.spelled.front + reach)) → TailFails root tail here origin g env (length (done ++ d ∷ []) + m) k a.at a.rest fault (length (p.front ++ n.spelled.front) + reach)
       counts_to env tail m fault reach h =
           subst (λ (x : ℕ). TailFails root tail here origin g env x k a.at a.rest fault (length (p.front ++ n.spelled.front) + reach)) (let l = length-append done (d ∷ []) in omega (arith, l))
-            (subst (λ (x : ℕ). TailFails root tail here origin g env (length done + suc m) k a.at a.rest fault x) (let l = length-append p.front n.spelled.front in omega (arith, l)) h)
+          (subst (λ (x : ℕ). TailFails root tail here origin g env (length done + suc m) k a.at a.rest fault x) (let l = length-append p.front n.spelled.front in omega (arith, l)) h)
 
   -- what the next element needs
   pub run_stands : (here : Here) (origin : ℕ) (g : Grammar) (k depth : ℕ) (done : List Data) (t t' : Env) (a b : Reading) → RunTurn root here origin g k done t t' a b → ((around : List ℕ) × InnerStands root depth g t around) → (around : List ℕ) × InnerStands root depth g t' around
@@ -125,9 +126,9 @@ module _ (root : Grammar) where
         reach = length p.front + s.reach;
         fails = λ env f.
             subst (λ (x : ℕ). TailFails root counted here origin g env x 0 a.at a.rest (record { path = path; reason = r; at = at }) (length p.front + s.reach)) (let e = m.1 in omega (arith, e, place))
-              (p.stops env (s.grown env f) counted (suc m.0) (record { path = path; reason = r; at = at }) s.reach
-                (inl (subst (λ (x : ℕ). Fails root g env here.inside origin (here.path ++ x ∷ []) b.at b.rest (record { path = path; reason = r; at = at }) s.reach) (omega (arith, place))
-                  (subst (λ (o : ℕ). Fails root g env here.inside o (here.path ++ i ∷ []) b.at b.rest (record { path = path; reason = r; at = at }) s.reach) same (s.fails env f)))));
+            (p.stops env (s.grown env f) counted (suc m.0) (record { path = path; reason = r; at = at }) s.reach
+            (inl (subst (λ (x : ℕ). Fails root g env here.inside origin (here.path ++ x ∷ []) b.at b.rest (record { path = path; reason = r; at = at }) s.reach) (omega (arith, place))
+            (subst (λ (o : ℕ). Fails root g env here.inside o (here.path ++ i ∷ []) b.at b.rest (record { path = path; reason = r; at = at }) s.reach) same (s.fails env f)))));
       }
     where
       gap : (n i : ℕ) → i < n → (m : ℕ) × (i + suc m ≡ n)
@@ -203,16 +204,16 @@ module _ (root : Grammar) where
   list_fails here origin' sizing g n t items a b path r at none i p' s =
       let p : Passes (λ env. SizePart sizing env n) t a b = subst (λ (x : Env). Passes (λ env. SizePart sizing env n) x a b) i p' in
       behind root (λ around. (k : ℕ) × FormStands root k (list sizing g) t around) (λ around. (depth : ℕ) × InnerStands root depth g t around) (λ env. SizePart sizing env n) (λ env. TailFails root counted here a.origin g env n 0) (λ env. FormFails root (list sizing g) env here a.origin) t t a b (record { path = path; reason = r; at = at })
-        (λ env f. f) p (λ around st. (suc st.0, record { known = st.1.known; noted = st.1.noted; is = (st.1.is.3, st.1.is.4) }))
-        (subst (λ (o : ℕ). TailStops root counted here o g n 0 t b path r at) p.window s)
-        (λ env reach h. sized_fails (ending sizing.rule) here sizing env (Spell root Any g env) (λ k. Fails root g env here.inside a.origin (here.path ++ k ∷ [])) a.at a.rest (record { path = path; reason = r; at = at }) reach none (inr (record { n = n; behind = h })))
+      (λ env f. f) p (λ around st. (suc st.0, record { known = st.1.known; noted = st.1.noted; is = (st.1.is.3, st.1.is.4) }))
+      (subst (λ (o : ℕ). TailStops root counted here o g n 0 t b path r at) p.window s)
+      (λ env reach h. sized_fails (ending sizing.rule) here sizing env (Spell root Any g env) (λ k. Fails root g env here.inside a.origin (here.path ++ k ∷ [])) a.at a.rest (record { path = path; reason = r; at = at }) reach none (inr (record { n = n; behind = h })))
 
   pub list_unsized : (here : Here) (sizing : Sizing) (g : Grammar) (t items : Env) (a : Reading) (r : Reason) (at : ℕ) → ending sizing.rule ≡ None → items ≡ t → Fine root t → Named here.inside here.place (NoSize sizing items a) r at → FormStops root (list sizing g) here a.origin t a here.path r at
   list_unsized here sizing g t items a r at none i m n' =
       let n : Named here.inside here.place (NoSize sizing t a) r at = subst (λ (x : Env). Named here.inside here.place (NoSize sizing x a) r at) i n' in
       here_stops root (λ around. (k : ℕ) × FormStands root k (list sizing g) t around) (λ env. FormFails root (list sizing g) env here a.origin) t a (record { path = here.path; reason = r; at = at }) n.1.2.reach m (form_within root (list sizing g) t)
       (λ env f. sized_fails (ending sizing.rule) here sizing env (Spell root Any g env) (λ k. Fails root g env here.inside a.origin (here.path ++ k ∷ [])) a.at a.rest (record { path = here.path; reason = r; at = at }) n.1.2.reach none
-        (inl (subst (λ (x : Fault). SizeFails here sizing env a.at a.rest x n.1.2.reach) (sym (says_so n)) (n.1.2.fails here env f))))
+      (inl (subst (λ (x : Fault). SizeFails here sizing env a.at a.rest x n.1.2.reach) (sym (says_so n)) (n.1.2.fails here env f))))
     where
       says_so : (n : Named here.inside here.place (NoSize sizing t a) r at) → ◌≡◌ {A = Fault} (record { path = here.path; reason = r; at = at }) (fault_here here n.1.0)
       says_so n = (let e = n.0 in let q = n.1.1 in rw (e, q) refl)
@@ -331,7 +332,7 @@ module _ (root : Grammar) where
       inner : (env : Env) → Follows s.read env → Fails root g env true (a.origin + (a.at + length p.front)) (here.path ++ 0 ∷ []) 0 (take (8 * n) b.rest) (record { path = path; reason = r; at = at }) s.reach
       inner env f =
           subst (λ (o : ℕ). Fails root g env true o (here.path ++ 0 ∷ []) 0 (take (8 * n) b.rest) (record { path = path; reason = r; at = at }) s.reach) (let e = p.window in let m = p.moved in omega (arith, e, m))
-            (subst (λ (x : Reading). Fails root g env true x.origin (here.path ++ 0 ∷ []) x.at x.rest (record { path = path; reason = r; at = at }) s.reach) w_is (s.fails env f))
+          (subst (λ (x : Reading). Fails root g env true x.origin (here.path ++ 0 ∷ []) x.at x.rest (record { path = path; reason = r; at = at }) s.reach) w_is (s.fails env f))
 
   pub contained_unsized : (here : Here) (sizing : Sizing) (g : Grammar) (t items : Env) (a : Reading) (r : Reason) (at : ℕ) → items ≡ t → Fine root t → Named here.inside here.place (NoSize sizing items a) r at → FormStops root (contained sizing g) here a.origin t a here.path r at
   contained_unsized here sizing g t items a r at i m n' =

@@ -1,5 +1,5 @@
 -- A SEQUENCE whose fields were read.
-use Rattle.std.proofs.Common.{◌≡◌, ℕ, suc, ◌+◌, ◌<◌, ◌≤◌, List, [], ◌∷◌, ◌++◌, length, map, filter, not, take, Option, refl, sym, ap, ◌∙◌, arith, subst, Bool}
+use Rattle.std.proofs.Common.{◌≡◌, ℕ, suc, ◌<◌, ◌≤◌, List, [], ◌∷◌, ◌++◌, length, map, filter, not, take, Option, refl, sym, ap, ◌∙◌, arith, subst, Bool}
 use Rattle.std.specs.Prelude.{option_map}
 use Rattle.std.proofs.lemmas.List.{length-take-le}
 use Rattle.acn_bits.specs.Reading.{Reading, passed, window_of}
@@ -7,15 +7,14 @@ use Rattle.acn_grammar.specs.Env.{Env}
 use Rattle.acn_grammar.specs.Fails.{Here, presence_count, seen}
 use Rattle.acn_grammar.specs.Grammar.{Grammar, Fields, Data, Form, seq, no_fields, record_of}
 use Rattle.acn_grammar.specs.LeafFails.{Reason, short}
-use Rattle.acn_grammar.specs.Scoped.{Known}
 use Rattle.acn_grammar.specs.Tree.{holds}
 use Rattle.acn_grammar.specs.View.{fields_view, places_view, data_of}
 use Rattle.acn_grammar.specs.declared.node.Field.{Field}
 use Rattle.acn_grammar.specs.declared.value.Value.{Value}
-use Rattle.acn_plain_read.specs.Decoded.{Stands, FormStands, FieldsStand, Fine, Turn, FieldsStop, FormRead, FormStops}
+use Rattle.acn_plain_read.specs.Decoded.{FormStands, FieldsStand, Fine, Turn, FieldsStop, FormRead, FormStops}
 use Rattle.acn_grammar.specs.ItemsNamed.{FormItemsNamed, FieldsItemsNamed}
-use Rattle.acn_plain_read.specs.Sound.{FormSound, field_count}
-use Rattle.acn_grammar.specs.View.{OneField, a_component, an_inserted, field_of, with_field, fields_of}
+use Rattle.acn_plain_read.specs.Sound.{field_count}
+use Rattle.acn_grammar.specs.View.{OneField, a_component, an_inserted, field_of, with_field}
 use Rattle.acn_plain_read.proofs.Homes.{left_of}
 use Rattle.acn_plain_read.proofs.Turns.{seq_read, seq_fails, seq_short, inside_stands}
 
@@ -52,8 +51,8 @@ module _ (root : Grammar) where
       let q = seq_ready form fields home depth t v r in
       let all : left ≡ left_of home t' = left_is ∙ (ap (λ (h : List ℕ). filter (λ e. not (holds h e.0)) ts) hs_are ∙ ap (left_of home) ts_are) in
       subst (λ (x : Form). FormRead root x d t left a b) (sym v) (subst (λ (x : Data). FormRead root (seq (fields_view fields) home) x t left a b) (sym e) (subst (λ (x : Env). FormRead root (seq (fields_view fields) home) (record_of (places_view places)) t x a b) (sym all)
-        (seq_read root here origin 0 k' (fields_view fields) home q.0 depth (map (option_map data_of) places) t t' a m b w.rest flags' q.1 (subst (λ (x : ℕ). x ≤ length a.rest) count room) (moved ∙ ap (λ (x : ℕ). passed x a) count) (ap (λ (r : Reading). r.rest) w_is ∙ ap (λ (x : ℕ). take x a.rest) count)
-          (subst (λ (x : List Field). Turn root here origin 0 k' (fields_view x) no_fields (map (option_map data_of) places) t t' w.rest flags' m b) items_are p))))
+      (seq_read root here origin 0 k' (fields_view fields) home q.0 depth (map (option_map data_of) places) t t' a m b w.rest flags' q.1 (subst (λ (x : ℕ). x ≤ length a.rest) count room) (moved ∙ ap (λ (x : ℕ). passed x a) count) (ap (λ (r : Reading). r.rest) w_is ∙ ap (λ (x : ℕ). take x a.rest) count)
+      (subst (λ (x : List Field). Turn root here origin 0 k' (fields_view x) no_fields (map (option_map data_of) places) t t' w.rest flags' m b) items_are p))))
 
   pub seq_fails_at : (here : Here) (depth : ℕ) (form : Form) (fields items : List Field) (home : List ℕ) (t : Env) (a m w : Reading) (n : ℕ) (path : List ℕ) (r : Reason) (at : ℕ)
       → form ≡ seq (fields_view fields) home → items ≡ fields → n ≡ presence_count (fields_view fields) → n ≤ length a.rest → w ≡ window_of n a → m ≡ passed n a
@@ -61,8 +60,8 @@ module _ (root : Grammar) where
   seq_fails_at here depth form fields items home t a m w n path r at v items_are count room w_is moved ready s =
       let q = seq_ready form fields home depth t v ready in
       subst (λ (x : Form). FormStops root x here a.origin t a path r at) (sym v)
-        (seq_fails root here a.origin m.origin (fields_view fields) home q.0 depth t a m w.rest path r at q.1 (subst (λ (x : ℕ). x ≤ length a.rest) count room) (moved ∙ ap (λ (x : ℕ). passed x a) count) (ap (λ (r : Reading). r.rest) w_is ∙ ap (λ (x : ℕ). take x a.rest) count) (ap (λ (r : Reading). r.origin) moved)
-          (subst (λ (x : List Field). FieldsStop root (fields_view x) w.rest here m.origin 0 t m path r at) items_are s))
+      (seq_fails root here a.origin m.origin (fields_view fields) home q.0 depth t a m w.rest path r at q.1 (subst (λ (x : ℕ). x ≤ length a.rest) count room) (moved ∙ ap (λ (x : ℕ). passed x a) count) (ap (λ (r : Reading). r.rest) w_is ∙ ap (λ (x : ℕ). take x a.rest) count) (ap (λ (r : Reading). r.origin) moved)
+      (subst (λ (x : List Field). FieldsStop root (fields_view x) w.rest here m.origin 0 t m path r at) items_are s))
 
   pub seq_short_at : (here : Here) (form : Form) (fields : List Field) (home : List ℕ) (t : Env) (a : Reading) (n : ℕ) (r : Reason) → form ≡ seq (fields_view fields) home → n ≡ presence_count (fields_view fields) → r ≡ seen here.inside short → Fine root t → length a.rest < n → FormStops root form here a.origin t a here.path r here.place
   seq_short_at here form fields home t a n r v count e m h = subst (λ (x : Form). FormStops root x here a.origin t a here.path r here.place) (sym v) (seq_short root here a.origin (fields_view fields) home t a r e m (subst (λ (x : ℕ). length a.rest < x) count h))

@@ -1,24 +1,24 @@
 -- An inserted field whose number was read.
-use Rattle.std.proofs.Common.{◌≡◌, ℕ, zero, suc, ◌+◌, ℤ, Bool, true, false, not, ◌||◌, List, [], ◌∷◌, ◌++◌, length, Option, Some, None, refl, sym, ap, ◌∙◌, arith, inl, inr, ◌⊎◌, nat_eq, subst, if◌then◌else◌}
+use Rattle.std.proofs.Common.{◌≡◌, ℕ, suc, ◌+◌, ℤ, Bool, true, false, ◌||◌, List, [], ◌∷◌, ◌++◌, Option, Some, None, refl, sym, ap, ◌∙◌, arith, inl, inr, nat_eq, subst, if◌then◌else◌}
 use Rattle.std.proofs.lemmas.Bool.Decides.{nat_tests}
 use Rattle.acn_num.specs.Ranges.{In}
 use Rattle.acn_bits.specs.Reading.{Reading}
 use Rattle.acn_bits.specs.Reading.{Reads}
 use Rattle.acn_grammar.specs.Code.{Any, Code}
 use Rattle.acn_grammar.specs.Env.{Env, at_slot}
-use Rattle.acn_grammar.specs.Fails.{Fault, Here, Fails, FieldsFail, presence_count}
-use Rattle.acn_grammar.specs.Grammar.{Grammar, Form, Fields, Data, Places, node, num, inserted, component, null, filled}
+use Rattle.acn_grammar.specs.Fails.{Here, Fails, FieldsFail}
+use Rattle.acn_grammar.specs.Grammar.{Grammar, Fields, Data, node, num, inserted, component, null}
 use Rattle.acn_grammar.specs.Leaves.{num_fine}
 use Rattle.acn_grammar.specs.declared.node.NumKind.TheVariants.{Null}
 use Rattle.acn_grammar.specs.LeafFails.{Reason}
-use Rattle.acn_grammar.specs.Scoped.{Known, with_slot, with_own, after, choose_known}
+use Rattle.acn_grammar.specs.Scoped.{Known, with_slot, after}
 use Rattle.acn_grammar.specs.Slots.{domain_of, slot_leaf}
 use Rattle.acn_grammar.specs.Tree.{holds}
 use Rattle.std.proofs.Common.{◌^◌, pos, IsTrue}
 use Rattle.std.specs.Prelude.{◌<ℤ◌}
-use Rattle.acn_grammar.specs.Spell.{Part, ◌then◌, Padding, Spell, FieldsPart}
+use Rattle.acn_grammar.specs.Spell.{◌then◌, Padding, Spell, FieldsPart}
 use Rattle.acn_grammar.specs.declared.node.NumLeaf.{NumLeaf}
-use Rattle.acn_plain_read.specs.Decoded.{Follows, Grows, Has, Noted, Fine, Within, Stands, FieldsStand, NodeRead, Turn, Onward, NodeStops, FieldsStop}
+use Rattle.acn_plain_read.specs.Decoded.{Follows, Grows, Has, Noted, Fine, FieldsStand, NodeRead, Turn, NodeStops, FieldsStop}
 use Rattle.std.proofs.lemmas.Bool.{eqb-true}
 use Rattle.std.proofs.Common.{append_assoc, length-append}
 use Rattle.acn_ints.specs.Reads.{Refused}
@@ -30,7 +30,7 @@ use Rattle.acn_grammar.specs.declared.node.Presence.TheVariants.{Always}
 use Rattle.acn_grammar.specs.Fails.{flags_behind, IsThere}
 use Rattle.acn_grammar.specs.ItemsNamed.{ItemsNamed}
 use Rattle.acn_grammar.specs.Length.{number_of}
-use Rattle.acn_plain_read.specs.Sound.{SaysSlot, OwnSound, Sound, FieldsSound, IsNull}
+use Rattle.acn_plain_read.specs.Sound.{SaysSlot, Sound}
 use Rattle.acn_plain_read.proofs.Small.{number_fits, number_is, null_number}
 use Rattle.acn_plain_read.proofs.Turns.{there_turn}
 
@@ -212,15 +212,21 @@ module _ (root : Grammar) where
           first = record { given = (tt, carries env f); spelled = n.spelled.holds env (grows_more t' s (number_of d) env f) };
           second = subst (λ (m : ℕ). FieldsPart root Any fs env ps m bs) n.spelled.moved h;
         };
-        stops = λ env f fault reach h. inl (tt, inr (d, record {
-          front = n.spelled.front;
-          back = b.rest;
-          whole = n.spelled.split;
-          spelled = record { given = carries env f; spelled = n.spelled.holds env (grows_more t' s (number_of d) env f) };
-          more = reach;
-          fails = subst (λ (m : ℕ). FieldsFail root fs env flags here origin (suc k) m b.rest fault reach) n.spelled.moved h;
-          reaches = refl;
-        }));
+        stops = λ env f fault reach h. inl (
+          tt,
+          inr (
+            d,
+            record {
+              front = n.spelled.front;
+              back = b.rest;
+              whole = n.spelled.split;
+              spelled = record { given = carries env f; spelled = n.spelled.holds env (grows_more t' s (number_of d) env f) };
+              more = reach;
+              fails = subst (λ (m : ℕ). FieldsFail root fs env flags here origin (suc k) m b.rest fault reach) n.spelled.moved h;
+              reaches = refl;
+            },
+          ),
+        );
       }
     where
       carries : (env : Env) → Follows (t' ++ (s, number_of d) ∷ []) env → at_slot env s ≡ Some (number_of d)
@@ -234,7 +240,7 @@ module _ (root : Grammar) where
       → Turn root here origin k (suc k) (component name g presence default (Some s) fs) fs (Some d ∷ []) t (t' ++ (s, number_of d) ∷ []) flags flags' a b
   own_turn here origin k name g presence default s fs d t t' flags flags' a b e is o n =
       subst (λ (p : Presence). Turn root here origin k (suc k) (component name g p default (Some s) fs) fs (Some d ∷ []) t (t' ++ (s, number_of d) ∷ []) flags flags' a b) (sym e)
-        (subst (λ (x : List Bool). Turn root here origin k (suc k) (component name g Always default (Some s) fs) fs (Some d ∷ []) t (t' ++ (s, number_of d) ∷ []) flags x a b) (sym (is ∙ ap (λ (p : Presence). flags_behind p flags) e)) (always_turn here origin k name g default s fs d t t' flags a b o n))
+      (subst (λ (x : List Bool). Turn root here origin k (suc k) (component name g Always default (Some s) fs) fs (Some d ∷ []) t (t' ++ (s, number_of d) ∷ []) flags x a b) (sym (is ∙ ap (λ (p : Presence). flags_behind p flags) e)) (always_turn here origin k name g default s fs d t t' flags a b o n))
 
   -- a component that is there, with the number that it says
   pub component_read : (here : Here) (origin k : ℕ) (name : List ℕ) (g : Grammar) (presence : Presence) (default : Option (List ℕ)) (own : Option ℕ) (fs fs' : Fields) (d : Data) (t t' : Env) (flags flags' : List Bool) (a b : Reading) (depth : ℕ) (around : List ℕ)

@@ -1,11 +1,11 @@
 -- The numbers of leaves fit 64 bits.
-use Rattle.std.proofs.Common.{◌≡◌, ℕ, ◌^◌, ◌-◌, ◌<◌, ℤ, pos, Bool, true, false, List, [], ◌∷◌, length, Option, Some, None, refl, sym, ap, ◌∙◌, arith, ◌&&◌, ◌||◌, IsTrue, nat_eq, subst}
+use Rattle.std.proofs.Common.{◌≡◌, ℕ, ◌^◌, ◌-◌, ◌<◌, ℤ, pos, Bool, true, false, List, [], ◌∷◌, length, Option, Some, None, refl, sym, ap, arith, ◌&&◌, ◌||◌, IsTrue, subst}
 use Rattle.std.specs.Prelude.{◌≤ℤ◌, ◌<ℤ◌, neg_ℤ, nat_lt, int_le, int_lt}
 use Rattle.std.specs.Ordering.{int_eq}
 use Rattle.std.proofs.lemmas.Int.{ints}
 use Rattle.std.proofs.lemmas.Bool.{and_parts}
 use Rattle.std.proofs.lemmas.Bool.Decides.{nat_tests}
-use Rattle.acn_num.specs.Ranges.{In, has, are_ranges}
+use Rattle.acn_num.specs.Ranges.{In, are_ranges}
 use Rattle.acn_grammar.specs.Grammar.{Data, num, int, boolean, item, null}
 use Rattle.acn_grammar.specs.Code.{NumberOf}
 use Rattle.acn_grammar.specs.Images.{ends}

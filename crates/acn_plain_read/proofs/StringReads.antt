@@ -1,6 +1,6 @@
 -- Sizes, and octets and bits behind them.
-use Rattle.std.proofs.Common.{◌≡◌, ℕ, zero, suc, ◌+◌, ◌*◌, ◌^◌, ◌<◌, ◌≤◌, ℤ, pos, negsuc, Bool, true, false, List, [], ◌∷◌, ◌++◌, length, take, drop, Option, Some, None, refl, sym, ap, ◌∙◌, arith, inl, inr, ◌⊎◌, subst, append_assoc, append-nil, length-append, take-append-drop, ◌&&◌, IsTrue, rules}
-use Rattle.std.specs.Prelude.{◌<ℤ◌, ◌≤ℤ◌, nat_lt, int_le}
+use Rattle.std.proofs.Common.{◌≡◌, ℕ, ◌+◌, ◌*◌, ◌^◌, ◌<◌, ◌≤◌, ℤ, pos, negsuc, Bool, true, false, List, [], ◌∷◌, ◌++◌, length, take, Option, Some, refl, sym, ap, ◌∙◌, arith, inl, inr, ◌⊎◌, subst, append_assoc, append-nil, length-append, ◌&&◌, IsTrue, rules}
+use Rattle.std.specs.Prelude.{◌≤ℤ◌, nat_lt, int_le}
 use Rattle.std.proofs.lemmas.Bool.Decides.{nat_tests}
 use Rattle.std.proofs.lemmas.Int.{ints}
 use Rattle.std.proofs.lemmas.Bool.{and_parts}
@@ -13,7 +13,7 @@ use Rattle.acn_num.proofs.BitLists.{number_below, low_bits-number, length-bits, 
 use Rattle.acn_bits.specs.Reading.{Reading, Reads, passed}
 use Rattle.acn_grammar.specs.Code.{Any}
 use Rattle.acn_grammar.specs.Env.{Env, at_slot}
-use Rattle.acn_grammar.specs.Fails.{Fault, Here, Behind, Short, SizeFails, RuleFails, PartsFail, FormFails, kept, seen}
+use Rattle.acn_grammar.specs.Fails.{Fault, Here, RuleFails, PartsFail, FormFails, kept}
 use Rattle.acn_grammar.specs.Grammar.{Grammar, Form, Data, octets, bits, octet_string, bit_string}
 use Rattle.acn_grammar.specs.LeafFails.{Reason, short, size_out_of_range}
 use Rattle.acn_grammar.specs.Leaves.{sizes_fine, sizing_fine, rule_fine}
@@ -24,14 +24,14 @@ use Rattle.acn_grammar.specs.declared.node.SizeRule.{SizeRule}
 use Rattle.acn_grammar.specs.declared.node.SizeRule.TheVariants.{Prefix, Slot, Ended}
 use Rattle.acn_grammar.specs.declared.node.Sizing.{Sizing}
 use Rattle.acn_text.specs.Texts.{SlotSays, SizeCode, NoSizeAt, fault_here}
-use Rattle.std.specs.Prelude.{Result, Ok, Err, IfOk, IfErr}
+use Rattle.std.specs.Prelude.{Result, IfOk, IfErr}
 use Rattle.acn_grammar.specs.View.{data_of, form_of}
 use Rattle.acn_grammar.specs.Grammar.{text}
 use Rattle.acn_grammar.specs.declared.node.TextLeaf.{TextLeaf}
 use Rattle.acn_grammar.specs.declared.value.Value.{Value, Octets as OctetsValue, Bits as BitsValue, the_lemmas as value_lemmas}
 use Rattle.acn_grammar.specs.declared.node.Body.{Octets as OctetsBody, Bits as BitsBody, Text as TextBody, the_lemmas as node_lemmas}
 use Rattle.acn_plain_read.specs.declared.stop.Stop.{Stop}
-use Rattle.acn_plain_read.specs.Decoded.{Tells, Follows, Passes, Has, Fine, Noted, Stops, FormStands, FormRead, FormStops}
+use Rattle.acn_plain_read.specs.Decoded.{Tells, Follows, Passes, Has, Fine, Noted, FormStands, FormRead, FormStops}
 use Rattle.acn_plain_read.specs.Steps.{AreBits, AreOctets, Named, NoForm, NoSize, NotGiven, RuleRead}
 use Rattle.acn_plain_read.proofs.Homes.{small_at}
 use Rattle.acn_plain_read.proofs.Nodes.{here_stops, form_within, ok_map, stop_map}

@@ -1,5 +1,5 @@
 -- Texts, whose characters are collected one by one.
-use Rattle.std.proofs.Common.{nat_eq, not, true, Some, None, inl, inr, rules, ◌≡◌, ℕ, Bool, false, List, [], ◌∷◌, ◌++◌, length, Option, refl, sym, ap, ◌∙◌, subst, append_assoc, append-nil, IsTrue, ◌&&◌}
+use Rattle.std.proofs.Common.{nat_eq, not, true, Some, None, inl, rules, ◌≡◌, ℕ, Bool, List, [], ◌∷◌, ◌++◌, length, Option, refl, sym, ap, ◌∙◌, subst, append_assoc, append-nil, IsTrue, ◌&&◌}
 use Rattle.std.specs.List.{FoldsTo}
 use Rattle.std.proofs.lemmas.Bool.{and_parts}
 use Rattle.std.specs.Prelude.{nat_lt}

@@ -1,17 +1,16 @@
 -- A whole packet.
-use Rattle.std.proofs.Common.{◌≡◌, ◌≢◌, ℕ, zero, suc, ◌+◌, ◌*◌, ◌≤◌, ℤ, Bool, true, false, List, [], ◌∷◌, ◌++◌, length, take, Option, Some, None, refl, sym, ap, ◌∙◌, arith, subst, length-append}
+use Rattle.std.proofs.Common.{◌≡◌, ℕ, zero, suc, ◌+◌, ◌*◌, ◌≤◌, Bool, false, List, [], ◌∷◌, ◌++◌, length, take, refl, sym, ap, ◌∙◌, arith, subst, length-append}
 use Rattle.acn_num.specs.Bits.{bits}
 use Rattle.acn_num.proofs.BitLists.{length-bits}
 use Rattle.acn_bits.specs.Reading.{Reading}
 use Rattle.acn_grammar.specs.Code.{Any}
-use Rattle.acn_grammar.specs.Env.{Env, at_slot}
-use Rattle.acn_grammar.specs.Fails.{Fault, Fails, Refusal}
+use Rattle.acn_grammar.specs.Env.{Env}
+use Rattle.acn_grammar.specs.Fails.{Refusal}
 use Rattle.acn_grammar.specs.Front.{Front}
 use Rattle.acn_grammar.specs.Grammar.{Grammar, Data}
 use Rattle.acn_grammar.specs.LeafFails.{Reason}
-use Rattle.acn_grammar.specs.Scoped.{Known, after}
 use Rattle.acn_grammar.specs.Spell.{Spell}
-use Rattle.acn_plain_read.specs.Decoded.{Follows, Has, Within, Noted, NodeStands, NodeRead, NodeStops}
+use Rattle.acn_plain_read.specs.Decoded.{Follows, Within, NodeStands, NodeRead, NodeStops}
 use Rattle.acn_plain_read.specs.Sound.{Sound}
 
 -- the reader at the front of an input

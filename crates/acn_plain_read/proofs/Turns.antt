@@ -1,21 +1,20 @@
 -- Fields that were read, one behind another.
-use Rattle.std.proofs.Common.{◌≡◌, ℕ, zero, suc, ◌+◌, ◌<◌, ◌≤◌, ℤ, Bool, true, false, not, ◌&&◌, List, [], ◌∷◌, ◌++◌, length, map, take, drop, filter, Option, Some, None, refl, sym, ap, ◌∙◌, arith, rules, inl, inr, ◌⊎◌, subst, append_assoc, append-nil, length-append, take-append-drop}
+use Rattle.std.proofs.Common.{◌≡◌, ℕ, suc, ◌+◌, ◌<◌, ◌≤◌, ℤ, Bool, true, false, not, ◌&&◌, List, [], ◌∷◌, ◌++◌, length, take, Option, Some, None, refl, sym, ap, ◌∙◌, arith, rules, inl, inr, subst, append_assoc, append-nil, length-append, take-append-drop}
 use Rattle.std.proofs.lemmas.List.{length-take-le}
 use Rattle.acn_bits.specs.Reading.{Reading, passed}
-use Rattle.acn_bits.specs.Reading.{Reads}
 use Rattle.acn_grammar.specs.Code.{Any}
 use Rattle.acn_grammar.specs.Env.{Env, at_slot, MayBeThere, MayBeAway}
-use Rattle.acn_grammar.specs.Fails.{Fault, Failing, Here, FormFails, FieldsFail, Fails, IsThere, flags_behind, presence_count, Behind, seen}
-use Rattle.acn_grammar.specs.Grammar.{Grammar, Form, Fields, Data, Places, seq, component, inserted, no_fields, no_places, empty, filled, record_of}
+use Rattle.acn_grammar.specs.Fails.{Fault, Here, FormFails, FieldsFail, Fails, IsThere, flags_behind, presence_count, seen}
+use Rattle.acn_grammar.specs.Grammar.{Grammar, Fields, Data, Places, seq, component, no_fields, no_places, empty, filled, record_of}
 use Rattle.acn_grammar.specs.LeafFails.{Reason, short}
 use Rattle.acn_grammar.specs.Length.{presence_bits, bit_before}
-use Rattle.acn_grammar.specs.Scoped.{Known, with_own, after, choose_known, fields_after, Apart}
-use Rattle.acn_grammar.specs.Spell.{Part, ◌then◌, Where, Spell, FormPart, FieldsPart, with_home}
+use Rattle.acn_grammar.specs.Scoped.{Known, with_own, after, choose_known, fields_after}
+use Rattle.acn_grammar.specs.Spell.{FieldsPart, with_home}
 use Rattle.acn_grammar.specs.Tree.{holds}
 use Rattle.acn_grammar.specs.View.{places_of}
 use Rattle.acn_grammar.specs.declared.node.Presence.{Presence}
 use Rattle.acn_grammar.specs.declared.node.Presence.TheVariants.{Always, Bit, When}
-use Rattle.acn_plain_read.specs.Decoded.{Follows, Grows, Has, Noted, Fine, Within, Stands, NodeStands, FormStands, FieldsStand, Passes, Stops, FormRead, NodeRead, NodeStops, FormStops, FieldsStop, Turn, Onward, placed}
+use Rattle.acn_plain_read.specs.Decoded.{Follows, Has, Noted, Fine, FormStands, FieldsStand, FormRead, NodeRead, NodeStops, FormStops, FieldsStop, Turn, placed}
 use Rattle.std.specs.Ordering.{int_eq}
 use Rattle.std.proofs.Common.{pos}
 use Rattle.acn_grammar.specs.Env.{Holds, AllHold}
@@ -24,7 +23,7 @@ use Rattle.acn_grammar.specs.declared.node.Test.{Test}
 use Rattle.acn_grammar.specs.declared.node.Test.TheVariants.{Flag, Equals}
 use Rattle.acn_grammar.proofs.LeafLengths.{eq_fact}
 use Rattle.acn_plain_read.specs.Present.{BitThere, is_number, holds_now, all_hold_now, there_now}
-use Rattle.acn_plain_read.specs.Sound.{PresenceSound, NothingLeavesIt, Sound, FormSound, FieldsSound}
+use Rattle.acn_plain_read.specs.Sound.{PresenceSound, NothingLeavesIt}
 use Rattle.acn_plain_read.proofs.Homes.{left_of, left_at, left_home, left_fine, left_within, in_more, in_rest, at_home, home_follows, home_grows}
 use Rattle.acn_plain_read.proofs.Nodes.{here_stops, form_within}
 
@@ -168,15 +167,21 @@ module _ (root : Grammar) where
       first = record { given = (may_be_there env presence flags (there env (n.grown env f)), tt); spelled = n.spelled.holds env f };
       second = subst (λ (x : ℕ). FieldsPart root Any fs env ps x bs) n.spelled.moved h;
     };
-    stops = λ env f fault reach h. inl (there env (n.grown env f), inr (d, record {
-      front = n.spelled.front;
-      back = b.rest;
-      whole = n.spelled.split;
-      spelled = record { given = tt; spelled = n.spelled.holds env f };
-      more = reach;
-      fails = subst (λ (x : ℕ). FieldsFail root fs env (flags_behind presence flags) here origin (suc k) x b.rest fault reach) n.spelled.moved (subst (λ (x : List Bool). FieldsFail root fs env x here origin (suc k) b.at b.rest fault reach) is h);
-      reaches = refl;
-    }));
+    stops = λ env f fault reach h. inl (
+      there env (n.grown env f),
+      inr (
+        d,
+        record {
+          front = n.spelled.front;
+          back = b.rest;
+          whole = n.spelled.split;
+          spelled = record { given = tt; spelled = n.spelled.holds env f };
+          more = reach;
+          fails = subst (λ (x : ℕ). FieldsFail root fs env (flags_behind presence flags) here origin (suc k) x b.rest fault reach) n.spelled.moved (subst (λ (x : List Bool). FieldsFail root fs env x here origin (suc k) b.at b.rest fault reach) is h);
+          reaches = refl;
+        },
+      ),
+    );
   }
 
   away_bits : (presence : Presence) (env : Env) (flags : List Bool) (name : List ℕ) (g : Grammar) (default : Option (List ℕ)) (own : Option ℕ) (fs : Fields) → presence_count (component name g presence default own fs) ≡ length flags → (IsThere env presence flags → ⊥) → flags ≡ bit_before presence false [] ++ flags_behind presence flags
@@ -276,7 +281,7 @@ module _ (root : Grammar) where
       let n = presence_count fields in
       let count : presence_count fields ≡ length flags = sym (ap length shown ∙ length-take-le n a.rest room) in
       let bits : presence_bits fields (places_of done) ≡ take n a.rest =
-          ap (presence_bits fields) (sym (placed_all done)) ∙ (p.says no_places ∙ (ap (λ (x : List Bool). p.bits ++ x) (sym (none_left 0 flags' (p.counts count))) ∙ (sym (p.shown count) ∙ shown))) in
+      ap (presence_bits fields) (sym (placed_all done)) ∙ (p.says no_places ∙ (ap (λ (x : List Bool). p.bits ++ x) (sym (none_left 0 flags' (p.counts count))) ∙ (sym (p.shown count) ∙ shown))) in
       record {
         grown = home_grows root t' p.fine home t st.known st.is.0.permits st.noted.has st.is.0.unknown p.grown;
         fine = left_fine root home t' p.fine;
@@ -322,11 +327,21 @@ module _ (root : Grammar) where
         fails = λ env f.
             (let h = at_home root s.read s.fine home st.is.0.permits in
             let env' = with_home home h.numbers env in
-            inr (h.numbers, h.count, h.fine, (room, (s.reach,
-              subst (λ (x : Reading). FieldsFail root fields (with_home home h.numbers env) (take n a.rest) here origin 0 x.at x.rest (record { path = path; reason = r; at = at }) s.reach) moved
-                (subst (λ (x : List Bool). FieldsFail root fields (with_home home h.numbers env) x here origin 0 m.at m.rest (record { path = path; reason = r; at = at }) s.reach) shown
-                (subst (λ (o : ℕ). FieldsFail root fields (with_home home h.numbers env) flags here o 0 m.at m.rest (record { path = path; reason = r; at = at }) s.reach) same (s.fails (with_home home h.numbers env) (home_follows root s.read s.fine home h env f)))),
-              refl))));
+            inr (
+              h.numbers,
+              h.count,
+              h.fine,
+              (
+                room,
+                (
+                  s.reach,
+                  subst (λ (x : Reading). FieldsFail root fields (with_home home h.numbers env) (take n a.rest) here origin 0 x.at x.rest (record { path = path; reason = r; at = at }) s.reach) moved
+                      (subst (λ (x : List Bool). FieldsFail root fields (with_home home h.numbers env) x here origin 0 m.at m.rest (record { path = path; reason = r; at = at }) s.reach) shown
+                      (subst (λ (o : ℕ). FieldsFail root fields (with_home home h.numbers env) flags here o 0 m.at m.rest (record { path = path; reason = r; at = at }) s.reach) same (s.fails (with_home home h.numbers env) (home_follows root s.read s.fine home h env f)))),
+                  refl,
+                ),
+              ),
+            ));
       }
 
   pub seq_short : (here : Here) (origin : ℕ) (fields : Fields) (home : List ℕ) (t : Env) (a : Reading) (r : Reason) → r ≡ seen here.inside short → Fine root t → length a.rest < presence_count fields → FormStops root (seq fields home) here origin t a here.path r here.place

@@ -1,5 +1,5 @@
 -- Which alternative of a CHOICE the numbers choose that were read.
-use Rattle.std.specs.Prelude.{◌≡◌, ℕ, zero, suc, ◌<◌, ◌≤◌, ◌^◌, ◌<ℤ◌, ℤ, pos, Bool, true, false, List, [], ◌∷◌, length, take, Option, Some, None, option_map, if◌then◌else◌, slice_get}
+use Rattle.std.specs.Prelude.{◌≡◌, ℕ, zero, suc, ◌<◌, ◌≤◌, ◌^◌, ◌<ℤ◌, ℤ, pos, Bool, List, length, take, Option, Some, None, if◌then◌else◌, slice_get}
 use Rattle.acn_bits.specs.Reading.{Reading, passed}
 use Rattle.acn_grammar.specs.Env.{Env, at_slot}
 use Rattle.acn_grammar.specs.Fails.{Here, IndexFails, IndexIs, NoneChosen, count_of}

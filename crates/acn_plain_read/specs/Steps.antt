@@ -1,5 +1,5 @@
 -- The steps by which a tree is read.
-use Rattle.std.specs.Prelude.{◌≡◌, ℕ, ◌+◌, ◌*◌, ◌<◌, ◌≤◌, ◌^◌, ◌<ℤ◌, ℤ, pos, Bool, true, false, List, [], ◌∷◌, ◌++◌, length, Option, Some, None, IsTrue}
+use Rattle.std.specs.Prelude.{◌≡◌, ℕ, ◌^◌, ◌<ℤ◌, ℤ, pos, Bool, false, List, [], ◌∷◌, ◌++◌, length, Option, Some, None, IsTrue}
 use Rattle.acn_num.specs.Bits.{bits as bits_of}
 use Rattle.acn_bits.specs.Reading.{Reading}
 use Rattle.acn_bits.specs.Reading.{Reads}
@@ -8,11 +8,8 @@ use Rattle.acn_grammar.specs.Env.{Env, at_slot}
 use Rattle.acn_grammar.specs.Grammar.{Grammar, Form, node, num}
 use Rattle.acn_grammar.specs.Fails.{Here, SizeFails, FormFails, seen}
 use Rattle.acn_grammar.specs.LeafFails.{Reason}
-use Rattle.acn_grammar.specs.Length.{padding}
-use Rattle.acn_grammar.specs.Scoped.{Known, RuleIn, PresenceIn}
 use Rattle.acn_grammar.specs.Shaped.{are_octets}
-use Rattle.acn_grammar.specs.Spell.{Padding, SizePart}
-use Rattle.acn_grammar.specs.declared.node.Presence.{Presence}
+use Rattle.acn_grammar.specs.Spell.{Padding}
 use Rattle.acn_grammar.specs.declared.node.SizeRule.{SizeRule}
 use Rattle.acn_grammar.specs.declared.node.SizeRule.TheVariants.{Slot}
 use Rattle.acn_grammar.specs.declared.node.Sizing.{Sizing}

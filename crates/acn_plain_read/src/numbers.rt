@@ -49,11 +49,7 @@ pub fn without(
 }
 
 /// Notes the number of a slot, where there is one.
-pub fn note(
-    numbers: &mut Row<(u32, i128)>,
-    slot: Option<u32>,
-    x: &i128,
-) -> Result<(), NoMemory>
+pub fn note(numbers: &mut Row<(u32, i128)>, slot: Option<u32>, x: &i128) -> Result<(), NoMemory>
     ensures { OnOk result (numbers.new ≡ noted_by slot x.now numbers.old) }
 {
     match slot {

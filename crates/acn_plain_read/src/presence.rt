@@ -4,7 +4,6 @@ ghost use Rattle.std.specs.Prelude.{◌≡◌, ◌+◌, ◌<◌, ◌≤◌, ◌^
 ghost use Rattle.acn_grammar.specs.Fails.{flags_behind, presence_count};
 ghost use Rattle.acn_grammar.specs.Grammar.{Fields};
 ghost use Rattle.acn_grammar.specs.View.{field_of, fields_view, with_field};
-
 ghost use Rattle.acn_plain_read.specs.Present.{is_number, holds_now, all_hold_now, there_now, BitThere};
 
 use crate::numbers::number_at;

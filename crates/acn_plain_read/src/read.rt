@@ -22,7 +22,8 @@ use crate::strings::{read_bits, read_octets};
 use crate::texts::read_text;
 use acn_bits::ReadCursor;
 use acn_grammar::{
-    Alternative, Body, ChoiceRule, Field, Node, Presence, ReadFault, Reason, Seq, Sizing, Value};
+    Alternative, Body, ChoiceRule, Field, Node, Presence, ReadFault, Reason, Seq, Sizing, Value,
+};
 use acn_num::{Boxed, Path, Row};
 use std::alloc::Global;
 
@@ -79,7 +80,15 @@ fn read_body(
         Body::Bits(sizing) => read_bits(alloc, cur, sizing, slots.items(), inside, from),
         Body::Text(leaf) => read_text(alloc, cur, leaf, slots.items(), inside, from),
         Body::List(sizing, element) => read_list(
-            alloc, element.get(), sizing, root, cur, slots, path, inside, from,
+            alloc,
+            element.get(),
+            sizing,
+            root,
+            cur,
+            slots,
+            path,
+            inside,
+            from,
         ),
         Body::Choice(choice) => read_choice(
             alloc,
@@ -93,7 +102,15 @@ fn read_body(
             from,
         ),
         Body::Contained(sizing, content) => read_contained(
-            alloc, content.get(), sizing, root, cur, slots, path, inside, from,
+            alloc,
+            content.get(),
+            sizing,
+            root,
+            cur,
+            slots,
+            path,
+            inside,
+            from,
         ),
     }
 }
@@ -207,7 +224,12 @@ fn read_field(
     ensures path { OnOk result (path.new ≡ path.old) }
 {
     match field {
-        Field::Component { node, presence, slot, .. } => {
+        Field::Component {
+            node,
+            presence,
+            slot,
+            ..
+        } => {
             match read_component(
                 alloc, node, presence, *slot, root, flags, cur, slots, path, inside, k,
             ) {

@@ -73,10 +73,14 @@ fn field_leaf(field: &Field, slot: u32) -> Option<Option<&NumLeaf>>
 {
     match field {
         Field::Component {
-            node, slot: own, ..
+            node,
+            slot: own,
+            ..
         } => said(node, *own, slot_leaf(node, slot), slot),
         Field::Inserted {
-            node, slot: own, ..
+            node,
+            slot: own,
+            ..
         } => said(node, *own, slot_leaf(node, slot), slot),
     }
 }

@@ -1,6 +1,6 @@
 use Rattle.std.proofs.lemmas.Int.{to_z-of_z}
 use Rattle.std.specs.Int.{w128}
-use Rattle.std.proofs.Common.{◌≡◌, ◌∙◌, sym, ap, Some, Option, List, ℕ, ℤ, subst, rules}
+use Rattle.std.proofs.Common.{◌∙◌, sym, ap, ℤ, subst, rules}
 use Rattle.std.specs.Prelude.{option_map, MatchOption}
 use Rattle.acn_grammar.specs.View.{grammar_of}
 use Rattle.acn_plain_read.specs.Choices.{NoName, IsName}

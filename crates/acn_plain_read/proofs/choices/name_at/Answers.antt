@@ -1,4 +1,4 @@
-use Rattle.std.proofs.Common.{◌∙◌, ap, sym, List, ℕ, ℤ, Option}
+use Rattle.std.proofs.Common.{◌∙◌, ap, sym, ℕ}
 use Rattle.std.specs.Prelude.{option_map, slice_get}
 use Rattle.acn_plain_read.proofs.ChoiceReads.{named_by, below_none}
 use Rattle.acn_plain_read.proofs.choices.name_at.Goals as goal

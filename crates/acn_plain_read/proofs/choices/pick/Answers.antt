@@ -1,7 +1,7 @@
-use Rattle.std.proofs.Common.{◌≡◌, ◌∙◌, sym, ap, refl, arith, rules, ℕ}
+use Rattle.std.proofs.Common.{refl, arith}
 use Rattle.acn_grammar.specs.LeafFails.{short, no_alternative}
 use Rattle.acn_grammar.specs.View.{alternatives_view, grammar_of}
-use Rattle.acn_plain_read.proofs.ChoiceReads.{index_picked, index_none, index_short, rule_picked, rule_none, count_cases, plain_seen}
+use Rattle.acn_plain_read.proofs.ChoiceReads.{index_picked, index_none, index_short, rule_none, count_cases, plain_seen}
 use Rattle.acn_plain_read.proofs.choices.pick.Goals as goal
 
 pub returns-then-v-alternatives-clause-picked : goal.returns-then-v-alternatives-clause-picked

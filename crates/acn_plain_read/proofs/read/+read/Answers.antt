@@ -1,7 +1,7 @@
 use Rattle.std.proofs.lemmas.Int.{to_z-of_z}
 use Rattle.std.specs.Int.{w128}
 use Rattle.std.proofs.Common.{◌≡◌, ℕ, true, false, suc, ◌+◌, ◌∷◌, [], ◌++◌, length, None, refl, sym, ap, ◌∙◌, rules, subst, List}
-use Rattle.acn_grammar.specs.Grammar.{Grammar, Fields, node}
+use Rattle.acn_grammar.specs.Grammar.{Grammar, Fields}
 use Rattle.acn_grammar.specs.View.{grammar_of, form_of, data_of, field_of, fields_view, with_field}
 use Rattle.acn_grammar.specs.declared.node.Node.{the_lemmas}
 use Rattle.acn_grammar.proofs.Views.{view_node, view_component, view_inserted}
@@ -15,21 +15,20 @@ use Rattle.acn_grammar.specs.declared.node.Choice.{out-Choice, size_is-Choice}
 use Rattle.acn_grammar.specs.declared.node.Body.{size-Body}
 use Rattle.acn_grammar.specs.declared.node.Alternative.{the_lemmas as alternative_lemmas}
 use Rattle.acn_grammar.specs.declared.value.Value.{Alt as AltValue}
-use Rattle.acn_plain_read.specs.Choices.{grammar_at}
 use Rattle.acn_grammar.specs.Grammar.{Form, choice}
 use Rattle.acn_grammar.specs.View.{alternatives_view}
 use Rattle.acn_plain_read.proofs.SlotTurns.{component_read}
 use Rattle.acn_grammar.specs.Grammar.{octets, bits, text}
 use Rattle.acn_plain_read.proofs.StringReads.{octets_rule, bits_rule, text_rule, view_octets, view_bits, view_text, form_passed_at, form_fails_at}
 use Rattle.acn_plain_read.specs.Steps.{noted_by}
-use Rattle.acn_grammar.specs.Grammar.{component, inserted}
+use Rattle.acn_grammar.specs.Grammar.{component}
 use Rattle.std.proofs.Common.{ℤ, Some}
 use Rattle.acn_plain_read.proofs.Nodes.{on_ok_map}
-use Rattle.acn_plain_read.specs.Decoded.{Follows, Tells, NodeRead, NodeStops, FieldsStop}
+use Rattle.acn_plain_read.specs.Decoded.{NodeRead, NodeStops}
 use Rattle.acn_plain_read.specs.Present.{there_now}
 use Rattle.acn_plain_read.proofs.Nodes.{node_room, tells_map, stop_map, ok_map, node_read, node_fails_at, node_short_at}
 use Rattle.acn_plain_read.proofs.Turns.{bit_is, there_told, away_turn, component_stops, no_turn, depth_is}
-use Rattle.std.proofs.Common.{map, drop, ◌<◌, ◌≤◌, arith}
+use Rattle.std.proofs.Common.{map, drop, arith}
 use Rattle.std.specs.Prelude.{option_map}
 use Rattle.std.proofs.lemmas.List.{map-append}
 use Rattle.acn_plain_read.specs.Decoded.{Turn}
@@ -45,28 +44,33 @@ read_component-is_there-requires t c = let r = c.requires.ready in bit_is (gramm
 
 pub read_component-read_node-requires : goal.read_component-read_node-requires
 read_component-read_node-requires t c =
-    let r = c.requires.ready in
-    (search (rules, the_lemmas), (
-      (r.0, subst (λ (n : ℕ). NodeStands (grammar_of c.args.root.now) n (grammar_of c.args.node.now) c.args.slots.now r.0) (depth_is c.args.path.now c.push.new.self c.args.k c.push.ensures) (record { known = r.2.known; noted = r.2.noted; is = r.2.is.3 })), (
-      c.requires.named,
-      c.requires.fine)))
+    let r = c.requires.ready in (
+      search (rules, the_lemmas),
+      (
+        (r.0, subst (λ (n : ℕ). NodeStands (grammar_of c.args.root.now) n (grammar_of c.args.node.now) c.args.slots.now r.0) (depth_is c.args.path.now c.push.new.self c.args.k c.push.ensures) (record { known = r.2.known; noted = r.2.noted; is = r.2.is.3 })),
+        (
+          c.requires.named,
+          c.requires.fine,
+        ),
+      ),
+    )
 
 pub read_component-returns-in_ok-note-in-Ok-clause-read : goal.read_component-returns-in_ok-note-in-Ok-clause-read
 read_component-returns-in_ok-note-in-Ok-clause-read t c place name default fs =
     let r = c.requires.ready in
     let yes' : there_now c.args.presence.now c.args.slots.now c.args.flags.now.rest ≡ true = ap (λ x. there_now c.args.presence.now x c.args.flags.now.rest) (sym c.items.ensures) ∙ (sym c.is_there.ensures.there ∙ c.if-is_there.true) in
     subst (λ (x : List (ℕ × ℤ)). Turn (grammar_of c.args.root.now) (record { path = c.args.path.now; place = place; inside = c.args.inside }) c.args.cur.now.origin c.args.k (suc c.args.k) (component name (grammar_of c.args.node.now) c.args.presence.now default c.args.slot fs) fs (Some (data_of c.in-Ok.value) ∷ []) c.args.slots.now x c.args.flags.now.rest c.is_there.new.flags.rest c.args.cur.now c.read_node.new.cur)
-      (sym (c.in_ok-note-in-Ok.ensures ∙ ap (λ (x : ℤ). noted_by c.args.slot x c.read_node.new.slots) (to_z-of_z w128 c.number_of.result (record { sfits = search rules }) ∙ c.number_of.ensures)))
-      (component_read (grammar_of c.args.root.now) (record { path = c.args.path.now; place = place; inside = c.args.inside }) c.args.cur.now.origin c.args.k name (grammar_of c.args.node.now) c.args.presence.now default c.args.slot fs r.1 (data_of c.in-Ok.value) c.args.slots.now c.read_node.new.slots c.args.flags.now.rest c.is_there.new.flags.rest c.args.cur.now c.read_node.new.cur (suc (length c.args.path.now)) r.0 r.2 c.requires.named
-        c.is_there.ensures.flags (λ env f. (there_told (grammar_of c.args.root.now) r.2.known c.args.slots.now env c.args.presence.now c.args.flags.now.rest r.2.noted.has r.2.is.0 f).0 yes') c.in-Ok.ensures.read)
+    (sym (c.in_ok-note-in-Ok.ensures ∙ ap (λ (x : ℤ). noted_by c.args.slot x c.read_node.new.slots) (to_z-of_z w128 c.number_of.result (record { sfits = search rules }) ∙ c.number_of.ensures)))
+    (component_read (grammar_of c.args.root.now) (record { path = c.args.path.now; place = place; inside = c.args.inside }) c.args.cur.now.origin c.args.k name (grammar_of c.args.node.now) c.args.presence.now default c.args.slot fs r.1 (data_of c.in-Ok.value) c.args.slots.now c.read_node.new.slots c.args.flags.now.rest c.is_there.new.flags.rest c.args.cur.now c.read_node.new.cur (suc (length c.args.path.now)) r.0 r.2 c.requires.named
+    c.is_there.ensures.flags (λ env f. (there_told (grammar_of c.args.root.now) r.2.known c.args.slots.now env c.args.presence.now c.args.flags.now.rest r.2.noted.has r.2.is.0 f).0 yes') c.in-Ok.ensures.read)
 
 pub read_component-returns-in-Err-clause-fails : goal.read_component-returns-in-Err-clause-fails
 read_component-returns-in-Err-clause-fails t c =
     let r = c.requires.ready in
     let yes' : there_now c.args.presence.now c.args.slots.now c.args.flags.now.rest ≡ true = ap (λ x. there_now c.args.presence.now x c.args.flags.now.rest) (sym c.items.ensures) ∙ (sym c.is_there.ensures.there ∙ c.if-is_there.true) in
     tells_map c.in-Err.stop _ _ (λ q at s place name default fs. component_stops (grammar_of c.args.root.now) (record { path = c.args.path.now; place = place; inside = c.args.inside }) c.args.cur.now.origin c.args.k name (grammar_of c.args.node.now) c.args.presence.now default c.args.slot fs c.args.slots.now c.args.flags.now.rest c.args.cur.now c.read_node.new.path q at
-      refl (λ env f. (there_told (grammar_of c.args.root.now) r.2.known c.args.slots.now env c.args.presence.now c.args.flags.now.rest r.2.noted.has r.2.is.0 f).0 yes')
-      (subst (λ (p : List ℕ). NodeStops (grammar_of c.args.root.now) (grammar_of c.args.node.now) c.args.inside p c.args.slots.now c.args.cur.now c.read_node.new.path q at) c.push.ensures s)) c.in-Err.ensures.fails
+    refl (λ env f. (there_told (grammar_of c.args.root.now) r.2.known c.args.slots.now env c.args.presence.now c.args.flags.now.rest r.2.noted.has r.2.is.0 f).0 yes')
+    (subst (λ (p : List ℕ). NodeStops (grammar_of c.args.root.now) (grammar_of c.args.node.now) c.args.inside p c.args.slots.now c.args.cur.now c.read_node.new.path q at) c.push.ensures s)) c.in-Err.ensures.fails
 
 pub read_component-returns-else-is_there-clause-read : goal.read_component-returns-else-is_there-clause-read
 read_component-returns-else-is_there-clause-read t c place name default fs =
@@ -78,7 +82,7 @@ read_component-returns-else-is_there-clause-read t c place name default fs =
 pub read_node-returns-in-Ok-clause-read : goal.read_node-returns-in-Ok-clause-read
 read_node-returns-in-Ok-clause-read t c =
     ok_map c.read_body.result _ _ (λ v f. subst (λ (g : Grammar). NodeRead (grammar_of c.args.root.now) g (data_of v) c.args.slots.now c.read_body.new.slots c.args.cur.now c.read_body.new.cur) (sym (view_node c.args.node.now))
-      (node_read (grammar_of c.args.root.now) c.args.node.now.align (form_of c.args.node.now.body) (data_of v) c.args.slots.now c.read_body.new.slots c.args.cur.now c.pad.new.cur c.read_body.new.cur c.in-Ok.ensures.passed f)) c.read_body.ensures.read
+    (node_read (grammar_of c.args.root.now) c.args.node.now.align (form_of c.args.node.now.body) (data_of v) c.args.slots.now c.read_body.new.slots c.args.cur.now c.pad.new.cur c.read_body.new.cur c.in-Ok.ensures.passed f)) c.read_body.ensures.read
 
 pub read_node-returns-in-Ok-clause-fails : goal.read_node-returns-in-Ok-clause-fails
 read_node-returns-in-Ok-clause-fails t c =
@@ -92,8 +96,8 @@ pub read_field-returns-in_ok-push-in-Ok-clause-read : goal.read_field-returns-in
 read_field-returns-in_ok-push-in-Ok-clause-read t c =
     let m = c.in-Component in
     component_turn (grammar_of c.args.root.now) (field_of c.args.field.now) m.name (grammar_of m.node) m.presence m.default m.slot c.args.inside c.args.path.now c.args.cur.now.origin c.args.k (option_map data_of c.in-Ok.place ∷ []) (map (option_map data_of) c.args.places.now) (map (option_map data_of) c.push.new.self)
-      c.args.slots.now c.read_component.new.slots c.args.flags.now.rest c.read_component.new.flags.rest c.args.cur.now c.read_component.new.cur
-      (ap field_of m.is ∙ view_component m.name m.node m.presence m.default m.slot) (ap (map (option_map data_of)) c.in_ok-push-in-Ok.ensures.ok ∙ map-append (option_map data_of) c.args.places.now (c.in-Ok.place ∷ [])) c.in-Ok.ensures.read
+    c.args.slots.now c.read_component.new.slots c.args.flags.now.rest c.read_component.new.flags.rest c.args.cur.now c.read_component.new.cur
+    (ap field_of m.is ∙ view_component m.name m.node m.presence m.default m.slot) (ap (map (option_map data_of)) c.in_ok-push-in-Ok.ensures.ok ∙ map-append (option_map data_of) c.args.places.now (c.in-Ok.place ∷ [])) c.in-Ok.ensures.read
 
 pub read_fields-loop-field-init : goal.read_fields-loop-field-init
 read_fields-loop-field-init t c = record {
@@ -106,11 +110,17 @@ pub read_fields-read_field-requires : goal.read_fields-read_field-requires
 read_fields-read_field-requires t c =
     let l = c.loop-field in
     let p = l.invariant.turn 0 in
-    let from = fields_from c.args.fields.now l.field-index c.field-item.result c.loop-field-test.true c.field-item.is in
-    (search (rules, the_lemmas), (subst (λ (path : List ℕ). (around : List ℕ) × (fs : Fields) × FieldsStand (grammar_of c.args.root.now) (suc (length path)) (with_field (field_of c.field-item.result) fs) l.slots around × (Rattle.acn_grammar.specs.Fails.presence_count (with_field (field_of c.field-item.result) fs) ≡ length l.flags.rest)) (sym l.invariant.path)
-      (next_ready (grammar_of c.args.root.now) (record { path = c.args.path.now; place = 0; inside = c.args.inside }) c.args.cur.now.origin l.k (suc (length c.args.path.now)) (fields_view c.args.fields.now) (fields_view (drop l.field-index c.args.fields.now)) (fields_view (drop (l.field-index + 1) c.args.fields.now)) (field_of c.field-item.result) (map (option_map data_of) l.places) c.args.slots.now l.slots c.args.flags.now.rest l.flags.rest c.args.cur.now l.cur from p c.requires.bits c.requires.ready), (
-      named_at c.args.fields.now l.field-index c.field-item.result c.loop-field-test.true c.field-item.is c.requires.named,
-      p.fine)))
+    let from = fields_from c.args.fields.now l.field-index c.field-item.result c.loop-field-test.true c.field-item.is in (
+      search (rules, the_lemmas),
+      (
+        subst (λ (path : List ℕ). (around : List ℕ) × (fs : Fields) × FieldsStand (grammar_of c.args.root.now) (suc (length path)) (with_field (field_of c.field-item.result) fs) l.slots around × (Rattle.acn_grammar.specs.Fails.presence_count (with_field (field_of c.field-item.result) fs) ≡ length l.flags.rest)) (sym l.invariant.path)
+            (next_ready (grammar_of c.args.root.now) (record { path = c.args.path.now; place = 0; inside = c.args.inside }) c.args.cur.now.origin l.k (suc (length c.args.path.now)) (fields_view c.args.fields.now) (fields_view (drop l.field-index c.args.fields.now)) (fields_view (drop (l.field-index + 1) c.args.fields.now)) (field_of c.field-item.result) (map (option_map data_of) l.places) c.args.slots.now l.slots c.args.flags.now.rest l.flags.rest c.args.cur.now l.cur from p c.requires.bits c.requires.ready),
+        (
+          named_at c.args.fields.now l.field-index c.field-item.result c.loop-field-test.true c.field-item.is c.requires.named,
+          p.fine,
+        ),
+      ),
+    )
 
 pub read_fields-returns-in-Err-clause-fails : goal.read_fields-returns-in-Err-clause-fails
 read_fields-returns-in-Err-clause-fails t c =
@@ -140,25 +150,34 @@ read_seq-count_of-requires t c = few_fields (grammar_of c.args.root.now) _ c.arg
 pub read_seq-read_fields-requires : goal.read_seq-read_fields-requires
 read_seq-read_fields-requires t c =
     let root = grammar_of c.args.root.now in
-    let count : c.count_of.result ≡ presence_count (fields_view c.args.seq.now.fields) = c.count_of.ensures ∙ ap (λ x. presence_count (fields_view x)) c.items.ensures in
-    (search (rules, the_lemmas), (
-      few_fields (grammar_of c.args.root.now) _ c.args.seq.now.fields c.items-in-Ok.result.now c.args.seq.now.home (length c.args.path.now) c.args.slots.now (view_seq_form c.args.seq.now) c.items-in-Ok.ensures c.requires.ready, (
-      flags_are (grammar_of c.args.root.now) c.args.seq.now.fields c.items-in-Ok.result.now c.count_of.result c.args.cur.now c.in-Ok.window c.items-in-Ok.ensures count c.in-Ok.ensures.within c.in-Ok.ensures.window, (
-      fields_ready (grammar_of c.args.root.now) _ c.args.seq.now.fields c.items-in-Ok.result.now c.args.seq.now.home (length c.args.path.now) c.args.slots.now (view_seq_form c.args.seq.now) c.items-in-Ok.ensures c.requires.ready, (
-      fields_named _ c.args.seq.now.fields c.items-in-Ok.result.now c.args.seq.now.home (view_seq_form c.args.seq.now) c.items-in-Ok.ensures c.requires.named,
-      c.requires.fine)))))
+    let count : c.count_of.result ≡ presence_count (fields_view c.args.seq.now.fields) = c.count_of.ensures ∙ ap (λ x. presence_count (fields_view x)) c.items.ensures in (
+      search (rules, the_lemmas),
+      (
+        few_fields (grammar_of c.args.root.now) _ c.args.seq.now.fields c.items-in-Ok.result.now c.args.seq.now.home (length c.args.path.now) c.args.slots.now (view_seq_form c.args.seq.now) c.items-in-Ok.ensures c.requires.ready,
+        (
+          flags_are (grammar_of c.args.root.now) c.args.seq.now.fields c.items-in-Ok.result.now c.count_of.result c.args.cur.now c.in-Ok.window c.items-in-Ok.ensures count c.in-Ok.ensures.within c.in-Ok.ensures.window,
+          (
+            fields_ready (grammar_of c.args.root.now) _ c.args.seq.now.fields c.items-in-Ok.result.now c.args.seq.now.home (length c.args.path.now) c.args.slots.now (view_seq_form c.args.seq.now) c.items-in-Ok.ensures c.requires.ready,
+            (
+              fields_named _ c.args.seq.now.fields c.items-in-Ok.result.now c.args.seq.now.home (view_seq_form c.args.seq.now) c.items-in-Ok.ensures c.requires.named,
+              c.requires.fine,
+            ),
+          ),
+        ),
+      ),
+    )
 
 pub read_seq-returns-in_ok-left-in-Ok-read_fields-clause-read : goal.read_seq-returns-in_ok-left-in-Ok-read_fields-clause-read
 read_seq-returns-in_ok-left-in-Ok-read_fields-clause-read t c =
     let count : c.count_of.result ≡ presence_count (fields_view c.args.seq.now.fields) = c.count_of.ensures ∙ ap (λ x. presence_count (fields_view x)) c.items.ensures in
     seq_read_at (grammar_of c.args.root.now) (record { path = c.args.path.now; place = c.args.from; inside = c.args.inside }) c.window.new.self.origin (length c.items-in-Ok.result.now) (length c.args.path.now) _ c.args.seq.now.fields c.items-in-Ok.result.now c.args.seq.now.home c.items-in-Ok-read_fields-2.result.now c.in-Ok-read_fields.places _ c.args.slots.now c.read_fields.new.slots c.items-in-Ok-read_fields.result.now c.in_ok-left-in-Ok-read_fields.left c.args.cur.now c.window.new.self c.read_fields.new.cur c.in-Ok.window c.count_of.result _
-      (view_seq_form c.args.seq.now) (view_seq c.in-Ok-read_fields.places) c.items-in-Ok.ensures c.items-in-Ok-read_fields-2.ensures c.items-in-Ok-read_fields.ensures c.in_ok-left-in-Ok-read_fields.ensures count c.in-Ok.ensures.within c.in-Ok.ensures.window c.in-Ok.ensures.moved c.requires.ready (c.in-Ok-read_fields.ensures.read c.args.from)
+    (view_seq_form c.args.seq.now) (view_seq c.in-Ok-read_fields.places) c.items-in-Ok.ensures c.items-in-Ok-read_fields-2.ensures c.items-in-Ok-read_fields.ensures c.in_ok-left-in-Ok-read_fields.ensures count c.in-Ok.ensures.within c.in-Ok.ensures.window c.in-Ok.ensures.moved c.requires.ready (c.in-Ok-read_fields.ensures.read c.args.from)
 
 pub read_seq-returns-in-Err-read_fields-clause-fails : goal.read_seq-returns-in-Err-read_fields-clause-fails
 read_seq-returns-in-Err-read_fields-clause-fails t c =
     let count : c.count_of.result ≡ presence_count (fields_view c.args.seq.now.fields) = c.count_of.ensures ∙ ap (λ x. presence_count (fields_view x)) c.items.ensures in
     tells_map c.in-Err-read_fields.stop _ _ (λ q at s. seq_fails_at (grammar_of c.args.root.now) (record { path = c.args.path.now; place = c.args.from; inside = c.args.inside }) (length c.args.path.now) _ c.args.seq.now.fields c.items-in-Ok.result.now c.args.seq.now.home c.args.slots.now c.args.cur.now c.window.new.self c.in-Ok.window c.count_of.result _ q at
-      (view_seq_form c.args.seq.now) c.items-in-Ok.ensures count c.in-Ok.ensures.within c.in-Ok.ensures.window c.in-Ok.ensures.moved c.requires.ready (s c.args.from)) c.in-Err-read_fields.ensures.fails
+    (view_seq_form c.args.seq.now) c.items-in-Ok.ensures count c.in-Ok.ensures.within c.in-Ok.ensures.window c.in-Ok.ensures.moved c.requires.ready (s c.args.from)) c.in-Err-read_fields.ensures.fails
 
 pub read_seq-returns-in-Err-clause-fails : goal.read_seq-returns-in-Err-clause-fails
 read_seq-returns-in-Err-clause-fails t c =
@@ -169,7 +188,7 @@ pub read_field-returns-in-Inserted-clause-read : goal.read_field-returns-in-Inse
 read_field-returns-in-Inserted-clause-read t c =
     let m = c.in-Inserted in
     on_ok_map c.read_inserted.result (λ p. inserted_turn (grammar_of c.args.root.now) (field_of c.args.field.now) m.name (grammar_of m.node) m.slot c.args.inside c.args.path.now c.args.cur.now.origin c.args.k (map (option_map data_of) c.args.places.now) c.args.slots.now c.read_inserted.new.slots c.args.flags.now.rest c.args.cur.now c.read_inserted.new.cur
-      (ap field_of m.is ∙ view_inserted m.name m.node m.slot) p) c.read_inserted.ensures.read
+    (ap field_of m.is ∙ view_inserted m.name m.node m.slot) p) c.read_inserted.ensures.read
 
 pub read_body-read_octets-requires-clause-read : goal.read_body-read_octets-requires-clause-read
 read_body-read_octets-requires-clause-read t c = octets_rule (grammar_of c.args.root.now) (form_of c.args.body.now) c.in-Octets.sizing (length c.args.path.now) c.args.slots.now c.items.result.now (ap form_of c.in-Octets.is ∙ view_octets c.in-Octets.sizing) c.items.ensures c.requires.ready c.requires.fine
@@ -194,11 +213,16 @@ read_child-push-requires t c = let r = c.requires.ready in node_room (grammar_of
 
 pub read_child-read_node-requires : goal.read_child-read_node-requires
 read_child-read_node-requires t c =
-    let r = c.requires.ready in
-    (search (rules, the_lemmas), (
-      (r.0, subst (λ (n : ℕ). NodeStands (grammar_of c.args.root.now) n (grammar_of c.args.node.now) c.args.slots.now r.0) (depth_is c.args.path.now c.push.new.self c.args.k c.push.ensures) (record { known = r.1.known; noted = r.1.noted; is = r.1.is.1 })), (
-      c.requires.named,
-      c.requires.fine)))
+    let r = c.requires.ready in (
+      search (rules, the_lemmas),
+      (
+        (r.0, subst (λ (n : ℕ). NodeStands (grammar_of c.args.root.now) n (grammar_of c.args.node.now) c.args.slots.now r.0) (depth_is c.args.path.now c.push.new.self c.args.k c.push.ensures) (record { known = r.1.known; noted = r.1.noted; is = r.1.is.1 })),
+        (
+          c.requires.named,
+          c.requires.fine,
+        ),
+      ),
+    )
 
 pub read_child-returns-in-Err-clause-fails : goal.read_child-returns-in-Err-clause-fails
 read_child-returns-in-Err-clause-fails t c =
@@ -221,7 +245,7 @@ read_contained-returns-else-left-lt8-clause-fails t c =
     let many = c.if-left-lt8.false in
     let left = c.left.ensures in
     subst (λ (p : List ℕ). FormStops (grammar_of c.args.root.now) (contained c.args.sizing.now (grammar_of c.args.node.now)) (record { path = c.args.path.now; place = c.args.from; inside = c.args.inside }) c.args.cur.now.origin c.args.slots.now c.args.cur.now p (content_size c.in-Ok.n c.at.result) c.args.from) (sym c.in-Ok-read_child.ensures.path)
-      (contained_overlong (grammar_of c.args.root.now) (record { path = c.args.path.now; place = c.args.from; inside = c.args.inside }) c.args.sizing.now (grammar_of c.args.node.now) c.in-Ok.n c.at.result (data_of c.in-Ok-read_child.value) c.args.slots.now c.read_child.new.slots c.items.result.now c.args.cur.now c.read_size.new.cur c.in-Ok-window.window c.read_child.new.cur c.items.ensures c.in-Ok.ensures.read c.requires.fine c.in-Ok-window.ensures.within c.in-Ok-window.ensures.window c.in-Ok-read_child.ensures.read (omega (arith, many, left)) c.at.ensures)
+    (contained_overlong (grammar_of c.args.root.now) (record { path = c.args.path.now; place = c.args.from; inside = c.args.inside }) c.args.sizing.now (grammar_of c.args.node.now) c.in-Ok.n c.at.result (data_of c.in-Ok-read_child.value) c.args.slots.now c.read_child.new.slots c.items.result.now c.args.cur.now c.read_size.new.cur c.in-Ok-window.window c.read_child.new.cur c.items.ensures c.in-Ok.ensures.read c.requires.fine c.in-Ok-window.ensures.within c.in-Ok-window.ensures.window c.in-Ok-read_child.ensures.read (omega (arith, many, left)) c.at.ensures)
 
 pub read_contained-returns-in-Err-read_child-clause-fails : goal.read_contained-returns-in-Err-read_child-clause-fails
 read_contained-returns-in-Err-read_child-clause-fails t c =
@@ -248,7 +272,7 @@ read_list-returns-in-Ok-read_run-clause-read t c =
     let none = c.is_ended.ensures c.if-is_ended.false in
     let r = c.in-Ok-read_run.ensures.read c.args.from in
     subst (λ (d : Data). FormRead (grammar_of c.args.root.now) (list c.args.sizing.now (grammar_of c.args.node.now)) d c.args.slots.now c.read_run.new.slots c.args.cur.now c.read_run.new.cur) (sym (view_list_value c.in-Ok-read_run.values))
-      (list_read (grammar_of c.args.root.now) (record { path = c.args.path.now; place = c.args.from; inside = c.args.inside }) c.read_size.new.cur.origin c.args.sizing.now (grammar_of c.args.node.now) c.in-Ok.n (map data_of c.in-Ok-read_run.values) c.args.slots.now c.read_run.new.slots c.items.result.now c.args.cur.now c.read_size.new.cur c.read_run.new.cur none c.items.ensures c.in-Ok.ensures.read (mapped_length c.in-Ok-read_run.values ∙ r.0) r.1)
+    (list_read (grammar_of c.args.root.now) (record { path = c.args.path.now; place = c.args.from; inside = c.args.inside }) c.read_size.new.cur.origin c.args.sizing.now (grammar_of c.args.node.now) c.in-Ok.n (map data_of c.in-Ok-read_run.values) c.args.slots.now c.read_run.new.slots c.items.result.now c.args.cur.now c.read_size.new.cur c.read_run.new.cur none c.items.ensures c.in-Ok.ensures.read (mapped_length c.in-Ok-read_run.values ∙ r.0) r.1)
 
 pub read_list-returns-in-Err-read_run-clause-fails : goal.read_list-returns-in-Err-read_run-clause-fails
 read_list-returns-in-Err-read_run-clause-fails t c =
@@ -270,9 +294,14 @@ read_run-loop-i-init t c = record {
 pub read_run-read_child-requires : goal.read_run-read_child-requires
 read_run-read_child-requires t c =
     let l = c.loop-i in
-    let p = l.invariant.turn 0 in
-    (search (rules, the_lemmas), (subst (λ (path : List ℕ). (around : List ℕ) × InnerStands (grammar_of c.args.root.now) (suc (length path)) (grammar_of c.args.node.now) l.slots around) (sym l.invariant.path)
-      (run_stands (grammar_of c.args.root.now) (record { path = c.args.path.now; place = 0; inside = c.args.inside }) c.args.cur.now.origin (grammar_of c.args.node.now) 0 (suc (length c.args.path.now)) (map data_of l.values) c.args.slots.now l.slots c.args.cur.now l.cur p c.requires.ready), (c.requires.named, p.fine)))
+    let p = l.invariant.turn 0 in (
+      search (rules, the_lemmas),
+      (
+        subst (λ (path : List ℕ). (around : List ℕ) × InnerStands (grammar_of c.args.root.now) (suc (length path)) (grammar_of c.args.node.now) l.slots around) (sym l.invariant.path)
+            (run_stands (grammar_of c.args.root.now) (record { path = c.args.path.now; place = 0; inside = c.args.inside }) c.args.cur.now.origin (grammar_of c.args.node.now) 0 (suc (length c.args.path.now)) (map data_of l.values) c.args.slots.now l.slots c.args.cur.now l.cur p c.requires.ready),
+        (c.requires.named, p.fine),
+      ),
+    )
 
 pub read_run-returns-in-Err-clause-fails : goal.read_run-returns-in-Err-clause-fails
 read_run-returns-in-Err-clause-fails t c =
@@ -306,15 +335,18 @@ read_choice-pick-requires t c = record {
 }
 
 pub read_choice-read_alternative-requires : goal.read_choice-read_alternative-requires
-read_choice-read_alternative-requires t c =
-    (search (rules, the_lemmas),
-      (let there = c.in-Ok.ensures.picked.there in let n = count_cases c.args.alternatives.now in omega (arith, there, n),
-      (choice_inner (grammar_of c.args.root.now) c.args.alternatives.now c.args.alternatives.now c.args.rule (length c.args.path.now) c.args.slots.now refl c.requires.ready, (c.requires.named, c.requires.fine))))
+read_choice-read_alternative-requires t c = (
+  search (rules, the_lemmas),
+  (
+    let there = c.in-Ok.ensures.picked.there in let n = count_cases c.args.alternatives.now in omega (arith, there, n),
+    (choice_inner (grammar_of c.args.root.now) c.args.alternatives.now c.args.alternatives.now c.args.rule (length c.args.path.now) c.args.slots.now refl c.requires.ready, (c.requires.named, c.requires.fine)),
+  ),
+)
 
 pub read_choice-returns-in_ok-boxed-in-Ok-read_alternative-clause-read : goal.read_choice-returns-in_ok-boxed-in-Ok-read_alternative-clause-read
 read_choice-returns-in_ok-boxed-in-Ok-read_alternative-clause-read t c =
     choice_read_at (grammar_of c.args.root.now) (choice (alternatives_view c.args.alternatives.now) c.args.rule) c.args.alternatives.now c.args.alternatives.now c.args.rule c.in-Ok.i _ c.in-Ok-read_alternative.value c.args.slots.now c.read_alternative.new.slots c.items.result.now c.args.cur.now c.pick.new.cur c.read_alternative.new.cur refl refl c.items.ensures (ap (AltValue c.in-Ok.i) c.in_ok-boxed-in-Ok-read_alternative.ensures) c.in-Ok.ensures.picked
-      c.in-Ok-read_alternative.ensures.read
+    c.in-Ok-read_alternative.ensures.read
 
 pub read_choice-returns-in-Err-read_alternative-clause-fails : goal.read_choice-returns-in-Err-read_alternative-clause-fails
 read_choice-returns-in-Err-read_alternative-clause-fails t c =
@@ -325,11 +357,16 @@ read_choice-returns-in-Err-clause-fails t c =
     tells_map c.in-Err.stop _ _ (λ q at s. choice_none_at (grammar_of c.args.root.now) (choice (alternatives_view c.args.alternatives.now) c.args.rule) (record { path = c.args.path.now; place = c.args.from; inside = c.args.inside }) c.args.alternatives.now c.args.alternatives.now c.args.rule c.args.slots.now c.items.result.now c.args.cur.now q at refl refl c.items.ensures c.requires.fine s) c.in-Err.ensures.fails
 
 pub read_body-read_choice-requires : goal.read_body-read_choice-requires
-read_body-read_choice-requires t c =
-    (let a = size_is-Choice c.in-Choice.choice in let b = ap size-Body c.in-Choice.is in let items = c.items-in-Choice.ensures in search (rules, the_lemmas, a, b, items), (
-      body_choice (grammar_of c.args.root.now) (form_of c.args.body.now) (out-Choice c.in-Choice.choice).alternatives c.items-in-Choice.result.now (out-Choice c.in-Choice.choice).rule (length c.args.path.now) c.args.slots.now (ap form_of c.in-Choice.is ∙ view_choice c.in-Choice.choice) c.items-in-Choice.ensures c.requires.ready, (
+read_body-read_choice-requires t c = (
+  let a = size_is-Choice c.in-Choice.choice in let b = ap size-Body c.in-Choice.is in let items = c.items-in-Choice.ensures in search (rules, the_lemmas, a, b, items),
+  (
+    body_choice (grammar_of c.args.root.now) (form_of c.args.body.now) (out-Choice c.in-Choice.choice).alternatives c.items-in-Choice.result.now (out-Choice c.in-Choice.choice).rule (length c.args.path.now) c.args.slots.now (ap form_of c.in-Choice.is ∙ view_choice c.in-Choice.choice) c.items-in-Choice.ensures c.requires.ready,
+    (
       choice_named (form_of c.args.body.now) (out-Choice c.in-Choice.choice).alternatives c.items-in-Choice.result.now (out-Choice c.in-Choice.choice).rule (ap form_of c.in-Choice.is ∙ view_choice c.in-Choice.choice) c.items-in-Choice.ensures c.requires.named,
-      c.requires.fine)))
+      c.requires.fine,
+    ),
+  ),
+)
 
 pub read_body-returns-in-Choice-clause-read : goal.read_body-returns-in-Choice-clause-read
 read_body-returns-in-Choice-clause-read t c =
@@ -340,11 +377,16 @@ read_body-returns-in-Choice-clause-fails t c =
     body_choice_fails (grammar_of c.args.root.now) (form_of c.args.body.now) (out-Choice c.in-Choice.choice).alternatives c.items-in-Choice.result.now (out-Choice c.in-Choice.choice).rule (record { path = c.args.path.now; place = c.args.from; inside = c.args.inside }) c.args.cur.now.origin c.args.slots.now c.args.cur.now c.read_choice.new.path c.read_choice.result (ap form_of c.in-Choice.is ∙ view_choice c.in-Choice.choice) c.items-in-Choice.ensures c.read_choice.ensures.fails
 
 pub read_alternative-read_child-requires : goal.read_alternative-read_child-requires
-read_alternative-read_child-requires t c =
-    (search (rules, the_lemmas, alternative_lemmas), (
-      case_inner (grammar_of c.args.root.now) c.args.alternatives.now c.args.i c.in-Some.alternative.now (suc (length c.args.path.now)) c.args.slots.now (case_at c.args.alternatives.now c.args.i c.in-Some.alternative.now _ c.requires.there c.in-Some.ensures.lookup.1) c.requires.ready, (
+read_alternative-read_child-requires t c = (
+  search (rules, the_lemmas, alternative_lemmas),
+  (
+    case_inner (grammar_of c.args.root.now) c.args.alternatives.now c.args.i c.in-Some.alternative.now (suc (length c.args.path.now)) c.args.slots.now (case_at c.args.alternatives.now c.args.i c.in-Some.alternative.now _ c.requires.there c.in-Some.ensures.lookup.1) c.requires.ready,
+    (
       view_named c.args.alternatives.now c.args.i c.in-Some.alternative.now (case_at c.args.alternatives.now c.args.i c.in-Some.alternative.now _ c.requires.there c.in-Some.ensures.lookup.1) c.requires.named,
-      c.requires.fine)))
+      c.requires.fine,
+    ),
+  ),
+)
 
 pub read_alternative-returns-clause-read : goal.read_alternative-returns-clause-read
 read_alternative-returns-clause-read t c = alternative_read (grammar_of c.args.root.now) c.args.alternatives.now c.args.i c.in-Some.alternative.now c.args.slots.now c.read_child.new.slots c.args.cur.now c.read_child.new.cur c.read_child.result (case_at c.args.alternatives.now c.args.i c.in-Some.alternative.now _ c.requires.there c.in-Some.ensures.lookup.1) c.read_child.ensures.read

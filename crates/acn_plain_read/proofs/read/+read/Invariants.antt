@@ -1,6 +1,5 @@
-use Rattle.std.proofs.Common.{◌≡◌, ℕ, ◌<◌, ◌^◌, length, drop, map}
+use Rattle.std.proofs.Common.{◌≡◌, ℕ, length, drop, map}
 use Rattle.std.specs.Prelude.{option_map}
-use Rattle.acn_grammar.specs.Fails.{Here, presence_count}
 use Rattle.acn_grammar.specs.View.{grammar_of, data_of, fields_view}
 use Rattle.acn_plain_read.specs.Decoded.{Turn, RunTurn}
 use Rattle.acn_plain_read.proofs.read.+read.Given as goal

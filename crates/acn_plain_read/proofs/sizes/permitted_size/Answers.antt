@@ -1,7 +1,7 @@
 use Rattle.std.proofs.lemmas.Int.{to_z-of_z}
 use Rattle.std.specs.Int.{w128}
 use Rattle.std.proofs.Common.{to_z, of_z, ◌≡◌, ◌∙◌, ap, refl, pos, Some, ℤ, true, sym, rules}
-use Rattle.acn_num.specs.Ranges.{In, has}
+use Rattle.acn_num.specs.Ranges.{has}
 use Rattle.acn_grammar.specs.Fails.{kept}
 use Rattle.acn_plain_read.proofs.StringReads.{size_kept}
 use Rattle.acn_plain_read.proofs.sizes.permitted_size.Goals as goal

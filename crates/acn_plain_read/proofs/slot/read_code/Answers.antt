@@ -1,8 +1,6 @@
-use Rattle.std.proofs.Common.{◌≡◌, ℤ, sym, subst, rules}
+use Rattle.std.proofs.Common.{rules}
 use Rattle.std.proofs.lemmas.Int.{to_z-of_z}
 use Rattle.std.specs.Int.{w128}
-use Rattle.acn_bits.specs.Reading.{Reads}
-use Rattle.acn_grammar.specs.Code.{Any, Code}
 use Rattle.acn_grammar.specs.Grammar.{num}
 use Rattle.acn_plain_read.proofs.Nodes.{node_short}
 use Rattle.acn_plain_read.proofs.SlotTurns.{code_read, code_fails}

@@ -1,7 +1,7 @@
 use Rattle.std.proofs.lemmas.Int.{to_z-of_z}
 use Rattle.std.specs.Int.{w128}
-use Rattle.std.proofs.Common.{rules, ◌≡◌, ◌<◌, ℕ, suc, ℤ, Bool, List, [], ◌∷◌, ◌++◌, IsTrue, length, sym, ap, ◌∙◌, subst, refl}
-use Rattle.acn_grammar.specs.Grammar.{Grammar, Fields, node, num, inserted}
+use Rattle.std.proofs.Common.{rules, ℕ, suc, ℤ, List, [], length, sym, ap, ◌∙◌, subst, refl}
+use Rattle.acn_grammar.specs.Grammar.{Grammar, num, inserted}
 use Rattle.acn_grammar.specs.ItemsNamed.{ItemsNamed}
 use Rattle.acn_grammar.specs.View.{grammar_of}
 use Rattle.acn_plain_read.specs.Decoded.{FieldsStand, NodeStops, Turn}
@@ -28,12 +28,12 @@ returns-in_ok-note-in-Ok-clause-read c place name fs flags =
     let e = c.leaf_of.ensures in
     let root = grammar_of c.args.root.now in
     let turn = inserted_read (grammar_of c.args.root.now) (record { path = c.args.path.now; place = place; inside = c.args.inside }) c.args.cur.now.origin c.args.k name c.args.node.now.align c.leaf_of.result.now c.args.slot c.in-Ok.x fs r.1 c.args.slots.now flags c.args.cur.now c.read_code.new.cur (suc (length c.args.path.now)) r.0
-        (subst (λ (g : Grammar). FieldsStand (grammar_of c.args.root.now) (suc (length c.args.path.now)) (inserted [] g c.args.slot r.1) c.args.slots.now r.0) e r.2) (subst ItemsNamed e c.requires.named) c.requires.fine c.in-Ok.ensures.read in
+    (subst (λ (g : Grammar). FieldsStand (grammar_of c.args.root.now) (suc (length c.args.path.now)) (inserted [] g c.args.slot r.1) c.args.slots.now r.0) e r.2) (subst ItemsNamed e c.requires.named) c.requires.fine c.in-Ok.ensures.read in
     subst (λ (t : List (ℕ × ℤ)). Turn (grammar_of c.args.root.now) (record { path = c.args.path.now; place = place; inside = c.args.inside }) c.args.cur.now.origin c.args.k (suc c.args.k) (inserted name (grammar_of c.args.node.now) c.args.slot fs) fs [] c.args.slots.now t flags flags c.args.cur.now c.read_code.new.cur) (sym (c.in_ok-note-in-Ok.ensures ∙ ap (λ (z : ℤ). noted_by c.args.slot z c.args.slots.now) (to_z-of_z w128 c.in-Ok.x (record { sfits = search rules }))))
-      (subst (λ (g : Grammar). Turn (grammar_of c.args.root.now) (record { path = c.args.path.now; place = place; inside = c.args.inside }) c.args.cur.now.origin c.args.k (suc c.args.k) (inserted name g c.args.slot fs) fs [] c.args.slots.now (noted_by c.args.slot c.in-Ok.x c.args.slots.now) flags flags c.args.cur.now c.read_code.new.cur) (sym e) turn)
+    (subst (λ (g : Grammar). Turn (grammar_of c.args.root.now) (record { path = c.args.path.now; place = place; inside = c.args.inside }) c.args.cur.now.origin c.args.k (suc c.args.k) (inserted name g c.args.slot fs) fs [] c.args.slots.now (noted_by c.args.slot c.in-Ok.x c.args.slots.now) flags flags c.args.cur.now c.read_code.new.cur) (sym e) turn)
 
 pub returns-in-Err-clause-fails : goal.returns-in-Err-clause-fails
 returns-in-Err-clause-fails c =
     tells_map c.in-Err.stop _ _ (λ q at s place name fs flags. inserted_fails (grammar_of c.args.root.now) (record { path = c.args.path.now; place = place; inside = c.args.inside }) c.args.cur.now.origin c.args.k name (grammar_of c.args.node.now) c.args.slot fs c.args.slots.now flags c.args.cur.now c.push.new.self q at refl
-      (subst (λ (p : List ℕ). NodeStops (grammar_of c.args.root.now) (grammar_of c.args.node.now) c.args.inside p c.args.slots.now c.args.cur.now c.push.new.self q at) c.push.ensures
-        (subst (λ (g : Grammar). NodeStops (grammar_of c.args.root.now) g c.args.inside c.push.new.self c.args.slots.now c.args.cur.now c.push.new.self q at) (sym c.leaf_of.ensures) (s (grammar_of c.args.root.now) c.push.new.self c.args.slots.now c.requires.fine)))) c.in-Err.ensures.fails
+    (subst (λ (p : List ℕ). NodeStops (grammar_of c.args.root.now) (grammar_of c.args.node.now) c.args.inside p c.args.slots.now c.args.cur.now c.push.new.self q at) c.push.ensures
+    (subst (λ (g : Grammar). NodeStops (grammar_of c.args.root.now) g c.args.inside c.push.new.self c.args.slots.now c.args.cur.now c.push.new.self q at) (sym c.leaf_of.ensures) (s (grammar_of c.args.root.now) c.push.new.self c.args.slots.now c.requires.fine)))) c.in-Err.ensures.fails

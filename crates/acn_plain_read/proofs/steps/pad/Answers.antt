@@ -1,6 +1,3 @@
-use Rattle.std.proofs.Common.{OnOk, ◌≡◌, ◌≤◌, length, subst, ℕ}
-use Rattle.acn_bits.specs.Reading.{passed}
-use Rattle.acn_grammar.specs.Length.{padding}
 use Rattle.acn_plain_read.proofs.Pads.{pad_result}
 use Rattle.acn_plain_read.proofs.steps.pad.Goals as goal
 

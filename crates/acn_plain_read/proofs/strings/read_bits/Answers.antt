@@ -1,11 +1,8 @@
-use Rattle.std.proofs.Common.{◌≡◌, ◌∙◌, ◌<◌, ◌*◌, length, ℕ, List, Bool, refl, subst, sym, rules, arith}
-use Rattle.acn_bits.specs.Reading.{Reading}
+use Rattle.std.proofs.Common.{refl, subst, sym, arith}
 use Rattle.acn_grammar.specs.Code.{Any}
-use Rattle.acn_grammar.specs.Grammar.{Data, bits, bit_string}
+use Rattle.acn_grammar.specs.Grammar.{Data, bits}
 use Rattle.acn_grammar.specs.LeafFails.{short}
 use Rattle.acn_grammar.specs.Spell.{FormPart}
-use Rattle.acn_grammar.specs.View.{data_of}
-use Rattle.acn_grammar.specs.declared.value.Value.{Bits}
 use Rattle.acn_plain_read.specs.Decoded.{Passes}
 use Rattle.acn_plain_read.specs.Steps.{NoForm, NoSize}
 use Rattle.acn_plain_read.proofs.Nodes.{tells_map}
@@ -21,7 +18,7 @@ returns-then-left-n-clause-fails c =
 pub returns-in_ok-bits-in-Ok-clause-read : goal.returns-in_ok-bits-in-Ok-clause-read
 returns-in_ok-bits-in-Ok-clause-read c root =
     subst (λ (d : Data). Passes (λ env. FormPart root Any (bits c.args.sizing.now) env d) c.args.slots.now c.args.cur.now c.take_bits.new.cur) (sym (view_bits_value c.in_ok-bits-in-Ok.bits))
-      (bits_read root c.args.sizing.now c.in-Ok.n c.in_ok-bits-in-Ok.bits c.args.slots.now c.args.cur.now c.read_size.new.cur c.take_bits.new.cur c.in-Ok.ensures.read c.in_ok-bits-in-Ok.ensures)
+    (bits_read root c.args.sizing.now c.in-Ok.n c.in_ok-bits-in-Ok.bits c.args.slots.now c.args.cur.now c.read_size.new.cur c.take_bits.new.cur c.in-Ok.ensures.read c.in_ok-bits-in-Ok.ensures)
 
 pub returns-in-Err-clause-fails : goal.returns-in-Err-clause-fails
 returns-in-Err-clause-fails c =

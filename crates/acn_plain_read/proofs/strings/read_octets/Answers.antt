@@ -1,11 +1,8 @@
-use Rattle.std.proofs.Common.{◌≡◌, ◌∙◌, ◌<◌, ◌*◌, length, ℕ, List, Bool, refl, subst, sym, rules, arith}
-use Rattle.acn_bits.specs.Reading.{Reading}
+use Rattle.std.proofs.Common.{refl, subst, sym, arith}
 use Rattle.acn_grammar.specs.Code.{Any}
-use Rattle.acn_grammar.specs.Grammar.{Data, octets, octet_string}
+use Rattle.acn_grammar.specs.Grammar.{Data, octets}
 use Rattle.acn_grammar.specs.LeafFails.{short}
 use Rattle.acn_grammar.specs.Spell.{FormPart}
-use Rattle.acn_grammar.specs.View.{data_of}
-use Rattle.acn_grammar.specs.declared.value.Value.{Octets}
 use Rattle.acn_plain_read.specs.Decoded.{Passes}
 use Rattle.acn_plain_read.specs.Steps.{NoForm, NoSize}
 use Rattle.acn_plain_read.proofs.Nodes.{tells_map}
@@ -21,7 +18,7 @@ returns-then-left-n-clause-fails c =
 pub returns-in_ok-octets-in-Ok-clause-read : goal.returns-in_ok-octets-in-Ok-clause-read
 returns-in_ok-octets-in-Ok-clause-read c root =
     subst (λ (d : Data). Passes (λ env. FormPart root Any (octets c.args.sizing.now) env d) c.args.slots.now c.args.cur.now c.take_octets.new.cur) (sym (view_octets_value c.in_ok-octets-in-Ok.octets))
-      (octets_read root c.args.sizing.now c.in-Ok.n c.in_ok-octets-in-Ok.octets c.args.slots.now c.args.cur.now c.read_size.new.cur c.take_octets.new.cur c.in-Ok.ensures.read c.in_ok-octets-in-Ok.ensures)
+    (octets_read root c.args.sizing.now c.in-Ok.n c.in_ok-octets-in-Ok.octets c.args.slots.now c.args.cur.now c.read_size.new.cur c.take_octets.new.cur c.in-Ok.ensures.read c.in_ok-octets-in-Ok.ensures)
 
 pub returns-in-Err-clause-fails : goal.returns-in-Err-clause-fails
 returns-in-Err-clause-fails c =

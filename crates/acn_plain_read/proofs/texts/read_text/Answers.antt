@@ -1,4 +1,4 @@
-use Rattle.std.proofs.Common.{◌≡◌, ◌∙◌, ℕ, Bool, false, List, [], ◌∷◌, ◌++◌, refl, rules, sym, ap, subst}
+use Rattle.std.proofs.Common.{◌≡◌, ◌∙◌, false, [], refl, rules, sym, ap, subst}
 use Rattle.acn_grammar.specs.Code.{Any}
 use Rattle.acn_grammar.specs.Grammar.{Data, text, characters}
 use Rattle.acn_grammar.specs.ReadFaults.{reason_of}
@@ -14,7 +14,7 @@ returns-else-lost-clause-read c root =
     let kept = folds_keep _ (λ done q. (c.text-1.given.0 ≡ q.0.ghost_name) × (c.lost-1.given.0 ≡ q.1.ghost_name) × (let l = closure.captures q in l.lost ≡ false → l.text ≡ done)) (λ done p x q j k. search rules) _ _ _ [] (refl, refl, λ e. c.new-text.ensures) g.gives in
     let whole : c.text-in-Ok-1.given.0 ≡ g.text = c.text-in-Ok-1.given.1 kept.0 ∙ kept.2 (sym (c.lost-in-Ok-1.given.1 kept.1) ∙ c.if-lost.false) in
     subst (λ (d : Data). Passes (λ env. FormPart root Any (text c.args.leaf.now) env d) c.args.slots.now c.args.cur.now c.read_text.new.cur) (sym (view_text_value _ ∙ ap characters whole))
-      (text_passed root c.args.leaf.now c.in-Ok.given g.text c.args.slots.now c.args.cur.now c.read_text.new.cur c.in-Ok.ensures.says g.read)
+    (text_passed root c.args.leaf.now c.in-Ok.given g.text c.args.slots.now c.args.cur.now c.read_text.new.cur c.in-Ok.ensures.says g.read)
 
 pub given_size-requires-clause-fine : goal.given_size-requires-clause-fine
 given_size-requires-clause-fine c = text_sizes c.args.leaf.now c.requires.fine
