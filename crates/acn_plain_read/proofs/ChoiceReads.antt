@@ -26,7 +26,7 @@ use Rattle.acn_grammar.specs.declared.node.Choice.{Choice as ChoiceNode, out-Cho
 use Rattle.acn_grammar.specs.declared.node.NumLeaf.{NumLeaf}
 use Rattle.acn_grammar.specs.declared.value.Value.{Value, Alt as AltValue, the_lemmas as value_lemmas}
 use Rattle.acn_text.specs.Texts.{fault_here}
-use Rattle.acn_plain_read.specs.Sound.{NothingLeaves, Sound, AlternativesSound}
+use Rattle.acn_grammar.specs.Sound.{NothingLeaves, Sound, AlternativesSound}
 use Rattle.acn_plain_read.specs.Steps.{Named}
 use Rattle.std.specs.Prelude.{Result, IfOk, IfErr}
 use Rattle.std.proofs.Common.{get_or}
@@ -34,7 +34,7 @@ use Rattle.acn_plain_read.specs.declared.stop.Stop.{Stop}
 use Rattle.acn_plain_read.specs.Decoded.{Tells}
 use Rattle.acn_plain_read.proofs.Nodes.{here_stops, form_within, ok_map, stop_map}
 use Rattle.std.proofs.lemmas.Int.{ints}
-use Rattle.acn_plain_read.proofs.Small.{below_is}
+use Rattle.acn_grammar.proofs.WholeTests.{lt_fact}
 use Rattle.acn_plain_read.proofs.Homes.{small_at}
 use Rattle.acn_plain_read.proofs.Turns.{noted_same}
 use Rattle.acn_grammar.specs.Fails.{kept, seen}
@@ -149,7 +149,7 @@ named_by {A} items (pos n) f o below e = by o (slice_get items n) refl e
         same a b h = cc
 
 pub below_none : (items : List (List ℕ × ℤ)) (x : ℤ) → int_lt x (pos 0) ≡ true → NoName items x
-below_none items (pos n) below name c = (let b = below_is (pos n) (pos 0) below in absurd (omega (arith, ints)))
+below_none items (pos n) below name c = (let b = lt_fact (pos n) (pos 0) below in absurd (omega (arith, ints)))
 below_none items (negsuc n) below name c = (let e = c.2 in cc)
 
 pub plain_seen : (inside : Bool) → no_alternative ≡ seen inside no_alternative

@@ -14,7 +14,7 @@ use Rattle.acn_grammar.specs.Scoped.{Known}
 use Rattle.acn_grammar.specs.Tree.{holds, is_align}
 use Rattle.acn_grammar.specs.Leaves.{num_fine}
 use Rattle.std.proofs.Common.{IsTrue}
-use Rattle.acn_plain_read.specs.Sound.{Sound}
+use Rattle.acn_grammar.specs.Sound.{Sound}
 use Rattle.acn_grammar.specs.Spell.{Part, ◌then◌, Padding, FormPart}
 use Rattle.acn_grammar.specs.declared.node.NumLeaf.{NumLeaf}
 use Rattle.acn_plain_read.specs.Decoded.{Follows, Grows, Passes, Tells, Fine, Within, Noted, NodeStands, FormStands, Stops, FormRead, NodeRead, NodeStops, FormStops}

@@ -9,6 +9,7 @@ use Rattle.acn_grammar.specs.Spell.{Padding}
 use Rattle.std.proofs.lemmas.Nat.{div-add-mod', mod-mul-add}
 use Rattle.std.proofs.Math.Nat.{mod-lt, mod-eq_of_lt}
 use Rattle.std.specs.Prelude.{Result, Ok, Err, OnOk}
+use Rattle.acn_bits.proofs.Readings.{reads_passed}
 use Rattle.acn_plain_read.specs.Steps.{PadPassed}
 
 pad_is : (align at : ℕ) → 0 < align → ((at + padding align at) % align ≡ 0) × (padding align at < align)
@@ -32,17 +33,8 @@ pad_is align at some = by (at % align) refl
 padded : (align at : ℕ) → 0 < align → (bs : List Bool) → length bs ≡ padding align at → Padding Any align at bs
 padded align at some bs l = (let p = pad_is align at some in record { aligned = ap (λ n. (at + n) % align) l ∙ p.0; fewest = omega (arith, l, p.1); zeros = λ e. cc })
 
-pub read_front : (P : List Bool → Type 0) (n : ℕ) (old new : Reading) → n ≤ length old.rest → new ≡ passed n old → P (take n old.rest) → Reads P old new
-read_front P n old new h moved p = record {
-  front = take n old.rest;
-  split = sym (take-append-drop n old.rest) ∙ ap (λ (r : Reading). take n old.rest ++ r.rest) (sym moved);
-  moved = ap (λ (r : Reading). r.at) moved ∙ ap (λ (k : ℕ). old.at + k) (sym (length-take-le n old.rest h));
-  window = ap (λ (r : Reading). r.origin) moved;
-  holds = p;
-}
-
 pub pad_passed : (align : ℕ) (old new : Reading) → 0 < align → padding align old.at ≤ length old.rest → new ≡ passed (padding align old.at) old → Reads (λ bs. Padding Any align old.at bs) old new
-pad_passed align old new some h moved = read_front (λ bs. Padding Any align old.at bs) (padding align old.at) old new h moved (padded align old.at some (take (padding align old.at) old.rest) (length-take-le (padding align old.at) old.rest h))
+pad_passed align old new some h moved = reads_passed (λ bs. Padding Any align old.at bs) (padding align old.at) old new h moved (padded align old.at some (take (padding align old.at) old.rest) (length-take-le (padding align old.at) old.rest h))
 
 pub pad_result : {E : Type 0} (align : ℕ) (old new : Reading) (r : Result (Unit {0}) E) → 0 < align → OnOk r (padding align old.at ≤ length old.rest) → OnOk r (new ≡ passed (padding align old.at) old) → OnOk r (PadPassed align old new)
 pad_result align old new (Ok u) some h m = pad_passed align old new some h m

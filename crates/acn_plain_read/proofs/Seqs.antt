@@ -13,7 +13,7 @@ use Rattle.acn_grammar.specs.declared.node.Field.{Field}
 use Rattle.acn_grammar.specs.declared.value.Value.{Value}
 use Rattle.acn_plain_read.specs.Decoded.{FormStands, FieldsStand, Fine, Turn, FieldsStop, FormRead, FormStops}
 use Rattle.acn_grammar.specs.ItemsNamed.{FormItemsNamed, FieldsItemsNamed}
-use Rattle.acn_plain_read.specs.Sound.{field_count}
+use Rattle.acn_grammar.specs.Sound.{field_count}
 use Rattle.acn_grammar.specs.View.{OneField, a_component, an_inserted, field_of, with_field}
 use Rattle.acn_plain_read.proofs.Homes.{left_of}
 use Rattle.acn_plain_read.proofs.Turns.{seq_read, seq_fails, seq_short, inside_stands}

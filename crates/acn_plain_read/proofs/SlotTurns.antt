@@ -30,7 +30,7 @@ use Rattle.acn_grammar.specs.declared.node.Presence.TheVariants.{Always}
 use Rattle.acn_grammar.specs.Fails.{flags_behind, IsThere}
 use Rattle.acn_grammar.specs.ItemsNamed.{ItemsNamed}
 use Rattle.acn_grammar.specs.Length.{number_of}
-use Rattle.acn_plain_read.specs.Sound.{SaysSlot, Sound}
+use Rattle.acn_grammar.specs.Sound.{SaysSlot, Sound}
 use Rattle.acn_plain_read.proofs.Small.{number_fits, number_is, null_number}
 use Rattle.acn_plain_read.proofs.Turns.{there_turn}
 

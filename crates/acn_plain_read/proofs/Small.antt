@@ -18,7 +18,7 @@ use Rattle.acn_grammar.specs.declared.node.NumKind.{NumKind}
 use Rattle.acn_grammar.specs.declared.node.NumKind.TheVariants.{Integer, Boolean, Enumerated, Null}
 use Rattle.acn_grammar.specs.declared.node.NumLeaf.{NumLeaf}
 use Rattle.acn_grammar.proofs.FineLeaves.{rules_of}
-use Rattle.acn_grammar.proofs.LeafLengths.{eq_fact}
+use Rattle.acn_grammar.proofs.WholeTests.{eq_fact, lt_fact, either}
 use Rattle.acn_grammar.proofs.Within.{ends-has}
 
 range_ends : (low high : ℤ) (set : List (ℤ × ℤ)) → is_range low high set ≡ true → ends set ≡ Some (low, high)
@@ -35,18 +35,11 @@ range_ends low high (r ∷ s ∷ rs) h = cc
 pub in_range : (low high : ℤ) (set : List (ℤ × ℤ)) (x : ℤ) → is_range low high set ≡ true → In set x → (low ≤ℤ x) × (x ≤ℤ high)
 in_range low high set x h p = ends-has set x (low, high) p (range_ends low high set h)
 
-pub below_is : (x y : ℤ) → int_lt x y ≡ true → x <ℤ y
-below_is x y h = grind (arith, ints, nat_tests)
-
 top_of : (coding : NumCoding) (low high : ℤ) → is_below coding low high ≡ true → high <ℤ pos (2 ^ 64)
-top_of CountedSigned low high h = (let b = below_is high (pos (2 ^ 63)) h in omega (arith, ints))
-top_of coding low high h = either (int_lt high (pos (2 ^ 63))) (int_le (pos 0) low && int_lt high (pos (2 ^ 64))) h
-    (λ a. (let b = below_is high (pos (2 ^ 63)) a in omega (arith, ints)))
-    (λ b. below_is high (pos (2 ^ 64)) (and_parts (int_le (pos 0) low) (int_lt high (pos (2 ^ 64))) b).1)
-  where
-    either : (a b : Bool) → (a || b) ≡ true → (a ≡ true → high <ℤ pos (2 ^ 64)) → (b ≡ true → high <ℤ pos (2 ^ 64)) → high <ℤ pos (2 ^ 64)
-    either true b h f g = f refl
-    either false b h f g = g h
+top_of CountedSigned low high h = (let b = lt_fact high (pos (2 ^ 63)) h in omega (arith, ints))
+top_of coding low high h = either {F = high <ℤ pos (2 ^ 64)} (int_lt high (pos (2 ^ 63))) (int_le (pos 0) low && int_lt high (pos (2 ^ 64))) h
+    (λ a. (let b = lt_fact high (pos (2 ^ 63)) a in omega (arith, ints)))
+    (λ b. lt_fact high (pos (2 ^ 64)) (and_parts (int_le (pos 0) low) (int_lt high (pos (2 ^ 64))) b).1)
 
 integer_top : (coding : NumCoding) (set : List (ℤ × ℤ)) (o : Option (ℤ × ℤ)) (x : ℤ) → ends set ≡ o → integer_set_fine coding o ≡ true → In set x → x <ℤ pos (2 ^ 64)
 integer_top coding set None x e h p = cc

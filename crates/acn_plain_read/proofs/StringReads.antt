@@ -7,8 +7,9 @@ use Rattle.std.proofs.lemmas.Bool.{and_parts}
 use Rattle.std.proofs.lemmas.List.{length-take-le}
 use Rattle.acn_num.specs.Bits.{number, bits as bits_of, low_bits}
 use Rattle.acn_num.specs.Ranges.{In, has, are_ranges, all_within}
-use Rattle.acn_grammar.proofs.Texts.{either, le_fact}
-use Rattle.acn_grammar.proofs.Within.{between}
+use Rattle.acn_grammar.proofs.RangeEnds.{lies_within}
+use Rattle.acn_grammar.proofs.TextRules.{size_rules}
+use Rattle.acn_num.specs.declared.limits.TheConstants.{MOST_SIZE}
 use Rattle.acn_num.proofs.BitLists.{number_below, low_bits-number, length-bits, bits-append}
 use Rattle.acn_bits.specs.Reading.{Reading, Reads, passed}
 use Rattle.acn_grammar.specs.Code.{Any}
@@ -23,7 +24,8 @@ use Rattle.acn_grammar.specs.Spell.{SizePart, FormPart}
 use Rattle.acn_grammar.specs.declared.node.SizeRule.{SizeRule}
 use Rattle.acn_grammar.specs.declared.node.SizeRule.TheVariants.{Prefix, Slot, Ended}
 use Rattle.acn_grammar.specs.declared.node.Sizing.{Sizing}
-use Rattle.acn_text.specs.Texts.{SlotSays, SizeCode, NoSizeAt, fault_here}
+use Rattle.acn_text.specs.Texts.{SlotSays, SizeCode, fault_here}
+use Rattle.acn_text.specs.Steps.{NoSizeAt}
 use Rattle.std.specs.Prelude.{Result, IfOk, IfErr}
 use Rattle.acn_grammar.specs.View.{data_of, form_of}
 use Rattle.acn_grammar.specs.Grammar.{text}
@@ -35,7 +37,7 @@ use Rattle.acn_plain_read.specs.Decoded.{Tells, Follows, Passes, Has, Fine, Note
 use Rattle.acn_plain_read.specs.Steps.{AreBits, AreOctets, Named, NoForm, NoSize, NotGiven, RuleRead}
 use Rattle.acn_plain_read.proofs.Homes.{small_at}
 use Rattle.acn_plain_read.proofs.Nodes.{here_stops, form_within, ok_map, stop_map}
-use Rattle.acn_plain_read.proofs.Pads.{read_front}
+use Rattle.acn_bits.proofs.Readings.{reads_passed, reads_nothing, reads_join}
 
 -- Sizes.
 
@@ -45,20 +47,10 @@ rule_read root (Prefix low width) ks t k h m = tt
 rule_read root (Slot s) ks t k h m = (let x = (h s).0 k in (x.0, x.1, small_at root t s x.0 m x.1))
 rule_read root (Ended p) ks t k h m = tt
 
-ranges_within : (rs : List (ℤ × ℤ)) (x : ℤ) → all_within (pos 0) (pos 65536) rs ≡ true → In rs x → pos 0 ≤ℤ x
-ranges_within [] x w p = cc
-ranges_within (r ∷ rs) x w p =
-    let v = and_parts (int_le (pos 0) r.0) (int_le r.1 (pos 65536) && all_within (pos 0) (pos 65536) rs) w in
-    let low = le_fact (pos 0) r.0 v.0 in
-    either {F = pos 0 ≤ℤ x} (int_le r.0 x && int_le x r.1) (has rs x) p (λ o. (let b = (between r.0 r.1 x o).0 in omega (arith, ints))) (λ o. ranges_within rs x (and_parts (int_le r.1 (pos 65536)) (all_within (pos 0) (pos 65536) rs) v.1).1 o)
-
 -- a permitted size is the number that it keeps
 pub size_kept : (sizes : List (ℤ × ℤ)) (x : ℤ) → IsTrue (sizes_fine sizes) → In sizes x → x ≡ pos (kept x)
 size_kept sizes (pos n) f p = refl
-size_kept sizes (negsuc n) f p =
-    let o = and_parts (are_ranges sizes) (all_within (pos 0) (pos 65536) sizes) (and_parts (nat_lt 0 (length sizes)) (are_ranges sizes && all_within (pos 0) (pos 65536) sizes) f).1 in
-    let h = ranges_within sizes (negsuc n) o.1 p in
-    absurd (omega (arith, ints))
+size_kept sizes (negsuc n) f p = (let h = (lies_within sizes (pos 0) (pos MOST_SIZE) (negsuc n) (size_rules sizes f).small p).0 in absurd (omega (arith, ints)))
 
 pub sizes_of : (sizing : Sizing) → IsTrue (sizing_fine sizing) → IsTrue (sizes_fine sizing.sizes)
 sizes_of sizing f = (and_parts (sizes_fine sizing.sizes) (rule_fine sizing.sizes sizing.rule) f).0
@@ -90,23 +82,8 @@ pub record OctetsUpto (n i : ℕ) (os : List ℕ) (old now : Reading) : Type 0 w
   pub read : Reads (AreOctets i os) old now
   pub room : 8 * n ≤ length old.rest
 
-nothing_read : (P : List Bool → Type 0) (a : Reading) → P [] → Reads P a a
-nothing_read P a p = record { front = []; split = refl; moved = plus_none a.at; window = refl; holds = p }
-  where
-    plus_none : (k : ℕ) → k ≡ k + 0
-    plus_none k = omega arith
-
-both_read : (P Q R : List Bool → Type 0) (a b c : Reading) → ((x y : List Bool) → P x → Q y → R (x ++ y)) → Reads P a b → Reads Q b c → Reads R a c
-both_read P Q R a b c both p q = record {
-  front = p.front ++ q.front;
-  split = p.split ∙ (ap (λ (t : List Bool). p.front ++ t) q.split ∙ sym (append_assoc p.front q.front c.rest));
-  moved = let l = length-append p.front q.front in let m = p.moved in let n = q.moved in omega (arith, l, m, n);
-  window = q.window ∙ p.window;
-  holds = both p.front q.front p.holds q.holds;
-}
-
 pub no_octets : (n : ℕ) (a : Reading) → 8 * n ≤ length a.rest → OctetsUpto n 0 [] a a
-no_octets n a room = record { read = nothing_read (AreOctets 0 []) a (record { size = refl; octets = refl; same = refl }); room = room }
+no_octets n a room = record { read = reads_nothing (AreOctets 0 []) a a refl (record { size = refl; octets = refl; same = refl }); room = room }
 
 pub octets_room : (n i : ℕ) (os : List ℕ) (old now : Reading) → i < n → OctetsUpto n i os old now → 8 ≤ length now.rest
 octets_room n i os old now h u =
@@ -125,13 +102,13 @@ octets_more n i os v old now new h u e moved =
     let l = length-take-le 8 now.rest room in
     let small : v < 256 = subst (λ (k : ℕ). k < 256) (sym e) (subst (λ (k : ℕ). number (take 8 now.rest) < 2 ^ k) l (number_below (take 8 now.rest))) in
     record {
-      read = both_read (AreOctets i os) (λ bs. bs ≡ low_bits 8 v) (AreOctets (i + 1) (os ++ v ∷ [])) old now new
+      read = reads_join (AreOctets i os) (λ bs. bs ≡ low_bits 8 v) (AreOctets (i + 1) (os ++ v ∷ [])) old now new
           (λ x y p q. record {
             size = length-append os (v ∷ []) ∙ ap (λ (k : ℕ). k + 1) p.size;
             octets = octets_join os v p.octets small;
             same = ap (λ (t : List Bool). t ++ y) p.same ∙ (ap (λ (t : List Bool). bits_of os ++ t) (q ∙ sym (append-nil (low_bits 8 v))) ∙ sym (bits-append os (v ∷ [])));
           }) u.read
-          (read_front (λ bs. bs ≡ low_bits 8 v) 8 now new room moved (sym (ap (λ (k : ℕ). low_bits k (number (take 8 now.rest))) (sym l) ∙ low_bits-number (take 8 now.rest)) ∙ ap (low_bits 8) (sym e)));
+          (reads_passed (λ bs. bs ≡ low_bits 8 v) 8 now new room moved (sym (ap (λ (k : ℕ). low_bits k (number (take 8 now.rest))) (sym l) ∙ low_bits-number (take 8 now.rest)) ∙ ap (low_bits 8) (sym e)));
       room = u.room;
     }
 
@@ -140,7 +117,7 @@ pub record BitsUpto (n i : ℕ) (xs : List Bool) (old now : Reading) : Type 0 wh
   pub room : n ≤ length old.rest
 
 pub no_bits : (n : ℕ) (a : Reading) → n ≤ length a.rest → BitsUpto n 0 [] a a
-no_bits n a room = record { read = nothing_read (AreBits 0 []) a (record { size = refl; same = refl }); room = room }
+no_bits n a room = record { read = reads_nothing (AreBits 0 []) a a refl (record { size = refl; same = refl }); room = room }
 
 pub bits_room : (n i : ℕ) (xs : List Bool) (old now : Reading) → i < n → BitsUpto n i xs old now → 1 ≤ length now.rest
 bits_room n i xs old now h u =
@@ -151,9 +128,9 @@ bits_room n i xs old now h u =
 
 pub bits_more : (n i : ℕ) (xs : List Bool) (b : Bool) (old now new : Reading) → i < n → BitsUpto n i xs old now → b ∷ [] ≡ take 1 now.rest → new ≡ passed 1 now → BitsUpto n (i + 1) (xs ++ b ∷ []) old new
 bits_more n i xs b old now new h u e moved = record {
-  read = both_read (AreBits i xs) (λ bs. bs ≡ b ∷ []) (AreBits (i + 1) (xs ++ b ∷ [])) old now new
+  read = reads_join (AreBits i xs) (λ bs. bs ≡ b ∷ []) (AreBits (i + 1) (xs ++ b ∷ [])) old now new
       (λ x y p q. record { size = length-append xs (b ∷ []) ∙ ap (λ (k : ℕ). k + 1) p.size; same = ap (λ (t : List Bool). t ++ y) p.same ∙ ap (λ (t : List Bool). xs ++ t) q }) u.read
-      (read_front (λ bs. bs ≡ b ∷ []) 1 now new (bits_room n i xs old now h u) moved (sym e));
+      (reads_passed (λ bs. bs ≡ b ∷ []) 1 now new (bits_room n i xs old now h u) moved (sym e));
   room = u.room;
 }
 
@@ -181,11 +158,11 @@ pub view_text : (leaf : TextLeaf) → form_of (TextBody leaf) ≡ text leaf
 view_text leaf = search (rules, node_lemmas)
 
 pub octets_read : (root : Grammar) (sizing : Sizing) (n : ℕ) (os : List ℕ) (t : Env) (a b c : Reading) → Passes (λ env. SizePart sizing env n) t a b → Reads (AreOctets n os) b c → Passes (λ env. FormPart root Any (octets sizing) env (octet_string os)) t a c
-octets_read root sizing n os t a b c p q = both_read (λ bs. (env : Env) → Follows t env → SizePart sizing env n a.at bs) (AreOctets n os) (λ bs. (env : Env) → Follows t env → FormPart root Any (octets sizing) env (octet_string os) a.at bs) a b c
+octets_read root sizing n os t a b c p q = reads_join (λ bs. (env : Env) → Follows t env → SizePart sizing env n a.at bs) (AreOctets n os) (λ bs. (env : Env) → Follows t env → FormPart root Any (octets sizing) env (octet_string os) a.at bs) a b c
     (λ x y s o env f. record { front = x; back = y; whole = refl; first = subst (λ (m : ℕ). SizePart sizing env m a.at x) (sym o.size) (s env f); second = record { given = o.octets; spelled = o.same } }) p q
 
 pub bits_read : (root : Grammar) (sizing : Sizing) (n : ℕ) (xs : List Bool) (t : Env) (a b c : Reading) → Passes (λ env. SizePart sizing env n) t a b → Reads (AreBits n xs) b c → Passes (λ env. FormPart root Any (bits sizing) env (bit_string xs)) t a c
-bits_read root sizing n xs t a b c p q = both_read (λ bs. (env : Env) → Follows t env → SizePart sizing env n a.at bs) (AreBits n xs) (λ bs. (env : Env) → Follows t env → FormPart root Any (bits sizing) env (bit_string xs) a.at bs) a b c
+bits_read root sizing n xs t a b c p q = reads_join (λ bs. (env : Env) → Follows t env → SizePart sizing env n a.at bs) (AreBits n xs) (λ bs. (env : Env) → Follows t env → FormPart root Any (bits sizing) env (bit_string xs) a.at bs) a b c
     (λ x y s o env f. record { front = x; back = y; whole = refl; first = subst (λ (m : ℕ). SizePart sizing env m a.at x) (sym o.size) (s env f); second = o.same }) p q
 
 parts_short : (each : ℕ) (sizing : Sizing) (n : ℕ) (t : Env) (a b : Reading) → (p : Passes (λ env. SizePart sizing env n) t a b) → length b.rest < each * n → (here : Here) (env : Env) → Follows t env → PartsFail here each sizing env a.at a.rest (fault_here here short) (length p.front + length b.rest)

@@ -16,6 +16,7 @@ use Rattle.acn_grammar.specs.View.{data_of}
 use Rattle.acn_grammar.specs.declared.node.SizeRule.{SizeRule}
 use Rattle.acn_grammar.specs.declared.node.SizeRule.TheVariants.{Prefix, Slot, Ended}
 use Rattle.acn_grammar.specs.declared.value.Value.{Text as TextValue, the_lemmas as value_lemmas}
+use Rattle.acn_grammar.proofs.TextRules.{text_rules, end_rules}
 use Rattle.acn_plain_read.proofs.StringReads.{says_on}
 use Rattle.acn_grammar.specs.Spell.{FormPart}
 use Rattle.acn_grammar.specs.declared.node.TextLeaf.{TextLeaf}
@@ -38,14 +39,7 @@ pub text_fails : (leaf : TextLeaf) (given : Option ℕ) (t : Env) (a : Reading) 
 text_fails leaf given t a r s n = record { reach = n.reach; fails = λ root here origin env f. n.fails here env a.at (says_on leaf.sized.rule given t env f s) }
 
 pub text_sizes : (leaf : TextLeaf) → IsTrue (text_fine leaf) → IsTrue (sizes_fine leaf.sized.sizes)
-text_sizes leaf h = (and_parts (sizes_fine leaf.sized.sizes) (nat_lt 0 (length leaf.alphabet) && (are_ranges leaf.alphabet && (all_within (pos 0) (pos 127) leaf.alphabet && end_fine leaf.ended leaf))) h).0
-
-text_end : (leaf : TextLeaf) → IsTrue (text_fine leaf) → end_fine leaf.ended leaf ≡ true
-text_end leaf h =
-    let a = and_parts (sizes_fine leaf.sized.sizes) (nat_lt 0 (length leaf.alphabet) && (are_ranges leaf.alphabet && (all_within (pos 0) (pos 127) leaf.alphabet && end_fine leaf.ended leaf))) h in
-    let b = and_parts (nat_lt 0 (length leaf.alphabet)) (are_ranges leaf.alphabet && (all_within (pos 0) (pos 127) leaf.alphabet && end_fine leaf.ended leaf)) a.1 in
-    let c = and_parts (are_ranges leaf.alphabet) (all_within (pos 0) (pos 127) leaf.alphabet && end_fine leaf.ended leaf) b.1 in
-    (and_parts (all_within (pos 0) (pos 127) leaf.alphabet) (end_fine leaf.ended leaf) c.1).1
+text_sizes leaf h = (text_rules leaf h).sizes
 
 pub text_not_given : (leaf : TextLeaf) (t : Env) (a : Reading) (r : Reason) → IsTrue (text_fine leaf) → NotGiven leaf.sized t r → NoForm (text leaf) t a r
 text_not_given leaf t a r fine n = record { reach = 0; fails = λ root here origin env f. by leaf.ended refl here env f }
@@ -57,4 +51,4 @@ text_not_given leaf t a r fine n = record { reach = 0; fails = λ root here orig
 
     by : (o : Option (List Bool)) → leaf.ended ≡ o → (here : Here) (env : Env) → Follows t env → TextFails here leaf.ended leaf env a.at a.rest (fault_here here r) 0
     by None e here env f = subst (λ (o : Option (List Bool)). TextFails here o leaf env a.at a.rest (fault_here here r) 0) (sym e) (inl (n.fails here env a.at a.rest f))
-    by (Some end) e here env f = absurd (no_slot leaf.sized.rule end n.rule (and_parts (no_size leaf.sized.rule) (nat_eq leaf.width 8 && (not leaf.indexed && is_terminator end)) (ap (λ (o : Option (List Bool)). end_fine o leaf) (sym e) ∙ text_end leaf fine)).0)
+    by (Some end) e here env f = absurd (no_slot leaf.sized.rule end n.rule (end_rules leaf end (ap (λ (o : Option (List Bool)). end_fine o leaf) (sym e) ∙ (text_rules leaf fine).end)).rule)

@@ -11,7 +11,7 @@ use Rattle.acn_grammar.specs.Grammar.{Grammar, Data}
 use Rattle.acn_grammar.specs.LeafFails.{Reason}
 use Rattle.acn_grammar.specs.Spell.{Spell}
 use Rattle.acn_plain_read.specs.Decoded.{Follows, Within, NodeStands, NodeRead, NodeStops}
-use Rattle.acn_plain_read.specs.Sound.{Sound}
+use Rattle.acn_grammar.specs.Sound.{Sound}
 
 -- the reader at the front of an input
 abbrev pub begins : List Bool → Reading

@@ -21,9 +21,9 @@ use Rattle.acn_grammar.specs.Env.{Holds, AllHold}
 use Rattle.acn_grammar.specs.Scoped.{TestIn, TestsIn}
 use Rattle.acn_grammar.specs.declared.node.Test.{Test}
 use Rattle.acn_grammar.specs.declared.node.Test.TheVariants.{Flag, Equals}
-use Rattle.acn_grammar.proofs.LeafLengths.{eq_fact}
+use Rattle.acn_grammar.proofs.WholeTests.{eq_fact}
 use Rattle.acn_plain_read.specs.Present.{BitThere, is_number, holds_now, all_hold_now, there_now}
-use Rattle.acn_plain_read.specs.Sound.{PresenceSound, NothingLeavesIt}
+use Rattle.acn_grammar.specs.Sound.{PresenceSound, NothingLeavesIt}
 use Rattle.acn_plain_read.proofs.Homes.{left_of, left_at, left_home, left_fine, left_within, in_more, in_rest, at_home, home_follows, home_grows}
 use Rattle.acn_plain_read.proofs.Nodes.{here_stops, form_within}
 

@@ -14,7 +14,7 @@ use Rattle.acn_grammar.specs.Scoped.{Known, after, form_after, fields_after}
 use Rattle.acn_grammar.specs.Slots.{domain_of}
 use Rattle.acn_grammar.specs.Spell.{Part, RunPart, Spell, FormPart, FieldsPart}
 use Rattle.acn_grammar.specs.Tree.{holds}
-use Rattle.acn_plain_read.specs.Sound.{Sound, FormSound, FieldsSound, AlternativesSound, NothingLeaves}
+use Rattle.acn_grammar.specs.Sound.{Sound, FormSound, FieldsSound, AlternativesSound, NothingLeaves}
 use Rattle.acn_grammar.specs.declared.node.Sizing.{Sizing}
 use Rattle.acn_plain_read.specs.declared.stop.Stop.{Stop}
 use Rattle.acn_plain_read.specs.declared.stop.Stop.TheVariants.{Fails as Failed, NoMemory}

@@ -2,5 +2,4 @@ pub mod Answers
 pub mod Choices
 pub mod Decoded
 pub mod Present
-pub mod Sound
 pub mod Steps

@@ -9,7 +9,7 @@ ghost use Rattle.acn_grammar.specs.ItemsNamed.{ItemsNamed};
 ghost use Rattle.acn_grammar.specs.View.{grammar_of, data_of};
 ghost use Rattle.acn_plain_read.specs.Answers.{Refuses};
 ghost use Rattle.acn_plain_read.specs.Decoded.{Tells};
-ghost use Rattle.acn_plain_read.specs.Sound.{Sound};
+ghost use Rattle.acn_grammar.specs.Sound.{Sound};
 
 use crate::read::read_node;
 use crate::stop::Stop;
