@@ -1,4 +1,5 @@
 mod ChoiceReads
+mod EndReads
 mod Homes
 mod Loops
 mod Nodes

@@ -28,11 +28,11 @@ in_front_more : (a b : List Data) (es : Elements) → in_front (a ++ b) es ≡ i
 in_front_more [] b es = refl
 in_front_more (d ∷ a) b es = ap (element d) (in_front_more a b es)
 
-in_front_all : (a : List Data) → in_front a no_elements ≡ elements_of a
+pub in_front_all : (a : List Data) → in_front a no_elements ≡ elements_of a
 in_front_all [] = refl
 in_front_all (d ∷ a) = ap (element d) (in_front_all a)
 
-count_elements : (a : List Data) → element_count (elements_of a) ≡ length a
+pub count_elements : (a : List Data) → element_count (elements_of a) ≡ length a
 count_elements [] = refl
 count_elements (d ∷ a) = ap suc (count_elements a)
 

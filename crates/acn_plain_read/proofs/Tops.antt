@@ -17,7 +17,7 @@ use Rattle.acn_grammar.specs.Sound.{Sound}
 abbrev pub begins : List Bool → Reading
 begins input = record { rest = input; at = 0; origin = 0 }
 
-take_whole : (xs : List Bool) (n : ℕ) → length xs ≤ n → take n xs ≡ xs
+pub take_whole : (xs : List Bool) (n : ℕ) → length xs ≤ n → take n xs ≡ xs
 take_whole [] zero h = refl
 take_whole [] (suc n) h = refl
 take_whole (x ∷ xs) zero h = absurd (omega (arith, h))

@@ -3,6 +3,7 @@
 
 mod choices;
 mod decode;
+mod ends;
 mod leaves;
 mod numbers;
 mod presence;

@@ -1,16 +1,21 @@
 //! The walk.
 
-ghost use Rattle.std.specs.Prelude.{◌≡◌, ◌<◌, ◌≤◌, ◌+◌, ◌^◌, ℕ, suc, ◌∷◌, [], ◌++◌, List, Option, Some, None, IfOk, IfErr, OnOk, IsTrue, length, map, option_map};
+ghost use Rattle.std.specs.Prelude.{◌≡◌, ◌<◌, ◌≤◌, ◌+◌, ◌^◌, ℕ, suc, ◌∷◌, [], ◌++◌, List, Bool, Option, Some, None, IfOk, IfErr, OnOk, IsTrue, length, map, option_map};
 ghost use Rattle.acn_grammar.specs.Fails.{presence_count};
 ghost use Rattle.acn_grammar.specs.Grammar.{Grammar, Fields, Data, component, inserted, no_fields, list, choice, contained};
 ghost use Rattle.acn_grammar.specs.ItemsNamed.{ItemsNamed, FormItemsNamed, FieldsItemsNamed, AlternativesItemsNamed, field_items_named};
 ghost use Rattle.acn_grammar.specs.View.{grammar_of, form_of, data_of, field_of, fields_view, with_field, alternatives_view};
 ghost use Rattle.acn_grammar.specs.declared.node.Body.TheVariants.{Seq as Seq_body};
 ghost use Rattle.acn_num.specs.declared.limits.TheConstants.{MOST_SIZE};
+ghost use Rattle.acn_num.specs.Ranges.{greatest};
+ghost use Rattle.acn_grammar.specs.Interval.{size_of};
+ghost use Rattle.acn_grammar.specs.declared.node.SizeRule.TheVariants.{Ended};
 ghost use Rattle.acn_plain_read.specs.Choices.{grammar_at};
-ghost use Rattle.acn_plain_read.specs.Decoded.{Tells, Fine, NodeStands, FormStands, FieldsStand, InnerStands, CasesStand, RunTurn, TailStops, counted, NodeRead, FormRead, NodeStops, FormStops, Turn, FieldsStop};
+ghost use Rattle.acn_plain_read.specs.Ends.{EndedRead};
+ghost use Rattle.acn_plain_read.specs.Decoded.{Tells, Fine, NodeStands, FormStands, FieldsStand, InnerStands, CasesStand, RunTurn, TailStops, counted, ended, NodeRead, FormRead, NodeStops, FormStops, Turn, FieldsStop};
 
 use crate::choices::pick;
+use crate::ends::{most_of, no_end, pass_end, pattern_of, stands};
 use crate::leaves::{named, read_leaf};
 use crate::numbers::{note, without};
 use crate::presence::{count_of, is_there};
@@ -22,7 +27,7 @@ use crate::strings::{read_bits, read_octets};
 use crate::texts::read_text;
 use acn_bits::ReadCursor;
 use acn_grammar::{
-    Alternative, Body, ChoiceRule, Field, Node, Presence, ReadFault, Reason, Seq, Sizing, Value,
+    Alternative, Body, ChoiceRule, Field, Node, Pattern, Presence, ReadFault, Reason, Seq, Sizing, Value,
 };
 use acn_num::{Boxed, Path, Row};
 use std::alloc::Global;
@@ -380,7 +385,7 @@ fn read_list(
     ensures path { OnOk result (path.new ≡ path.old) }
 {
     if is_ended(&sizing.rule) {
-        return Err(Stop::NoMemory);
+        return read_ended(alloc, node, sizing, root, cur, slots, path, inside, from);
     }
     match read_size(cur, sizing, slots.items(), inside, from) {
         Ok(n) => match read_run(alloc, node, n, root, cur, slots, path, inside) {
@@ -419,6 +424,88 @@ fn read_run(
         }
     }
     Ok(values)
+}
+
+#[cycle(read)]
+fn read_ended(
+    alloc: Global,
+    node: &Node,
+    sizing: &Sizing,
+    root: &Node,
+    cur: &mut ReadCursor<'_>,
+    slots: &mut Row<(u32, i128)>,
+    path: &mut Path,
+    inside: bool,
+    from: u64,
+) -> Result<Value, Stop>
+    requires ended { (p : List Bool) × (sizing.now.rule ≡ Ended p) }
+    requires ready { (around : List ℕ) × FormStands (grammar_of root.now) (length path.old) (list sizing.now (grammar_of node.now)) slots.old around }
+    requires named { ItemsNamed (grammar_of node.now) }
+    requires fine { Fine (grammar_of root.now) slots.old }
+    ensures read { IfOk result (λ v. FormRead (grammar_of root.now) (list sizing.now (grammar_of node.now)) (data_of v) slots.old slots.new cur.old cur.new) }
+    ensures fails { IfErr result (λ e. Tells e (FormStops (grammar_of root.now) (list sizing.now (grammar_of node.now)) (record { path = path.old; place = from; inside = inside }) cur.old.origin slots.old cur.old path.new)) }
+    ensures path { OnOk result (path.new ≡ path.old) }
+{
+    match read_elements(
+        alloc,
+        node,
+        pattern_of(&sizing.rule),
+        sizing,
+        root,
+        cur,
+        slots,
+        path,
+        inside,
+        from,
+    ) {
+        Ok(values) => Ok(Value::List(values)),
+        Err(stop) => Err(stop),
+    }
+}
+
+// Elements up to the pattern, which is passed.
+#[cycle(read)]
+fn read_elements(
+    alloc: Global,
+    node: &Node,
+    end: &Pattern,
+    sizing: &Sizing,
+    root: &Node,
+    cur: &mut ReadCursor<'_>,
+    slots: &mut Row<(u32, i128)>,
+    path: &mut Path,
+    inside: bool,
+    from: u64,
+) -> Result<Row<Value>, Stop>
+    requires ready { (around : List ℕ) × InnerStands (grammar_of root.now) (suc (length path.old)) (grammar_of node.now) slots.old around }
+    requires named { ItemsNamed (grammar_of node.now) }
+    requires fine { Fine (grammar_of root.now) slots.old }
+    ensures read { IfOk result (λ values. EndedRead (grammar_of root.now) inside path.old cur.old.origin (grammar_of node.now) end.now sizing.now (map data_of values) slots.old slots.new cur.old cur.new) }
+    ensures fails { IfErr result (λ e. Tells e (TailStops (grammar_of root.now) (ended end.now sizing.now) (record { path = path.old; place = from; inside = inside }) cur.old.origin (grammar_of node.now) (size_of (greatest sizing.now.sizes)) 0 slots.old cur.old path.new)) }
+    ensures path { OnOk result (path.new ≡ path.old) }
+{
+    let most = most_of(sizing);
+    let mut values = Row::new(alloc);
+    for i in 0..most {
+        if stands(cur, end) {
+            match pass_end(cur, end, sizing, i, inside, from) {
+                Ok(()) => return Ok(values),
+                Err(stop) => return Err(stop),
+            }
+        }
+        match read_child(alloc, node, i as u32, root, cur, slots, path, inside) {
+            Ok(value) => values.push(value)?,
+            Err(stop) => return Err(stop),
+        }
+    }
+    if stands(cur, end) {
+        match pass_end(cur, end, sizing, most, inside, from) {
+            Ok(()) => Ok(values),
+            Err(stop) => Err(stop),
+        }
+    } else {
+        Err(no_end(cur, end, inside, from))
+    }
 }
 
 #[cycle(read)]

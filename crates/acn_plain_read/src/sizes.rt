@@ -1,12 +1,13 @@
 //! Sizes of strings and lists.
 
-ghost use Rattle.std.specs.Prelude.{◌≡◌, ◌≤◌, ◌^◌, ◌<ℤ◌, ℕ, ℤ, pos, None, Some, false, IsTrue, IfOk, IfErr};
+ghost use Rattle.std.specs.Prelude.{◌≡◌, ◌≤◌, ◌^◌, ◌<ℤ◌, ℕ, ℤ, pos, None, Some, true, false, List, Bool, IsTrue, IfOk, IfErr};
 ghost use Rattle.acn_num.specs.Ranges.{In};
 ghost use Rattle.acn_num.specs.declared.limits.TheConstants.{MOST_SIZE};
 ghost use Rattle.acn_grammar.specs.Fails.{kept};
 ghost use Rattle.acn_grammar.specs.LeafFails.{size_out_of_range};
 ghost use Rattle.acn_grammar.specs.Length.{ending};
 ghost use Rattle.acn_grammar.specs.Leaves.{sizes_fine, sizing_fine};
+ghost use Rattle.acn_grammar.specs.declared.node.SizeRule.TheVariants.{Ended};
 ghost use Rattle.acn_grammar.specs.ReadFaults.{reason_of};
 ghost use Rattle.acn_grammar.specs.Spell.{SizePart};
 ghost use Rattle.acn_text.specs.Texts.{IsGiven, SlotSays};
@@ -97,7 +98,8 @@ pub fn read_size(
 
 /// Whether a pattern ends the list.
 pub fn is_ended(rule: &SizeRule) -> bool
-    ensures { result ≡ false → ending rule.now ≡ None }
+    ensures sized { result ≡ false → ending rule.now ≡ None }
+    ensures ended { result ≡ true → (p : List Bool) × (rule.now ≡ Ended p) }
 {
     match rule {
         SizeRule::Prefix { .. } => false,

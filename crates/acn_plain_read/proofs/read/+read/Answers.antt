@@ -17,6 +17,7 @@ use Rattle.acn_grammar.specs.declared.node.Alternative.{the_lemmas as alternativ
 use Rattle.acn_grammar.specs.declared.value.Value.{Alt as AltValue}
 use Rattle.acn_grammar.specs.Grammar.{Form, choice}
 use Rattle.acn_grammar.specs.View.{alternatives_view}
+use Rattle.acn_plain_read.proofs.EndReads.{end_stops_to, none_stops_to, next_fails_to, ended_list, ended_fails}
 use Rattle.acn_plain_read.proofs.SlotTurns.{component_read}
 use Rattle.acn_grammar.specs.Grammar.{octets, bits, text}
 use Rattle.acn_plain_read.proofs.StringReads.{octets_rule, bits_rule, text_rule, view_octets, view_bits, view_text, form_passed_at, form_fails_at}
@@ -261,7 +262,7 @@ read_contained-returns-in-Err-clause-fails t c =
 
 pub read_list-read_size-requires : goal.read_list-read_size-requires
 read_list-read_size-requires t c =
-    let none = c.is_ended.ensures c.if-is_ended.false in
+    let none = c.is_ended.ensures.sized c.if-is_ended.false in
     record { fine = list_sizing (grammar_of c.args.root.now) c.args.sizing.now (grammar_of c.args.node.now) (length c.args.path.now) c.args.slots.now none c.requires.ready; read = list_rule (grammar_of c.args.root.now) c.args.sizing.now (grammar_of c.args.node.now) (length c.args.path.now) c.args.slots.now c.items.result.now c.items.ensures c.requires.ready c.requires.fine }
 
 pub read_list-read_run-requires : goal.read_list-read_run-requires
@@ -269,19 +270,19 @@ read_list-read_run-requires t c = (search (rules, the_lemmas), (c.in-Ok.ensures.
 
 pub read_list-returns-in-Ok-read_run-clause-read : goal.read_list-returns-in-Ok-read_run-clause-read
 read_list-returns-in-Ok-read_run-clause-read t c =
-    let none = c.is_ended.ensures c.if-is_ended.false in
+    let none = c.is_ended.ensures.sized c.if-is_ended.false in
     let r = c.in-Ok-read_run.ensures.read c.args.from in
     subst (λ (d : Data). FormRead (grammar_of c.args.root.now) (list c.args.sizing.now (grammar_of c.args.node.now)) d c.args.slots.now c.read_run.new.slots c.args.cur.now c.read_run.new.cur) (sym (view_list_value c.in-Ok-read_run.values))
     (list_read (grammar_of c.args.root.now) (record { path = c.args.path.now; place = c.args.from; inside = c.args.inside }) c.read_size.new.cur.origin c.args.sizing.now (grammar_of c.args.node.now) c.in-Ok.n (map data_of c.in-Ok-read_run.values) c.args.slots.now c.read_run.new.slots c.items.result.now c.args.cur.now c.read_size.new.cur c.read_run.new.cur none c.items.ensures c.in-Ok.ensures.read (mapped_length c.in-Ok-read_run.values ∙ r.0) r.1)
 
 pub read_list-returns-in-Err-read_run-clause-fails : goal.read_list-returns-in-Err-read_run-clause-fails
 read_list-returns-in-Err-read_run-clause-fails t c =
-    let none = c.is_ended.ensures c.if-is_ended.false in
+    let none = c.is_ended.ensures.sized c.if-is_ended.false in
     tells_map c.in-Err-read_run.stop _ _ (λ q at s. list_fails (grammar_of c.args.root.now) (record { path = c.args.path.now; place = c.args.from; inside = c.args.inside }) c.read_size.new.cur.origin c.args.sizing.now (grammar_of c.args.node.now) c.in-Ok.n c.args.slots.now c.items.result.now c.args.cur.now c.read_size.new.cur _ q at none c.items.ensures c.in-Ok.ensures.read (s c.args.from)) c.in-Err-read_run.ensures.fails
 
 pub read_list-returns-in-Err-clause-fails : goal.read_list-returns-in-Err-clause-fails
 read_list-returns-in-Err-clause-fails t c =
-    let none = c.is_ended.ensures c.if-is_ended.false in
+    let none = c.is_ended.ensures.sized c.if-is_ended.false in
     tells_map c.in-Err.stop _ _ (λ q at s. list_unsized (grammar_of c.args.root.now) (record { path = c.args.path.now; place = c.args.from; inside = c.args.inside }) c.args.sizing.now (grammar_of c.args.node.now) c.args.slots.now c.items.result.now c.args.cur.now q at none c.items.ensures c.requires.fine s) c.in-Err.ensures.fails
 
 pub read_run-loop-i-init : goal.read_run-loop-i-init
@@ -402,3 +403,71 @@ read_body-returns-in-Text-clause-read t c = form_passed_at (grammar_of c.args.ro
 
 pub read_body-returns-in-Text-clause-fails : goal.read_body-returns-in-Text-clause-fails
 read_body-returns-in-Text-clause-fails t c = form_fails_at (grammar_of c.args.root.now) (text c.in-Text.leaf) (form_of c.args.body.now) (record { path = c.args.path.now; place = c.args.from; inside = c.args.inside }) c.args.slots.now c.items-in-Text.result.now c.args.cur.now c.read_text.result (ap form_of c.in-Text.is ∙ view_text c.in-Text.leaf) c.items-in-Text.ensures c.requires.fine c.read_text.ensures.fails
+
+pub read_elements-loop-i-init : goal.read_elements-loop-i-init
+read_elements-loop-i-init t c = record {
+  path = refl;
+  count = ap length c.new-values.ensures;
+  turn = λ place. rw c.new-values.ensures (no_run (grammar_of c.args.root.now) (record { path = c.args.path.now; place = place; inside = c.args.inside }) c.args.cur.now.origin (grammar_of c.args.node.now) 0 c.args.slots.now c.args.cur.now c.requires.fine);
+}
+
+pub read_elements-read_child-requires : goal.read_elements-read_child-requires
+read_elements-read_child-requires t c =
+    let l = c.loop-i in
+    let p = l.invariant.turn 0 in (
+      search (rules, the_lemmas),
+      (
+        subst (λ (path : List ℕ). (around : List ℕ) × InnerStands (grammar_of c.args.root.now) (suc (length path)) (grammar_of c.args.node.now) l.slots around) (sym l.invariant.path)
+            (run_stands (grammar_of c.args.root.now) (record { path = c.args.path.now; place = 0; inside = c.args.inside }) c.args.cur.now.origin (grammar_of c.args.node.now) 0 (suc (length c.args.path.now)) (map data_of l.values) c.args.slots.now l.slots c.args.cur.now l.cur p c.requires.ready),
+        (c.requires.named, p.fine),
+      ),
+    )
+
+pub read_elements-loop-i-preserved : goal.read_elements-loop-i-preserved
+read_elements-loop-i-preserved t c =
+    let l = c.loop-i in
+    record {
+      path = c.in-Ok-read_child.ensures.path ∙ l.invariant.path;
+      count = ap length c.in_ok-push-in-Ok-read_child.ensures.ok ∙ (length-append l.values (c.in-Ok-read_child.value ∷ []) ∙ ap (λ (n : ℕ). n + 1) l.invariant.count);
+      turn = λ place. run_next (grammar_of c.args.root.now) place c.args.inside c.args.path.now l.path c.args.cur.now.origin (grammar_of c.args.node.now) (map data_of l.values) (data_of c.in-Ok-read_child.value) (map data_of c.push.new.self) c.args.slots.now l.slots c.read_child.new.slots c.args.cur.now l.cur c.read_child.new.cur (ap (map data_of) c.in_ok-push-in-Ok-read_child.ensures.ok ∙ map-append data_of l.values (c.in-Ok-read_child.value ∷ [])) (l.invariant.turn place) c.in-Ok-read_child.ensures.read;
+    }
+
+pub read_ended-read_elements-requires : goal.read_ended-read_elements-requires
+read_ended-read_elements-requires t c = (search (rules, the_lemmas), (list_inner (grammar_of c.args.root.now) c.args.sizing.now (grammar_of c.args.node.now) (length c.args.path.now) c.args.slots.now c.requires.ready, (c.requires.named, c.requires.fine)))
+
+pub read_ended-returns-in-Ok-clause-read : goal.read_ended-returns-in-Ok-clause-read
+read_ended-returns-in-Ok-clause-read t c =
+    subst (λ (d : Data). FormRead (grammar_of c.args.root.now) (list c.args.sizing.now (grammar_of c.args.node.now)) d c.args.slots.now c.read_elements.new.slots c.args.cur.now c.read_elements.new.cur) (sym (view_list_value c.in-Ok.values))
+      (ended_list (grammar_of c.args.root.now) c.args.inside c.args.path.now c.args.sizing.now (grammar_of c.args.node.now) c.pattern_of.result.now (map data_of c.in-Ok.values) c.args.slots.now c.read_elements.new.slots c.args.cur.now c.read_elements.new.cur c.pattern_of.ensures c.in-Ok.ensures.read)
+
+pub read_ended-returns-in-Err-clause-fails : goal.read_ended-returns-in-Err-clause-fails
+read_ended-returns-in-Err-clause-fails t c =
+    tells_map c.in-Err.stop _ _ (λ q at s. ended_fails (grammar_of c.args.root.now) (record { path = c.args.path.now; place = c.args.from; inside = c.args.inside }) c.args.sizing.now (grammar_of c.args.node.now) c.pattern_of.result.now c.args.slots.now c.args.cur.now _ q at c.pattern_of.ensures s) c.in-Err.ensures.fails
+
+pub read_elements-returns-in-Err-clause-fails : goal.read_elements-returns-in-Err-clause-fails
+read_elements-returns-in-Err-clause-fails t c =
+    let l = c.loop-i in
+    let less = c.loop-i-test.true in
+    tells_map c.in-Err.stop _ _ (λ q at s. end_stops_to (grammar_of c.args.root.now) c.args.from c.args.inside c.args.path.now l.path c.args.cur.now.origin (grammar_of c.args.node.now) c.args.end.now c.args.sizing.now c.most_of-most.result _ l.i (map data_of l.values) c.args.slots.now l.slots c.args.cur.now l.cur q at c.most_of-most.ensures.most l.invariant.path (mapped_length l.values ∙ l.invariant.count) (omega (arith, less)) (l.invariant.turn c.args.from) s) c.in-Err.ensures.fails
+
+pub read_elements-returns-in-Err-read_child-clause-fails : goal.read_elements-returns-in-Err-read_child-clause-fails
+read_elements-returns-in-Err-read_child-clause-fails t c =
+    let l = c.loop-i in
+    tells_map c.in-Err-read_child.stop _ _ (λ q at s. next_fails_to (grammar_of c.args.root.now) c.args.from c.args.inside c.args.path.now l.path c.args.cur.now.origin (grammar_of c.args.node.now) c.args.end.now c.args.sizing.now c.most_of-most.result _ l.i (map data_of l.values) c.args.slots.now l.slots c.args.cur.now l.cur _ q at c.most_of-most.ensures.most (l.invariant.turn c.args.from).window (mapped_length l.values ∙ l.invariant.count) c.loop-i-test.true l.invariant.path (c.stands.ensures.away c.if-stands.false) (l.invariant.turn c.args.from) s) c.in-Err-read_child.ensures.fails
+
+pub read_elements-returns-in-Err-pass_end-clause-fails : goal.read_elements-returns-in-Err-pass_end-clause-fails
+read_elements-returns-in-Err-pass_end-clause-fails t c =
+    let l = c.loop-i in
+    let over = c.loop-i-test.false in
+    let within = l.auto.i-end in
+    let count : length (map data_of l.values) ≡ c.most_of-most.result = mapped_length l.values ∙ (l.invariant.count ∙ omega (arith, over, within)) in
+    tells_map c.in-Err-pass_end.stop _ _ (λ q at s. end_stops_to (grammar_of c.args.root.now) c.args.from c.args.inside c.args.path.now l.path c.args.cur.now.origin (grammar_of c.args.node.now) c.args.end.now c.args.sizing.now c.most_of-most.result _ c.most_of-most.result (map data_of l.values) c.args.slots.now l.slots c.args.cur.now l.cur q at c.most_of-most.ensures.most l.invariant.path count (omega arith) (l.invariant.turn c.args.from) s) c.in-Err-pass_end.ensures.fails
+
+pub read_elements-returns-else-stands-2-clause-fails : goal.read_elements-returns-else-stands-2-clause-fails
+read_elements-returns-else-stands-2-clause-fails t c =
+    let l = c.loop-i in
+    let over = c.loop-i-test.false in
+    let within = l.auto.i-end in
+    let count : length (map data_of l.values) ≡ c.most_of-most.result = mapped_length l.values ∙ (l.invariant.count ∙ omega (arith, over, within)) in
+    tells_map c.no_end.result _ _ (λ q at s. none_stops_to (grammar_of c.args.root.now) c.args.from c.args.inside c.args.path.now l.path c.args.cur.now.origin (grammar_of c.args.node.now) c.args.end.now c.args.sizing.now c.most_of-most.result _ (map data_of l.values) c.args.slots.now l.slots c.args.cur.now l.cur q at c.most_of-most.ensures.most l.invariant.path count (l.invariant.turn c.args.from) s) c.no_end.ensures
+

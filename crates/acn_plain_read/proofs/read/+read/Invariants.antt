@@ -17,3 +17,10 @@ invariant-read_run-loop-i l = record {
   count : length l.values ≡ l.i;
   turn : (place : ℕ) → RunTurn (grammar_of l.root) (record { path = l.fn.path; place = place; inside = l.inside }) l.fn.cur.origin (grammar_of l.node) 0 (map data_of l.values) l.fn.slots l.slots l.fn.cur l.cur;
 }
+
+abbrev pub invariant-read_elements-loop-i : goal.invariant-read_elements-loop-i
+invariant-read_elements-loop-i l = record {
+  path : l.path ≡ l.fn.path;
+  count : length l.values ≡ l.i;
+  turn : (place : ℕ) → RunTurn (grammar_of l.root) (record { path = l.fn.path; place = place; inside = l.inside }) l.fn.cur.origin (grammar_of l.node) 0 (map data_of l.values) l.fn.slots l.slots l.fn.cur l.cur;
+}
