@@ -1,5 +1,5 @@
 -- Lists that a pattern ends.
-use Rattle.std.proofs.Common.{◌≡◌, ◌≢◌, ℕ, zero, suc, ◌+◌, ◌-◌, ◌<◌, ◌≤◌, max, pos, Bool, true, false, List, [], ◌∷◌, ◌++◌, length, map, take, drop, Option, Some, None, refl, sym, ap, ◌∙◌, arith, inl, inr, ◌⊎◌, subst, append_assoc, length-append, take-append-drop, append-nil}
+use Rattle.std.proofs.Common.{◌≡◌, ℕ, zero, suc, ◌+◌, ◌-◌, ◌<◌, ◌≤◌, max, pos, Bool, List, [], ◌∷◌, ◌++◌, length, take, drop, Option, refl, sym, ap, ◌∙◌, arith, inl, inr, subst, append_assoc, length-append, take-append-drop, append-nil}
 use Rattle.std.proofs.lemmas.List.{length-take-le}
 use Rattle.acn_num.specs.Bits.{number}
 use Rattle.acn_num.specs.Ranges.{In, greatest}
@@ -7,19 +7,17 @@ use Rattle.acn_num.proofs.BitLists.{number_same}
 use Rattle.acn_bits.specs.Reading.{Reading, passed}
 use Rattle.acn_grammar.specs.Code.{Any}
 use Rattle.acn_grammar.specs.Env.{Env}
-use Rattle.acn_grammar.specs.Fails.{Fault, Here, Fails, FormFails, ListFails, EndFails, NoEnd, NextFails}
-use Rattle.acn_grammar.specs.Grammar.{Grammar, Form, Data, Elements, list, list_of, no_elements, element_count}
+use Rattle.acn_grammar.specs.Fails.{Fault, Here, Fails, ListFails, EndFails}
+use Rattle.acn_grammar.specs.Grammar.{Grammar, Data, Elements, list, list_of, no_elements}
 use Rattle.acn_grammar.specs.Interval.{size_of}
 use Rattle.acn_grammar.specs.LeafFails.{Reason, short, too_long, size_out_of_range}
 use Rattle.acn_grammar.specs.Length.{ending}
-use Rattle.acn_grammar.specs.Spell.{ListPart, RunPart, Spell, FormPart}
-use Rattle.acn_grammar.specs.Sound.{NothingLeaves, Sound}
+use Rattle.acn_grammar.specs.Spell.{ListPart, RunPart, Spell}
 use Rattle.acn_grammar.specs.View.{elements_of}
-use Rattle.acn_grammar.specs.declared.node.SizeRule.{SizeRule}
 use Rattle.acn_grammar.specs.declared.node.SizeRule.TheVariants.{Ended}
 use Rattle.acn_grammar.specs.declared.node.Sizing.{Sizing}
 use Rattle.acn_text.specs.Texts.{fault_here}
-use Rattle.acn_plain_read.specs.Decoded.{Follows, Within, Noted, FormStands, InnerStands, FormRead, NodeStops, FormStops, Stops, Tail, ended, TailFails, TailStops, RunTurn, in_front}
+use Rattle.acn_plain_read.specs.Decoded.{Follows, InnerStands, FormRead, NodeStops, FormStops, Stops, Tail, ended, TailFails, TailStops, RunTurn, in_front}
 use Rattle.acn_plain_read.specs.Ends.{Unpermitted, Unended, EndedRead}
 use Rattle.acn_plain_read.specs.Steps.{Named}
 use Rattle.acn_plain_read.proofs.Nodes.{noted_within}
@@ -67,9 +65,9 @@ module _ (root : Grammar) where
   end_stops place inside path path' origin g p sizing n i done t t' a b r at e count less run q =
       let here : Here = record { path = path; place = place; inside = inside } in
       subst (λ (x : Fault). Stops root (λ around. (depth : ℕ) × InnerStands root depth g t around) (λ env. TailFails root (ended p sizing) (record { path = path; place = place; inside = inside }) origin g env n 0) t a x) (sym (says q))
-        (tail_stops (record { path = path; place = place; inside = inside }) origin g (ended p sizing) n (n - i) done t t' a b (fault_here (record { path = path; place = place; inside = inside }) q.1.0) q.1.2.reach (omega (arith, count, less)) run
-          (λ env f. subst (λ (k : ℕ). TailFails root (ended p sizing) (record { path = path; place = place; inside = inside }) origin g env (n - i) k b.at b.rest (fault_here (record { path = path; place = place; inside = inside }) q.1.0) q.1.2.reach) (omega (arith, count))
-            (end_fails (record { path = path; place = place; inside = inside }) origin g p sizing env (n - i) i b.at b.rest (fault_here (record { path = path; place = place; inside = inside }) q.1.0) q.1.2.reach (q.1.2.fails (record { path = path; place = place; inside = inside }) b.at))))
+      (tail_stops (record { path = path; place = place; inside = inside }) origin g (ended p sizing) n (n - i) done t t' a b (fault_here (record { path = path; place = place; inside = inside }) q.1.0) q.1.2.reach (omega (arith, count, less)) run
+      (λ env f. subst (λ (k : ℕ). TailFails root (ended p sizing) (record { path = path; place = place; inside = inside }) origin g env (n - i) k b.at b.rest (fault_here (record { path = path; place = place; inside = inside }) q.1.0) q.1.2.reach) (omega (arith, count))
+      (end_fails (record { path = path; place = place; inside = inside }) origin g p sizing env (n - i) i b.at b.rest (fault_here (record { path = path; place = place; inside = inside }) q.1.0) q.1.2.reach (q.1.2.fails (record { path = path; place = place; inside = inside }) b.at))))
     where
       says : (q : Named inside place (Unpermitted p sizing i b.rest) r at) → ◌≡◌ {A = Fault} (record { path = path'; reason = r; at = at }) (fault_here (record { path = path; place = place; inside = inside }) q.1.0)
       says q = (let x = q.0 in let y = q.1.1 in rw (x, y, e) refl)
@@ -78,8 +76,8 @@ module _ (root : Grammar) where
       → Named inside place (Unended p b.rest) r at → TailStops root (ended p sizing) (record { path = path; place = place; inside = inside }) origin g n 0 t a path' r at
   none_stops place inside path path' origin g p sizing n done t t' a b r at e count run q =
       subst (λ (x : Fault). Stops root (λ around. (depth : ℕ) × InnerStands root depth g t around) (λ env. TailFails root (ended p sizing) (record { path = path; place = place; inside = inside }) origin g env n 0) t a x) (sym (says q))
-        (tail_stops (record { path = path; place = place; inside = inside }) origin g (ended p sizing) n 0 done t t' a b (fault_here (record { path = path; place = place; inside = inside }) q.1.0) q.1.2.reach (omega (arith, count)) run
-          (λ env f. inr (q.1.2.fails (record { path = path; place = place; inside = inside }) b.at)))
+      (tail_stops (record { path = path; place = place; inside = inside }) origin g (ended p sizing) n 0 done t t' a b (fault_here (record { path = path; place = place; inside = inside }) q.1.0) q.1.2.reach (omega (arith, count)) run
+      (λ env f. inr (q.1.2.fails (record { path = path; place = place; inside = inside }) b.at)))
     where
       says : (q : Named inside place (Unended p b.rest) r at) → ◌≡◌ {A = Fault} (record { path = path'; reason = r; at = at }) (fault_here (record { path = path; place = place; inside = inside }) q.1.0)
       says q = (let x = q.0 in let y = q.1.1 in rw (x, y, e) refl)
@@ -96,9 +94,16 @@ module _ (root : Grammar) where
         reach = length run.front + max (length p) s.reach;
         fails = λ env f.
             subst (λ (x : ℕ). TailFails root (ended p sizing) (record { path = start; place = place; inside = inside }) origin g env x 0 a.at a.rest (record { path = path; reason = r; at = at }) (length run.front + max (length p) s.reach)) (gap n i count less)
-              (run.stops env (s.grown env f) (ended p sizing) (suc (n - suc i)) (record { path = path; reason = r; at = at }) (max (length p) s.reach)
-                (inr (inl (away, (s.reach, subst (λ (x : ℕ). Fails root g env inside origin (start ++ x ∷ []) b.at b.rest (record { path = path; reason = r; at = at }) s.reach) (index count)
-                  (subst (λ (o : ℕ). Fails root g env inside o (start ++ i ∷ []) b.at b.rest (record { path = path; reason = r; at = at }) s.reach) same (s.fails env f)), refl)))));
+            (run.stops env (s.grown env f) (ended p sizing) (suc (n - suc i)) (record { path = path; reason = r; at = at }) (max (length p) s.reach)
+            (inr (inl (
+              away,
+              (
+                s.reach,
+                subst (λ (x : ℕ). Fails root g env inside origin (start ++ x ∷ []) b.at b.rest (record { path = path; reason = r; at = at }) s.reach) (index count)
+                    (subst (λ (o : ℕ). Fails root g env inside o (start ++ i ∷ []) b.at b.rest (record { path = path; reason = r; at = at }) s.reach) same (s.fails env f)),
+                refl,
+              ),
+            ))));
       }
     where
       gap : (n i : ℕ) → length done ≡ i → i < n → length done + suc (n - suc i) ≡ n

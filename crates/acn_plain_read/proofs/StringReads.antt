@@ -1,12 +1,12 @@
 -- Sizes, and octets and bits behind them.
-use Rattle.std.proofs.Common.{◌≡◌, ℕ, ◌+◌, ◌*◌, ◌^◌, ◌<◌, ◌≤◌, ℤ, pos, negsuc, Bool, true, false, List, [], ◌∷◌, ◌++◌, length, take, Option, Some, refl, sym, ap, ◌∙◌, arith, inl, inr, ◌⊎◌, subst, append_assoc, append-nil, length-append, ◌&&◌, IsTrue, rules}
-use Rattle.std.specs.Prelude.{◌≤ℤ◌, nat_lt, int_le}
+use Rattle.std.proofs.Common.{◌≡◌, ℕ, ◌+◌, ◌*◌, ◌^◌, ◌<◌, ◌≤◌, ℤ, pos, negsuc, Bool, true, false, List, [], ◌∷◌, ◌++◌, length, take, Option, Some, refl, sym, ap, ◌∙◌, arith, inl, inr, ◌⊎◌, subst, append-nil, length-append, IsTrue, rules}
+use Rattle.std.specs.Prelude.{nat_lt}
 use Rattle.std.proofs.lemmas.Bool.Decides.{nat_tests}
 use Rattle.std.proofs.lemmas.Int.{ints}
 use Rattle.std.proofs.lemmas.Bool.{and_parts}
 use Rattle.std.proofs.lemmas.List.{length-take-le}
 use Rattle.acn_num.specs.Bits.{number, bits as bits_of, low_bits}
-use Rattle.acn_num.specs.Ranges.{In, has, are_ranges, all_within}
+use Rattle.acn_num.specs.Ranges.{In}
 use Rattle.acn_grammar.proofs.RangeEnds.{lies_within}
 use Rattle.acn_grammar.proofs.TextRules.{size_rules}
 use Rattle.acn_num.specs.declared.limits.TheConstants.{MOST_SIZE}

@@ -1,16 +1,12 @@
 -- Texts, whose characters are collected one by one.
-use Rattle.std.proofs.Common.{nat_eq, not, true, Some, None, inl, rules, ◌≡◌, ℕ, Bool, List, [], ◌∷◌, ◌++◌, length, Option, refl, sym, ap, ◌∙◌, subst, append_assoc, append-nil, IsTrue, ◌&&◌}
+use Rattle.std.proofs.Common.{true, Some, None, inl, rules, ◌≡◌, ℕ, Bool, List, [], ◌∷◌, ◌++◌, Option, refl, sym, ap, ◌∙◌, subst, append_assoc, append-nil, IsTrue}
 use Rattle.std.specs.List.{FoldsTo}
-use Rattle.std.proofs.lemmas.Bool.{and_parts}
-use Rattle.std.specs.Prelude.{nat_lt}
-use Rattle.acn_num.specs.Ranges.{are_ranges, all_within}
-use Rattle.std.proofs.Common.{pos}
 use Rattle.acn_bits.specs.Reading.{Reading, Reads}
 use Rattle.acn_grammar.specs.Code.{Any}
 use Rattle.acn_grammar.specs.Env.{Env}
 use Rattle.acn_grammar.specs.Grammar.{Grammar, text, characters}
 use Rattle.acn_grammar.specs.LeafFails.{Reason}
-use Rattle.acn_grammar.specs.Leaves.{text_fine, sizes_fine, end_fine, no_size, is_terminator}
+use Rattle.acn_grammar.specs.Leaves.{text_fine, sizes_fine, end_fine, no_size}
 use Rattle.acn_grammar.specs.Fails.{Here, TextFails}
 use Rattle.acn_grammar.specs.View.{data_of}
 use Rattle.acn_grammar.specs.declared.node.SizeRule.{SizeRule}

@@ -11,7 +11,12 @@ use Rattle.acn_grammar.specs.Grammar.{Grammar, Data}
 use Rattle.acn_grammar.specs.LeafFails.{Reason}
 use Rattle.acn_grammar.specs.Spell.{Spell}
 use Rattle.acn_plain_read.specs.Decoded.{Follows, Within, NodeStands, NodeRead, NodeStops}
+use Rattle.acn_grammar.specs.Faults.{fault_of}
 use Rattle.acn_grammar.specs.Sound.{Sound}
+use Rattle.acn_grammar.specs.declared.fault.Refuse.{Refuse}
+use Rattle.acn_grammar.specs.declared.fault.Refuse.TheVariants.{Bad, NoMemory}
+use Rattle.acn_packet_laws.specs.Laws.{IsAccepted, OneFront, FrontsExcludeFailures, OneFailure}
+use Rattle.acn_plain_read.specs.Answers.{OnlyFront, OnlyFault, Refuses}
 
 -- the reader at the front of an input
 abbrev pub begins : List Bool → Reading
@@ -57,3 +62,12 @@ module _ (root : Grammar) where
   root_fails input t start a path r at sound none empty begin stops =
       let q : NodeStops root root false [] [] (begins input) path r at = subst (λ (x : Reading). NodeStops root root false [] [] x path r at) begin (subst (λ (x : Env). NodeStops root root false [] x a path r at) none (subst (λ (x : List ℕ). NodeStops root root false x t a path r at) empty stops)) in
       (q.reach, q.fails [] (no_numbers q.read (q.within [] (0, root_stands sound))))
+
+-- By the laws of accepted trees each input has one of both.
+
+pub only_front : (root : Grammar) (input : List Bool) (d : Data) (n : ℕ) → IsAccepted root → OneFront → FrontsExcludeFailures → Front root input d n → OnlyFront root input d n
+only_front root input d n accepted one excludes front = ((λ e m other. one root input e d m n accepted other front), (λ fault reach fails. excludes root input d n fault reach accepted front fails))
+
+pub only_fault : (root : Grammar) (input : List Bool) (e : Refuse) → IsAccepted root → FrontsExcludeFailures → OneFailure → Refuses root input e → OnlyFault root input e
+only_fault root input (Bad fault) accepted excludes one r = ((λ other reach fails. (one root input other (fault_of fault) reach r.0 accepted fails r.1).0), (λ d n front. excludes root input d n (fault_of fault) r.0 accepted front r.1))
+only_fault root input NoMemory accepted excludes one r = tt

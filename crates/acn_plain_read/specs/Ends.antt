@@ -1,5 +1,5 @@
 -- Lists that a pattern ends.
-use Rattle.std.specs.Prelude.{◌≡◌, ℕ, ◌≤◌, pos, Bool, List, length, map, take}
+use Rattle.std.specs.Prelude.{◌≡◌, ℕ, ◌≤◌, pos, Bool, List, length, take}
 use Rattle.acn_num.specs.Ranges.{In}
 use Rattle.acn_bits.specs.Reading.{Reading, passed}
 use Rattle.acn_grammar.specs.Env.{Env}

@@ -16,4 +16,4 @@ mod stop;
 mod strings;
 mod texts;
 
-pub use decode::read_root;
+pub use decode::read_packet;

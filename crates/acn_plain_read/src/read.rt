@@ -27,7 +27,8 @@ use crate::strings::{read_bits, read_octets};
 use crate::texts::read_text;
 use acn_bits::ReadCursor;
 use acn_grammar::{
-    Alternative, Body, ChoiceRule, Field, Node, Pattern, Presence, ReadFault, Reason, Seq, Sizing, Value,
+    Alternative, Body, ChoiceRule, Field, Node, Pattern, Presence, ReadFault, Reason, Seq, Sizing,
+    Value,
 };
 use acn_num::{Boxed, Path, Row};
 use std::alloc::Global;

@@ -1,4 +1,4 @@
-use Rattle.std.proofs.Common.{◌≡◌, ◌∙◌, refl, sym, pos, false, true}
+use Rattle.std.proofs.Common.{◌≡◌, ◌∙◌, refl, sym, pos, false}
 use Rattle.acn_num.specs.Ranges.{has}
 use Rattle.acn_grammar.specs.LeafFails.{size_out_of_range}
 use Rattle.acn_plain_read.proofs.EndReads.{unpermitted}

@@ -1,7 +1,4 @@
-use Rattle.std.proofs.Common.{◌≡◌, ◌∙◌, ap, sym, subst, length, ◌≤◌, take, ℕ, List, Bool, rules}
 use Rattle.std.proofs.lemmas.Bool.{eqb-true}
-use Rattle.acn_num.specs.Bits.{number}
-use Rattle.acn_bits.specs.Reading.{Reading}
 use Rattle.acn_plain_read.proofs.EndReads.{stands_at}
 use Rattle.acn_plain_read.proofs.ends.stands.Goals as goal
 

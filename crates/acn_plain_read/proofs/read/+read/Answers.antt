@@ -438,7 +438,7 @@ read_ended-read_elements-requires t c = (search (rules, the_lemmas), (list_inner
 pub read_ended-returns-in-Ok-clause-read : goal.read_ended-returns-in-Ok-clause-read
 read_ended-returns-in-Ok-clause-read t c =
     subst (λ (d : Data). FormRead (grammar_of c.args.root.now) (list c.args.sizing.now (grammar_of c.args.node.now)) d c.args.slots.now c.read_elements.new.slots c.args.cur.now c.read_elements.new.cur) (sym (view_list_value c.in-Ok.values))
-      (ended_list (grammar_of c.args.root.now) c.args.inside c.args.path.now c.args.sizing.now (grammar_of c.args.node.now) c.pattern_of.result.now (map data_of c.in-Ok.values) c.args.slots.now c.read_elements.new.slots c.args.cur.now c.read_elements.new.cur c.pattern_of.ensures c.in-Ok.ensures.read)
+    (ended_list (grammar_of c.args.root.now) c.args.inside c.args.path.now c.args.sizing.now (grammar_of c.args.node.now) c.pattern_of.result.now (map data_of c.in-Ok.values) c.args.slots.now c.read_elements.new.slots c.args.cur.now c.read_elements.new.cur c.pattern_of.ensures c.in-Ok.ensures.read)
 
 pub read_ended-returns-in-Err-clause-fails : goal.read_ended-returns-in-Err-clause-fails
 read_ended-returns-in-Err-clause-fails t c =
@@ -470,4 +470,3 @@ read_elements-returns-else-stands-2-clause-fails t c =
     let within = l.auto.i-end in
     let count : length (map data_of l.values) ≡ c.most_of-most.result = mapped_length l.values ∙ (l.invariant.count ∙ omega (arith, over, within)) in
     tells_map c.no_end.result _ _ (λ q at s. none_stops_to (grammar_of c.args.root.now) c.args.from c.args.inside c.args.path.now l.path c.args.cur.now.origin (grammar_of c.args.node.now) c.args.end.now c.args.sizing.now c.most_of-most.result _ (map data_of l.values) c.args.slots.now l.slots c.args.cur.now l.cur q at c.most_of-most.ensures.most l.invariant.path count (l.invariant.turn c.args.from) s) c.no_end.ensures
-
