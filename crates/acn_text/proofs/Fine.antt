@@ -1,5 +1,5 @@
 -- What a text leaf that keeps its rules gives to the code.
-use Rattle.std.proofs.Common.{◌≡◌, ℕ, zero, suc, ◌+◌, ◌-◌, ◌^◌, ◌<◌, ◌≤◌, ℤ, pos, negsuc, ◌+ℤ◌, ◌≤ℤ◌, Bool, true, not, List, [], ◌∷◌, Option, Some, None, refl, sym, ap, ◌∙◌, arith, inl, inr, nat_eq, nat_lt, nat_le, ◌&&◌, ◌||◌}
+use Rattle.std.proofs.Common.{◌≡◌, ℕ, zero, suc, ◌+◌, ◌-◌, ◌^◌, ◌<◌, ◌≤◌, ℤ, pos, negsuc, ◌+ℤ◌, ◌≤ℤ◌, Bool, true, not, List, [], ◌∷◌, Option, Some, None, refl, sym, ap, ◌∙◌, arith, inl, inr, nat_eq, nat_lt, nat_le, ◌&&◌, ◌||◌, IsTrue}
 use Rattle.std.specs.Prelude.{◌-ℤ◌, ◌<ℤ◌, int_le, int_lt, nat_abs, ◌⊎◌}
 use Rattle.std.specs.Ordering.{int_eq}
 use Rattle.std.proofs.lemmas.Int.{ints}
@@ -7,7 +7,8 @@ use Rattle.std.proofs.lemmas.Bool.Decides.{nat_tests}
 use Rattle.std.proofs.Math.Nat.{pow-le-pow_right}
 use Rattle.acn_num.specs.Bits.{is_least_width}
 use Rattle.acn_num.specs.Ranges.{In, Above, least, greatest, are_ranges, are_ranges_above, distance, count, all_within}
-use Rattle.acn_grammar.specs.Leaves.{sizes_fine, rule_fine, prefix_fine, end_fine, width_fine, no_size, holds_characters, is_beyond, same_truth}
+use Rattle.acn_grammar.specs.Leaves.{sizes_fine, sizing_fine, rule_fine, prefix_fine, end_fine, width_fine, no_size, holds_characters, is_beyond, same_truth}
+use Rattle.acn_grammar.specs.declared.node.Sizing.{Sizing}
 use Rattle.acn_grammar.specs.declared.node.SizeRule.{SizeRule}
 use Rattle.acn_grammar.specs.declared.node.SizeRule.TheVariants.{Prefix, Slot, Ended}
 use Rattle.acn_grammar.specs.declared.node.TextLeaf.{TextLeaf}
@@ -16,7 +17,7 @@ use Rattle.acn_text.specs.Steps.{RuleFits, SizeFits}
 use Rattle.std.proofs.lemmas.Bool.{ltb-true, leb-true, and_parts, eqb-true}
 use Rattle.acn_grammar.proofs.WholeTests.{either, lt_fact, le_fact, eq_fact}
 use Rattle.acn_grammar.proofs.RangeEnds.{ranges_from, to_greatest, first_in, lies_within}
-use Rattle.acn_grammar.proofs.TextRules.{TextRules, EndRules, end_rules, size_rules, prefix_fits}
+use Rattle.acn_grammar.proofs.TextRules.{TextRules, EndRules, end_rules, size_rules, size_few, prefix_fits}
 use Rattle.acn_num.specs.declared.limits.TheConstants.{MOST_SIZE}
 
 -- the rules of one that ends
@@ -198,3 +199,16 @@ size_fits leaf n f is p = by leaf.sized.rule (rule_is leaf f is)
         let narrow = (prefix_is leaf.sized.sizes low width f.sizes h).narrow in
         let both = prefix_fits leaf.sized.sizes low width n f.sizes h p in
         (both.0, omega (arith, narrow), both.1)
+
+-- a size in front of a string that keeps its rules fits 64 bits
+pub sizing_fits : (sizing : Sizing) → IsTrue (sizing_fine sizing) → RuleFits sizing.rule
+sizing_fits sizing h = by sizing.rule (and_parts (sizes_fine sizing.sizes) (rule_fine sizing.sizes sizing.rule) h).1
+  where
+    by : (rule : SizeRule) → rule_fine sizing.sizes rule ≡ true → RuleFits rule
+    by (Slot s) h' = tt
+    by (Ended p) h' = cc
+    by (Prefix low width) h' = (let p = prefix_is sizing.sizes low width (and_parts (sizes_fine sizing.sizes) (rule_fine sizing.sizes sizing.rule) h).0 h' in (p.few, p.narrow))
+
+-- its permitted sizes are few
+pub sizing_few : (sizing : Sizing) (n : ℕ) → IsTrue (sizing_fine sizing) → In sizing.sizes (pos n) → n ≤ MOST_SIZE
+sizing_few sizing n f p = size_few sizing.sizes n (and_parts (sizes_fine sizing.sizes) (rule_fine sizing.sizes sizing.rule) f).0 p

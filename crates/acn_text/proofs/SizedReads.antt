@@ -15,7 +15,7 @@ use Rattle.acn_grammar.specs.declared.node.SizeRule.TheVariants.{Prefix, Slot, E
 use Rattle.acn_grammar.specs.declared.node.Sizing.{Sizing}
 use Rattle.acn_grammar.specs.declared.node.TextLeaf.{TextLeaf}
 use Rattle.acn_grammar.proofs.Prefix.{same_front}
-use Rattle.acn_text.specs.Texts.{SlotSays, TextCode, PassedText, NoTextAt, fault_here}
+use Rattle.acn_text.specs.Texts.{SlotSays, SizeCode, TextCode, PassedText, NoTextAt, fault_here}
 use Rattle.acn_text.specs.Steps.{SizeTaken, SizeMissing, NoSizeAt, IsCharacter, NoCharacter, PassedCharacters, NoCharactersAt}
 use Rattle.acn_text.proofs.Places.{character_below, some_character}
 use Rattle.acn_grammar.proofs.Characters.{characters_long}
@@ -26,9 +26,6 @@ use Rattle.acn_bits.proofs.Readings.{reads_passed, reads_nothing, reads_join, re
 
 some_same : {a b : ℕ} → ◌≡◌ {A = Option ℕ} (Some a) (Some b) → a ≡ b
 some_same e = cc
-
-abbrev pub SizeCode : Sizing → Option ℕ → ℕ → List Bool → Type 0
-SizeCode sizing given n bs = (env : Env) (at : ℕ) → SlotSays sizing.rule given env → SizePart sizing env n at bs
 
 rule_read : (rule : SizeRule) (given : Option ℕ) (old new : Reading) (n : ℕ) → SizeTaken rule given old new n → Reads (λ bs. (env : Env) (at : ℕ) → SlotSays rule given env → RulePart rule env n at bs) old new
 rule_read (Prefix low width) given old new n t =

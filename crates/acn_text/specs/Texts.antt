@@ -4,9 +4,10 @@ use Rattle.acn_bits.specs.Reading.{Reading, Reads}
 use Rattle.acn_grammar.specs.Env.{Env, at_slot}
 use Rattle.acn_grammar.specs.Fails.{Fault, Here, TextFails, seen}
 use Rattle.acn_grammar.specs.LeafFails.{Reason}
-use Rattle.acn_grammar.specs.Spell.{TextPart}
+use Rattle.acn_grammar.specs.Spell.{SizePart, TextPart}
 use Rattle.acn_grammar.specs.declared.node.SizeRule.{SizeRule}
 use Rattle.acn_grammar.specs.declared.node.SizeRule.TheVariants.{Prefix, Slot, Ended}
+use Rattle.acn_grammar.specs.declared.node.Sizing.{Sizing}
 use Rattle.acn_grammar.specs.declared.node.TextLeaf.{TextLeaf}
 
 -- a size is given from elsewhere exactly where the rule is a slot
@@ -26,6 +27,10 @@ abbrev pub given_size : SizeRule → ℕ → Option ℕ
 given_size (Prefix low width) n = None
 given_size (Slot s) n = Some n
 given_size (Ended p) n = None
+
+-- these bits say the size, wherever the slot has the given one
+abbrev pub SizeCode : Sizing → Option ℕ → ℕ → List Bool → Type 0
+SizeCode sizing given n bs = (env : Env) (at : ℕ) → SlotSays sizing.rule given env → SizePart sizing env n at bs
 
 -- these bits spell the text, wherever the slot has the given size
 abbrev pub TextCode : TextLeaf → Option ℕ → List ℕ → List Bool → Type 0

@@ -1,0 +1,14 @@
+mod ChoiceReads
+mod EndReads
+mod Homes
+mod Loops
+mod Nodes
+mod Pads
+mod Runs
+mod Seqs
+mod SlotTurns
+mod Small
+mod StringReads
+mod TextReads
+mod Tops
+mod Turns

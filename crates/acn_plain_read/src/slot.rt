@@ -1,0 +1,97 @@
+//! Inserted fields that say a slot's number.
+
+ghost use Rattle.std.specs.Prelude.{◌≡◌, ◌<◌, ℕ, suc, ℤ, Bool, List, [], IsTrue, IfOk, IfErr, OnOk, length};
+ghost use Rattle.acn_bits.specs.Reading.{Reads};
+ghost use Rattle.acn_grammar.specs.Code.{Any, Code};
+ghost use Rattle.acn_grammar.specs.Env.{Env};
+ghost use Rattle.acn_grammar.specs.Grammar.{Grammar, Fields, node as a_node, num, inserted};
+ghost use Rattle.acn_grammar.specs.ItemsNamed.{ItemsNamed};
+ghost use Rattle.acn_grammar.specs.declared.node.NumLeaf.{NumLeaf};
+ghost use Rattle.acn_grammar.specs.Leaves.{num_fine};
+ghost use Rattle.acn_grammar.specs.View.{grammar_of};
+ghost use Rattle.acn_grammar.specs.Spell.{◌then◌, Padding};
+ghost use Rattle.acn_plain_read.specs.Steps.{IsNumber};
+ghost use Rattle.acn_plain_read.specs.Decoded.{Tells, Fine, FieldsStand, NodeStops, Turn, FieldsStop};
+
+use crate::leaves::named;
+use crate::numbers::note;
+use crate::steps::pad;
+use crate::stop::Stop;
+use acn_bits::ReadCursor;
+use acn_grammar::{Body, Node, NumLeaf, ReadFault};
+use acn_ints::read_num;
+use acn_num::{Path, Row};
+
+// The number of a field, behind its padding.
+fn read_code(
+    cur: &mut ReadCursor<'_>,
+    align: u32,
+    leaf: &NumLeaf,
+    inside: bool,
+) -> Result<i128, Stop>
+    requires some { 0 < align }
+    requires fine { IsTrue (num_fine leaf.now) }
+    ensures read { IfOk result (λ x. Reads (λ bs. (Padding Any align then (λ at' cs. Code Any leaf.now x cs)) cur.old.at bs) cur.old cur.new) }
+    ensures fails { IfErr result (λ e. Tells e (λ r at. (root : Grammar) (path : List ℕ) (t : Env) → Fine root t → NodeStops root (a_node align (num leaf.now)) inside path t cur.old path r at)) }
+{
+    let from = cur.reach();
+    match pad(cur, align) {
+        Ok(()) => match read_num(cur, leaf) {
+            Ok(x) => Ok(x),
+            Err(fault) => Err(Stop::Fails {
+                reason: named(inside, fault),
+                at: from,
+            }),
+        },
+        Err(_) => Err(Stop::Fails {
+            reason: named(inside, ReadFault::Short),
+            at: from,
+        }),
+    }
+}
+
+// The leaf of a field.
+fn leaf_of(node: &Node) -> &NumLeaf
+    requires { IsNumber (grammar_of node.now) }
+    ensures { grammar_of node.now ≡ a_node node.now.align (num result.now) }
+{
+    match &node.body {
+        Body::Num(leaf) => leaf,
+        Body::Octets(_) => unreachable!(),
+        Body::Bits(_) => unreachable!(),
+        Body::Text(_) => unreachable!(),
+        Body::Seq(_) => unreachable!(),
+        Body::List(_, _) => unreachable!(),
+        Body::Choice(_) => unreachable!(),
+        Body::Contained(_, _) => unreachable!(),
+    }
+}
+
+/// Reads field k of a SEQUENCE, an inserted one, and notes its number where it says a slot's.
+pub fn read_inserted(
+    node: &Node,
+    slot: Option<u32>,
+    root: &Node,
+    cur: &mut ReadCursor<'_>,
+    slots: &mut Row<(u32, i128)>,
+    path: &mut Path,
+    inside: bool,
+    k: u32,
+) -> Result<(), Stop>
+    requires ready { (around : List ℕ) × (fs : Fields) × FieldsStand (grammar_of root.now) (suc (length path.old)) (inserted [] (grammar_of node.now) slot fs) slots.old around }
+    requires named { ItemsNamed (grammar_of node.now) }
+    requires fine { Fine (grammar_of root.now) slots.old }
+    ensures read { OnOk result ((place : ℕ) (name : List ℕ) (fs : Fields) (flags : List Bool) → Turn (grammar_of root.now) (record { path = path.old; place = place; inside = inside }) cur.old.origin k (suc k) (inserted name (grammar_of node.now) slot fs) fs [] slots.old slots.new flags flags cur.old cur.new) }
+    ensures fails { IfErr result (λ e. Tells e (λ r at. (place : ℕ) (name : List ℕ) (fs : Fields) (flags : List Bool) → FieldsStop (grammar_of root.now) (inserted name (grammar_of node.now) slot fs) flags (record { path = path.old; place = place; inside = inside }) cur.old.origin k slots.old cur.old path.new r at)) }
+    ensures path { OnOk result (path.new ≡ path.old) }
+{
+    path.push(k);
+    match read_code(cur, node.align, leaf_of(node), inside) {
+        Ok(x) => {
+            path.pop();
+            note(slots, slot, &x)?;
+            Ok(())
+        }
+        Err(stop) => Err(stop),
+    }
+}
