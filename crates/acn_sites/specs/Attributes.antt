@@ -57,10 +57,13 @@ given_at from a = record { from = from; number = a.0; attr = a.1 }
 abbrev pub given_in : AttrKind → Origin → List Attr → Option Given
 given_in k from attributes = option_map (given_at from) (find (λ (a : ℕ × Attr). is_of k a.1) (enumerate_from 0 attributes))
 
+abbrev pub given_at_entry : AttrKind → EntryAt → Option Given
+given_at_entry k e = given_in k (at_entry e) e.is.attributes
+
 -- that of the outermost of these entries that gives it, where they go from the base outward
 abbrev pub given_along : AttrKind → List EntryAt → Option Given
 given_along k [] = None
-given_along k (e ∷ es) = option_or (given_along k es) (given_in k (at_entry e) e.is.attributes)
+given_along k (e ∷ es) = option_or (given_along k es) (given_at_entry k e)
 
 -- The attribute that decides: that of the use, and else that of the first entry that gives it, from the outermost to the base.
 unfoldable pub nearest : AttrKind → Site → Option Given

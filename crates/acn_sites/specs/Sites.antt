@@ -103,9 +103,12 @@ below w s = below_from w s (braces_origin s.chain s.used)
 abbrev pub entered : Frame → Scope → Scope
 entered f c = record { frames = f ∷ c.frames; bound = c.bound }
 
+abbrev pub frame_in : List Component → Below → Frame
+frame_in cs b = record { owner = b.owner; components = cs; braces = b.braces; reader = b.reader; path = b.path }
+
 -- the fields of a SEQUENCE see each other
 abbrev pub in_sequence : List Component → Below → Below
-in_sequence cs b = record { owner = b.owner; braces = b.braces; at = b.at; reader = b.reader; path = b.path; scope = entered (record { owner = b.owner; components = cs; braces = b.braces; reader = b.reader; path = b.path }) b.scope }
+in_sequence cs b = record { owner = b.owner; braces = b.braces; at = b.at; reader = b.reader; scope = entered (frame_in cs b) b.scope; path = b.path }
 
 abbrev pub site_below : Below → ℕ → Position → ChainOf → Use → Site
 site_below b i position c u = record { position = position; chain = c; used = u; at = field_place b.at i; reader = b.reader; scope = b.scope; path = b.path ++ i ∷ [] }
@@ -160,17 +163,32 @@ content_of c = content_among c.constraints
 abbrev pub content_site : World → Site → ℕ × AsnType → Site
 content_site w s t = inner_site w s content t.0 t.1
 
-abbrev pub sites_in : World → Site → AsnBase → List Site
-sites_in w s (sequence cs) = sequence_sites w (component_list cs) (in_sequence (component_list cs) (below w s))
-sites_in w s (choice alternatives) = alternative_sites w (alternative_list alternatives) (below w s)
-sites_in w s (sequence_of t) = element_site w s t (below w s) (below w s).braces ∷ []
-sites_in w s (sequence_size c t) = element_site w s t (below w s) (below w s).braces ∷ []
-sites_in w s octet_string = map (content_site w s) (option_to_list (content_of s.chain))
-sites_in w s _ = []
+-- what a type has inside
+pub data Inside : Type 0 where
+  components : List Component → Inside
+  alternatives : List Alternative → Inside
+  an_element : AsnType → Inside
+  octets : Inside
+  nothing : Inside
+
+abbrev pub inside_of : AsnBase → Inside
+inside_of (sequence cs) = components (component_list cs)
+inside_of (choice more) = alternatives (alternative_list more)
+inside_of (sequence_of t) = an_element t
+inside_of (sequence_size c t) = an_element t
+inside_of octet_string = octets
+inside_of _ = nothing
+
+abbrev pub sites_in : World → Site → Inside → List Site
+sites_in w s (components cs) = sequence_sites w cs (in_sequence cs (below w s))
+sites_in w s (alternatives more) = alternative_sites w more (below w s)
+sites_in w s (an_element t) = element_site w s t (below w s) (below w s).braces ∷ []
+sites_in w s octets = map (content_site w s) (option_to_list (content_of s.chain))
+sites_in w s nothing = []
 
 -- the sites one step below a site, in the order of the packet
 unfoldable pub sites_below : World → Site → List Site
-sites_below w s = sites_in w s (base_of s)
+sites_below w s = sites_in w s (inside_of (base_of s))
 
 -- ---- all sites of a type
 

@@ -22,6 +22,8 @@ use Rattle.acn_sites.specs.declared.origin.Origin.TheVariants as origin
 use Rattle.acn_sites.specs.declared.site.Position.{Position}
 use Rattle.acn_sites.specs.declared.site.Position.TheVariants as position
 use Rattle.acn_sites.specs.declared.site.Site.{Site}
+use Rattle.acn_sites.specs.declared.attributes.Given.{Given}
+use Rattle.acn_sites.specs.Attributes as attributes
 use Rattle.acn_sites.specs.Slots as slots
 use Rattle.acn_sites.specs.Sites as sites
 
@@ -64,3 +66,9 @@ position_view position.Content = sites.content
 
 abbrev pub site_view : Site → sites.Site
 site_view s = record { position = position_view s.position; chain = chain_view s.chain; used = use_view s.used; at = s.at; reader = s.reader; scope = scope_view s.scope; path = s.path }
+
+abbrev pub sites_view : List Site → List sites.Site
+sites_view ss = map site_view ss
+
+abbrev pub given_view : Given → attributes.Given
+given_view g = record { from = origin_view g.from; number = g.number; attr = g.attr.now }

@@ -11,11 +11,11 @@ mod scope;
 mod site;
 mod slots;
 
-pub use attributes::AttrKind;
+pub use attributes::{AttrKind, Given, kind_of, nearest, place_of, scope_of};
 pub use fields::{Field, Use};
 pub use frame::{Frame, Step};
 pub use origin::Origin;
 pub use plain::PlainTypes;
 pub use scope::{Scope, leads};
-pub use site::{Position, Site};
+pub use site::{Position, Site, root_site};
 pub use slots::{Lead, Slot, Sort};

@@ -20,8 +20,8 @@ pub struct Scope<'w> {
     pub bound: Row<(&'w Name, Slot)>,
 }
 
-// The same slot again.
-fn copied_slot(alloc: Global, slot: &Slot) -> Result<Slot, NoMemory>
+/// The same slot again.
+pub fn copied_slot(alloc: Global, slot: &Slot) -> Result<Slot, NoMemory>
     ensures { IfOk result (λ s. s ≡ slot.now) }
 {
     Ok(Slot {
