@@ -148,13 +148,16 @@ abbrev pub element_site : World → Site → AsnType → Below → Option (List 
 element_site w s t b None = inner_site w s element s.chain.owner t
 element_site w s t b (Some fs) = site_below b 0 element (chain_of w (written b.owner t)) (first_use fs)
 
-abbrev pub contained : ℕ × Constraint → Option (ℕ × AsnType)
-contained (k, containing t) = Some (k, t)
-contained (k, _) = None
+abbrev pub contained : Constraint → Option AsnType
+contained (containing t) = Some t
+contained _ = None
+
+abbrev pub contained_in : ℕ × Constraint → Option (ℕ × AsnType)
+contained_in c = option_map (λ (t : AsnType). (c.0, t)) (contained c.1)
 
 abbrev pub content_among : List (ℕ × Constraint) → Option (ℕ × AsnType)
 content_among [] = None
-content_among (c ∷ cs) = option_or (contained c) (content_among cs)
+content_among (c ∷ cs) = option_or (contained_in c) (content_among cs)
 
 -- the type that octets contain, with the module in whose text it stands (X.682 clause 11)
 abbrev pub content_of : ChainOf → Option (ℕ × AsnType)

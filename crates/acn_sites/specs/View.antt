@@ -2,8 +2,8 @@
 use Rattle.std.specs.Prelude.{◌≡◌, ℕ, List, map, Option, Some, None, option_map}
 use Rattle.std.specs.Borrow.{Bor}
 use Rattle.acn_num.specs.Names.{Name}
-use Rattle.acn_asn_syntax.specs.Mirror.{integer, boolean, null}
-use Rattle.acn_asn_syntax.specs.View.{type_view, component_view}
+use Rattle.acn_asn_syntax.specs.Mirror as plain
+use Rattle.acn_asn_syntax.specs.View.{type_view, component_view, alternative_view}
 use Rattle.acn_asn_syntax.specs.declared.types.AsnType.{AsnType}
 use Rattle.acn_asn_syntax.specs.declared.types.Component.{Component}
 use Rattle.acn_acn_syntax.specs.Mirror as acn
@@ -23,6 +23,10 @@ use Rattle.acn_sites.specs.declared.site.Position.{Position}
 use Rattle.acn_sites.specs.declared.site.Position.TheVariants as position
 use Rattle.acn_sites.specs.declared.site.Site.{Site}
 use Rattle.acn_sites.specs.declared.attributes.Given.{Given}
+use Rattle.acn_sites.specs.declared.below.Below.{Below}
+use Rattle.acn_sites.specs.declared.below.Inside.{Inside}
+use Rattle.acn_sites.specs.declared.below.Inside.TheVariants as inside
+use Rattle.acn_sites.specs.declared.below.Typed.{Typed}
 use Rattle.acn_sites.specs.Attributes as attributes
 use Rattle.acn_sites.specs.Slots as slots
 use Rattle.acn_sites.specs.Sites as sites
@@ -72,3 +76,16 @@ sites_view ss = map site_view ss
 
 abbrev pub given_view : Given → attributes.Given
 given_view g = record { from = origin_view g.from; number = g.number; attr = g.attr.now }
+
+abbrev pub below_view : Below → sites.Below
+below_view b = record { owner = b.owner; braces = braces_view b.braces; at = b.at; reader = b.reader; scope = scope_view b.scope; path = b.path }
+
+abbrev pub inside_view : Inside → sites.Inside
+inside_view (inside.Components cs) = sites.components (map component_view cs.now)
+inside_view (inside.Alternatives more) = sites.alternatives (map alternative_view more.now)
+inside_view (inside.Element of) = sites.an_element (type_view of.now)
+inside_view inside.Octets = sites.octets
+inside_view inside.Nothing = sites.nothing
+
+abbrev pub typed_view : Typed → ℕ × plain.AsnType
+typed_view t = (t.owner, type_view t.of.now)

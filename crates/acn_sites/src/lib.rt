@@ -2,6 +2,7 @@
 #![tactic(auto)]
 
 mod attributes;
+mod below;
 mod fields;
 mod frame;
 mod origin;
@@ -12,6 +13,7 @@ mod site;
 mod slots;
 
 pub use attributes::{AttrKind, Given, kind_of, nearest, place_of, scope_of};
+pub use below::{Typed, content_of, sites_below};
 pub use fields::{Field, Use};
 pub use frame::{Frame, Step};
 pub use origin::Origin;

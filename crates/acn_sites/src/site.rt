@@ -144,8 +144,8 @@ fn bound_to<'w>(
     Ok(bound)
 }
 
-// The same frames again.
-fn copied_frames<'w>(
+/// Adds the same frames again.
+pub fn copied_frames<'w>(
     alloc: Global,
     frames: &[Frame<'w>],
     all: &mut Row<Frame<'w>>,
