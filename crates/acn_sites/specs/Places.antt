@@ -31,14 +31,19 @@ is_before (a ∷ p) [] = false
 is_before (a ∷ p) (b ∷ q) = if nat_lt a b then true else (nat_eq a b && is_before p q)
 
 -- the one that stands before the other; the first of two at one place
-abbrev pub earlier : {A : Type 0} → Option (Place × A) → Place × A → Place × A
-earlier None x = x
-earlier (Some best) x = if is_before x.0 best.0 then x else best
+abbrev pub sooner : {A : Type 0} → Option (Place × A) → Option (Place × A) → Option (Place × A)
+sooner best None = best
+sooner None (Some x) = Some x
+sooner (Some best) (Some x) = if is_before x.0 best.0 then Some x else Some best
 
-abbrev pub earliest_of : {A : Type 0} → Option (Place × A) → List (Place × A) → Option (Place × A)
-earliest_of best [] = best
-earliest_of best (x ∷ xs) = earliest_of (Some (earlier best x)) xs
+abbrev pub earliest_from : {A B : Type 0} → (B → Option (Place × A)) → Option (Place × A) → List B → Option (Place × A)
+earliest_from f best [] = best
+earliest_from f best (x ∷ xs) = earliest_from f (sooner best (f x)) xs
 
--- the first in the text of what was found
-abbrev pub earliest : {A : Type 0} → List (Place × A) → Option (Place × A)
-earliest found = earliest_of None found
+-- what stands first in the text of all that is found in these
+abbrev pub earliest : {A B : Type 0} → (B → Option (Place × A)) → List B → Option (Place × A)
+earliest f xs = earliest_from f None xs
+
+abbrev pub found_there : {A : Type 0} → Option (Place × A) → Option A
+found_there None = None
+found_there (Some x) = Some x.1

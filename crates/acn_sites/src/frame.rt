@@ -208,7 +208,8 @@ fn named_or_null<'w>(
     }
 }
 
-fn is_optional(rest: &Rest) -> bool
+/// Whether a component may be absent.
+pub fn is_optional(rest: &Rest) -> bool
     ensures { result ≡ spec.is_optional rest.now }
 {
     match rest {

@@ -1,0 +1,6 @@
+pub mod Classes
+pub mod Standing
+pub mod Constrained
+pub mod Braced
+pub mod Arguments
+pub mod Paths
