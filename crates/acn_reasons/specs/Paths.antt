@@ -1,5 +1,5 @@
 -- Paths that lead to no determinant. These rules are this profile's own.
-use Rattle.std.specs.Prelude.{ℕ, List, [], ◌∷◌, ◌++◌, map, take, Option, Some, None, codes}
+use Rattle.std.specs.Prelude.{ℕ, List, [], ◌∷◌, ◌++◌, map, take, Option, Some, None}
 use Rattle.std.specs.List.{enumerate_from}
 use Rattle.acn_num.specs.Names.{Name}
 use Rattle.acn_acn_syntax.specs.declared.modules.AcnPath.{AcnPath}
@@ -39,10 +39,15 @@ paths_in _ = []
 
 -- ---- the fault of a path
 
+-- each behind a full stop
+abbrev pub dotted : List Name → List ℕ
+dotted [] = []
+dotted (n ∷ ns) = 46 ∷ (n ++ dotted ns)
+
+-- joined by full stops
 abbrev pub joined : List Name → List ℕ
 joined [] = []
-joined (n ∷ []) = n
-joined (n ∷ m ∷ ms) = n ++ (codes "." ++ joined (m ∷ ms))
+joined (n ∷ ns) = n ++ dotted ns
 
 -- with the names up to the first field that may be absent, joined by full stops
 abbrev pub fault_of : Place → List Name → Lead → Option (Place × PathFault)

@@ -8,7 +8,7 @@ mod constrained;
 mod paths;
 mod standing;
 
-pub use arguments::has_wrong_arguments;
+pub use arguments::{are_passed_on, has_wrong_arguments, own_arguments};
 pub use braced::has_no_such_field;
 pub use classes::{Class, class_of, encoding_attr, size_attr};
 pub use constrained::constraint_fault;

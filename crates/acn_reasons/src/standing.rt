@@ -1,6 +1,6 @@
 ghost use Rattle.std.specs.Prelude.{◌≡◌, ◌∷◌, [], take, find, option_map, option_copied, IfOk};
 ghost use Rattle.std.specs.List.{enumerate_from, list_any};
-ghost use Rattle.acn_sites.specs.Attributes as attributes;
+ghost use Rattle.acn_sites.specs.Attributes as attrs;
 ghost use Rattle.acn_sites.specs.Places as places;
 ghost use Rattle.acn_sites.specs.View.{site_view, origin_view, given_view, position_view};
 ghost use Rattle.acn_reasons.specs.Standing as spec;
@@ -11,7 +11,9 @@ use crate::classes::{
 };
 use acn_acn_syntax::{Attr, SizeAttr};
 use acn_num::{MOST_STEPS, NoMemory, Row};
-use acn_sites::{AttrKind, Given, Origin, Position, Site, is_optional, kind_of, nearest, place_of, sooner};
+use acn_sites::{
+    AttrKind, Given, Origin, Position, Site, is_optional, kind_of, nearest, place_of, sooner,
+};
 use std::alloc::Global;
 
 /// Whether the path of a site has more steps than `MOST_STEPS`.
@@ -23,7 +25,7 @@ pub fn is_too_deep(site: &Site<'_>) -> bool
 
 // Whether an attribute of this kind is among these.
 fn has_kind(kind: AttrKind, attributes: &[Attr]) -> bool
-    ensures { result ≡ list_any (attributes.is_of kind) attributes.now }
+    ensures { result ≡ list_any (attrs.is_of kind) attributes.now }
 {
     for attr in attributes {
         if kind_of(attr).number() == kind.number() {

@@ -61,9 +61,9 @@ pub struct Typed<'w> {
     pub of: &'w AsnType,
 }
 
-// What a type has inside.
+/// What a type has inside.
 #[tactic(auto, using(acn_asn_syntax::proofs::Views::type_views, acn_asn_syntax::proofs::Views::components_back, acn_asn_syntax::proofs::Views::alternatives_back))]
-fn inside_of(base: &AsnBase) -> Inside<'_>
+pub fn inside_of(base: &AsnBase) -> Inside<'_>
     ensures { inside_view result ≡ spec.inside_of (base_view base.now) }
 {
     match base {
@@ -335,9 +335,9 @@ fn sequence_sites<'w>(
     Ok(all)
 }
 
-// The name of an alternative.
+/// The name of an alternative.
 #[tactic(auto, using(acn_asn_syntax::proofs::Views::open_alternative))]
-fn alternative_name(alternative: &Alternative) -> &Name
+pub fn alternative_name(alternative: &Alternative) -> &Name
     ensures { result.now ≡ tree.Alternative.name (alternative_view alternative.now) }
 {
     &alternative.name

@@ -57,8 +57,8 @@ pub struct Site<'w> {
     pub path: Row<usize>,
 }
 
-// Whether an entry has parameters.
-fn gives_parameters(entry: EntryAt<'_>) -> bool
+/// Whether an entry has parameters.
+pub fn gives_parameters(entry: EntryAt<'_>) -> bool
     ensures { result ≡ chains.gives_parameters (entry_view entry.entry) }
 {
     !entry.is.parameters.items().is_empty()
