@@ -9,11 +9,11 @@ use Rattle.acn_acn_syntax.specs.declared.modules.ParamKind.TheVariants as param
 use Rattle.acn_world.specs.World.{World}
 use Rattle.acn_world.specs.Lookup.{EntryAt}
 use Rattle.acn_world.specs.Chains.{ChainOf, written, chain_of, gives_parameters, has_items}
-use Rattle.acn_sites.specs.declared.slots.Sort.{Sort}
-use Rattle.acn_sites.specs.declared.slots.Sort.TheVariants as sort
-use Rattle.acn_sites.specs.declared.slots.Lead.{Lead}
-use Rattle.acn_sites.specs.declared.slots.Lead.TheVariants as lead
-use Rattle.acn_sites.specs.Slots.{Origin, named_chain, sort_of, braces_origin, leads}
+use Rattle.acn_slots.specs.declared.slots.Sort.{Sort}
+use Rattle.acn_slots.specs.declared.slots.Sort.TheVariants as sort
+use Rattle.acn_slots.specs.declared.slots.Lead.{Lead}
+use Rattle.acn_slots.specs.declared.slots.Lead.TheVariants as lead
+use Rattle.acn_slots.specs.Slots.{Origin, named_chain, sort_of, braces_origin, leads}
 use Rattle.acn_sites.specs.Sites.{Site, base_of, Inside, components, alternatives, an_element, octets, nothing, inside_of, has_parameters, content_of}
 
 -- ---- whether arguments stand for what is in a site

@@ -6,7 +6,7 @@ use Rattle.acn_num.specs.Names.{Name}
 use Rattle.acn_asn_syntax.specs.Mirror.{AsnBase, enumerated, sequence, sequence_of, sequence_size, choice, Component, component_list, Alternative, alternative_list}
 use Rattle.acn_asn_syntax.specs.declared.types.Item.{Item}
 use Rattle.acn_acn_syntax.specs.Mirror.{Field, plain, inserted, number}
-use Rattle.acn_sites.specs.Slots.{braces_origin, braces_at}
+use Rattle.acn_slots.specs.Slots.{braces_origin, braces_at}
 use Rattle.acn_sites.specs.Sites.{Site, base_of}
 
 -- the names that are left behind this one, which has to be the first

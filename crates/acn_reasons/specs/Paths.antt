@@ -11,10 +11,10 @@ use Rattle.acn_acn_syntax.specs.declared.modules.Attr.TheVariants as attr
 use Rattle.acn_world.specs.World.{World}
 use Rattle.acn_sites.specs.declared.attributes.AttrKind.{AttrKind}
 use Rattle.acn_sites.specs.declared.attributes.AttrKind.TheVariants as kind
-use Rattle.acn_sites.specs.declared.slots.Lead.{Lead}
-use Rattle.acn_sites.specs.declared.slots.Lead.TheVariants as lead
+use Rattle.acn_slots.specs.declared.slots.Lead.{Lead}
+use Rattle.acn_slots.specs.declared.slots.Lead.TheVariants as lead
 use Rattle.acn_sites.specs.Places.{Place, argument_place, condition_place, sooner, earliest_from, found_there}
-use Rattle.acn_sites.specs.Slots.{Scope, leads}
+use Rattle.acn_slots.specs.Slots.{Scope, leads}
 use Rattle.acn_sites.specs.Sites.{Site}
 use Rattle.acn_sites.specs.Attributes.{Given, nearest, place_of, scope_of}
 use Rattle.acn_reasons.specs.declared.paths.PathFault.{PathFault}

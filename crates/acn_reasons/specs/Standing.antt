@@ -9,7 +9,7 @@ use Rattle.acn_acn_syntax.specs.declared.modules.SizeAttr.TheVariants as size
 use Rattle.acn_sites.specs.declared.attributes.AttrKind.{AttrKind}
 use Rattle.acn_sites.specs.declared.attributes.AttrKind.TheVariants as kind
 use Rattle.acn_sites.specs.Places.{Place, attribute_place, earliest, found_there}
-use Rattle.acn_sites.specs.Slots.{Origin, is_optional}
+use Rattle.acn_slots.specs.Slots.{Origin, is_optional}
 use Rattle.acn_sites.specs.Sites.{Position, root, part, inserted, alternative, element, content, Site, origin_place}
 use Rattle.acn_sites.specs.Attributes.{kind_of, is_of, Given, nearest, brackets, place_of}
 use Rattle.acn_num.specs.declared.limits.TheConstants.{MOST_STEPS}

@@ -4,17 +4,16 @@ ghost use Rattle.acn_asn_syntax.specs.View.{type_view};
 ghost use Rattle.acn_world.specs.Chained.{chain_view, entry_view, entries_view};
 ghost use Rattle.acn_world.specs.Chains as chains;
 ghost use Rattle.acn_world.specs.Viewed.{world_view};
-ghost use Rattle.acn_sites.specs.View.{site_view, origin_view, inside_view, typed_view};
-ghost use Rattle.acn_sites.specs.Slots as slots;
+ghost use Rattle.acn_slots.specs.View.{origin_view};
+ghost use Rattle.acn_sites.specs.View.{site_view, inside_view, typed_view};
+ghost use Rattle.acn_slots.specs.Slots as slots;
 ghost use Rattle.acn_reasons.specs.Arguments as spec;
 
 use acn_acn_syntax::{AcnPath, Param, ParamKind};
 use acn_asn_syntax::AsnType;
 use acn_num::NoMemory;
-use acn_sites::{
-    Inside, Lead, Origin, PlainTypes, Site, Sort, Typed, base_of, braces_origin, content_of,
-    gives_parameters, has_parameters, inside_of, leads, sort_of,
-};
+use acn_sites::{Inside, Site, Typed, content_of, gives_parameters, has_parameters, inside_of};
+use acn_slots::{Lead, Origin, PlainTypes, Sort, base_of, braces_origin, leads, sort_of};
 use acn_world::{EntryAt, World};
 use std::alloc::Global;
 

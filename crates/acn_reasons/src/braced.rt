@@ -4,7 +4,8 @@ ghost use Rattle.acn_asn_syntax.specs.Mirror as tree;
 ghost use Rattle.acn_asn_syntax.specs.View.{base_view, component_view, alternative_view};
 ghost use Rattle.acn_acn_syntax.specs.View.{field_of};
 ghost use Rattle.acn_firsts.specs.Placed.{noted_all};
-ghost use Rattle.acn_sites.specs.View.{braces_view, site_view};
+ghost use Rattle.acn_slots.specs.View.{braces_view};
+ghost use Rattle.acn_sites.specs.View.{site_view};
 ghost use Rattle.acn_reasons.specs.Braced as spec;
 ghost use Rattle.acn_reasons.specs.Named.{names_view, noted_items, fields_view};
 
@@ -12,7 +13,8 @@ use acn_acn_syntax::AcnField;
 use acn_asn_syntax::{Alternative, AsnBase, Component, Item};
 use acn_firsts::Firsts;
 use acn_num::{Name, NoMemory};
-use acn_sites::{Site, alternative_name, base_of, braces_at, braces_origin, component_name};
+use acn_sites::{Site, alternative_name};
+use acn_slots::{base_of, braces_at, braces_origin, component_name};
 use std::alloc::Global;
 
 // The names of components.

@@ -5,7 +5,8 @@ ghost use Rattle.acn_reasons.specs.Classes as spec;
 
 use acn_acn_syntax::{Attr, Encoding, SizeAttr};
 use acn_asn_syntax::AsnBase;
-use acn_sites::{AttrKind, Site, base_of, nearest};
+use acn_sites::{AttrKind, Site, nearest};
+use acn_slots::base_of;
 
 /// What a type is, as the rules on attributes and braces see it.
 #[derive(Clone, Copy)]

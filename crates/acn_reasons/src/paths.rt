@@ -2,16 +2,16 @@ ghost use Rattle.std.specs.Prelude.{◌≡◌, ◌++◌, ◌∷◌, [], map, tak
 ghost use Rattle.std.specs.List.{enumerate_from};
 ghost use Rattle.acn_world.specs.Viewed.{world_view};
 ghost use Rattle.acn_sites.specs.Places as places;
-ghost use Rattle.acn_sites.specs.View.{site_view, scope_view, given_view};
+ghost use Rattle.acn_slots.specs.View.{scope_view};
+ghost use Rattle.acn_sites.specs.View.{site_view, given_view};
 ghost use Rattle.acn_reasons.specs.Named.{paths_view};
 ghost use Rattle.acn_reasons.specs.Paths as spec;
 
 use crate::arguments::own_arguments;
 use acn_acn_syntax::{AcnPath, Attr, Condition, SizeAttr};
 use acn_num::{Name, NoMemory, Row};
-use acn_sites::{
-    AttrKind, Given, Lead, PlainTypes, Scope, Site, leads, nearest, place_of, scope_of, sooner,
-};
+use acn_sites::{AttrKind, Given, Site, nearest, place_of, scope_of, sooner};
+use acn_slots::{Lead, PlainTypes, Scope, leads};
 use acn_world::World;
 use std::alloc::Global;
 

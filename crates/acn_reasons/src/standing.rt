@@ -2,7 +2,8 @@ ghost use Rattle.std.specs.Prelude.{◌≡◌, ◌∷◌, [], take, find, option
 ghost use Rattle.std.specs.List.{enumerate_from, list_any};
 ghost use Rattle.acn_sites.specs.Attributes as attrs;
 ghost use Rattle.acn_sites.specs.Places as places;
-ghost use Rattle.acn_sites.specs.View.{site_view, origin_view, given_view, position_view};
+ghost use Rattle.acn_slots.specs.View.{origin_view};
+ghost use Rattle.acn_sites.specs.View.{site_view, given_view, position_view};
 ghost use Rattle.acn_reasons.specs.Standing as spec;
 ghost use Rattle.acn_reasons.specs.Classes as classes;
 
@@ -11,9 +12,8 @@ use crate::classes::{
 };
 use acn_acn_syntax::{Attr, SizeAttr};
 use acn_num::{MOST_STEPS, NoMemory, Row};
-use acn_sites::{
-    AttrKind, Given, Origin, Position, Site, is_optional, kind_of, nearest, place_of, sooner,
-};
+use acn_sites::{AttrKind, Given, Position, Site, kind_of, nearest, place_of, sooner};
+use acn_slots::{Origin, is_optional};
 use std::alloc::Global;
 
 /// Whether the path of a site has more steps than `MOST_STEPS`.

@@ -9,7 +9,7 @@ use Rattle.acn_world.specs.Lookup.{EntryAt}
 use Rattle.acn_sites.specs.declared.attributes.AttrKind.{AttrKind}
 use Rattle.acn_sites.specs.declared.attributes.AttrKind.TheVariants as kind
 use Rattle.acn_sites.specs.Places.{Place, attribute_place}
-use Rattle.acn_sites.specs.Slots.{Scope, Origin, at_use, at_entry}
+use Rattle.acn_slots.specs.Slots.{Scope, Origin, at_use, at_entry}
 use Rattle.acn_sites.specs.Sites.{Site, origin_place, origin_scope}
 
 abbrev pub kind_of : Attr → AttrKind

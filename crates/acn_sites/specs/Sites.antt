@@ -16,11 +16,11 @@ use Rattle.acn_world.specs.Lookup.{EntryAt}
 use Rattle.acn_world.specs.Chains.{ChainOf, base_part, written, assigned_link, chain_of, gives_parameters}
 use Rattle.acn_world.specs.Faults.{module_name_at, name_at}
 use Rattle.acn_world.specs.declared.sources.TypeId.{TypeId}
-use Rattle.acn_sites.specs.declared.slots.Slot.{Slot}
-use Rattle.acn_sites.specs.declared.slots.Lead.{Lead}
-use Rattle.acn_sites.specs.declared.slots.Lead.TheVariants as lead
+use Rattle.acn_slots.specs.declared.slots.Slot.{Slot}
+use Rattle.acn_slots.specs.declared.slots.Lead.{Lead}
+use Rattle.acn_slots.specs.declared.slots.Lead.TheVariants as lead
 use Rattle.acn_sites.specs.Places.{Place, entry_place, argument_place, attribute_place, field_place}
-use Rattle.acn_sites.specs.Slots.{default_of, Use, no_use, use_of, Field, component, extra, name_in_text, fields_of, kind_chain, Origin, at_use, at_entry, braces_origin, braces_at, braces_module, Frame, Scope, no_scope, leads}
+use Rattle.acn_slots.specs.Slots.{default_of, Use, no_use, use_of, Field, component, extra, name_in_text, fields_of, kind_chain, Origin, at_use, at_entry, braces_origin, braces_at, braces_module, Frame, Scope, no_scope, leads}
 
 -- what a node is in the node above it
 pub data Position : Type 0 where

@@ -3,14 +3,13 @@ ghost use Rattle.std.specs.List.{enumerate_from};
 ghost use Rattle.acn_world.specs.Chained.{entry_view, entries_view};
 ghost use Rattle.acn_world.specs.Viewed.{world_view};
 ghost use Rattle.acn_sites.specs.Attributes as spec;
-ghost use Rattle.acn_sites.specs.View.{origin_view, scope_view, site_view, given_view};
+ghost use Rattle.acn_slots.specs.View.{origin_view, scope_view};
+ghost use Rattle.acn_sites.specs.View.{site_view, given_view};
 
-use crate::origin::Origin;
-use crate::plain::PlainTypes;
-use crate::scope::Scope;
 use crate::site::Site;
 use acn_acn_syntax::Attr;
 use acn_num::{NoMemory, Row};
+use acn_slots::{Origin, PlainTypes, Scope};
 use acn_world::{EntryAt, World};
 use std::alloc::Global;
 

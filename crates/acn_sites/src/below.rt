@@ -6,23 +6,21 @@ ghost use Rattle.acn_asn_syntax.specs.View.{base_view, component_view, alternati
 ghost use Rattle.acn_acn_syntax.specs.View.{field_of};
 ghost use Rattle.acn_world.specs.Chained.{chain_view, constraints_view};
 ghost use Rattle.acn_world.specs.Viewed.{world_view};
-ghost use Rattle.acn_sites.specs.Slots as slots;
+ghost use Rattle.acn_slots.specs.Slots as slots;
+ghost use Rattle.acn_sites.specs.Places as places;
 ghost use Rattle.acn_sites.specs.Sites as spec;
-ghost use Rattle.acn_sites.specs.View.{braces_view, use_view, field_view, numbered_view, frame_view, scope_view, origin_view, position_view, site_view, below_view, inside_view, typed_view, sites_view};
+ghost use Rattle.acn_slots.specs.View.{braces_view, use_view, field_view, numbered_view, frame_view, scope_view, origin_view};
+ghost use Rattle.acn_sites.specs.View.{position_view, site_view, below_view, inside_view, typed_view, sites_view};
 
-use crate::fields::{
-    Field, Use, component_name, component_rest, component_type, field_in, name_in_text, no_use,
-    use_of,
-};
-use crate::frame::{Frame, base_of, braces_at, braces_module, braces_origin, kind_chain};
-use crate::origin::Origin;
-use crate::plain::PlainTypes;
-use crate::rows::{copied, extended, field_place};
-use crate::scope::Scope;
 use crate::site::{Position, Site, copied_frames, copied_scope, has_parameters, no_scope};
 use acn_acn_syntax::AcnField;
 use acn_asn_syntax::{Alternative, AsnBase, AsnType, Component, Constraint};
 use acn_num::{Name, NoMemory, Row};
+use acn_slots::{
+    Field, Frame, Origin, PlainTypes, Scope, Use, base_of, braces_at, braces_module, braces_origin,
+    component_name, component_rest, component_type, copied, extended, field_in, kind_chain,
+    name_in_text, no_use, use_of,
+};
 use acn_world::{Chain, World};
 use std::alloc::Global;
 
@@ -80,6 +78,16 @@ pub fn inside_of(base: &AsnBase) -> Inside<'_>
         AsnBase::Ia5String => Inside::Nothing,
         AsnBase::Ref(_, _) => Inside::Nothing,
     }
+}
+
+// The place of a field between the braces at a place.
+fn field_place(alloc: Global, at: &[usize], number: usize) -> Result<Row<usize>, NoMemory>
+    ensures { IfOk result (λ all. all ≡ places.field_place at.now number) }
+{
+    let mut all = copied(alloc, at)?;
+    all.push(2)?;
+    all.push(number)?;
+    Ok(all)
 }
 
 // The place of the braces of a site.

@@ -4,20 +4,17 @@ ghost use Rattle.acn_world.specs.Chained.{chain_view, entry_view};
 ghost use Rattle.acn_world.specs.Chains as chains;
 ghost use Rattle.acn_world.specs.World as world_of;
 ghost use Rattle.acn_world.specs.Viewed.{world_view};
-ghost use Rattle.acn_sites.specs.Slots as slots;
+ghost use Rattle.acn_slots.specs.Slots as slots;
 ghost use Rattle.acn_sites.specs.Sites as spec;
-ghost use Rattle.acn_sites.specs.View.{use_view, frame_view, scope_view, bound_view, origin_view, position_view, site_view};
+ghost use Rattle.acn_slots.specs.View.{use_view, frame_view, scope_view, bound_view, origin_view};
+ghost use Rattle.acn_sites.specs.View.{position_view, site_view};
 
-use crate::fields::{Use, no_use};
-use crate::frame::Frame;
-use crate::origin::Origin;
-use crate::plain::PlainTypes;
-use crate::rows::copied;
-use crate::scope::{Scope, copied_slot, leads};
-use crate::slots::{Lead, Slot};
 use acn_acn_syntax::{AcnPath, FieldKind, Param};
 use acn_asn_syntax::Rest;
 use acn_num::{Name, NoMemory, Row};
+use acn_slots::{
+    Frame, Lead, Origin, PlainTypes, Scope, Slot, Use, copied, copied_slot, leads, no_use,
+};
 use acn_world::{Chain, EntryAt, TypeId, World};
 use std::alloc::Global;
 

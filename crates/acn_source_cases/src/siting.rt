@@ -11,10 +11,8 @@ use acn_reasons::{
     PathFault, attribute_not_here, bad_path, constraint_fault, has_no_such_field,
     has_wrong_arguments, is_too_deep, repeated_attribute,
 };
-use acn_sites::{
-    AttrKind, Given, Lead, PlainTypes, Position, Site, leads, nearest, root_site, scope_of,
-    sites_below,
-};
+use acn_sites::{AttrKind, Given, Position, Site, nearest, root_site, scope_of, sites_below};
+use acn_slots::{Lead, PlainTypes, leads};
 use acn_world::{TypeId, World};
 use std::alloc::Global;
 

@@ -2,7 +2,7 @@ use Rattle.std.proofs.Common.{◌≡◌, drop}
 use Rattle.std.specs.List.{enumerate_from}
 use Rattle.acn_world.specs.Viewed.{world_view}
 use Rattle.acn_sites.specs.Places.{earliest_from}
-use Rattle.acn_sites.specs.View.{scope_view}
+use Rattle.acn_slots.specs.View.{scope_view}
 use Rattle.acn_reasons.specs.Named.{paths_view}
 use Rattle.acn_reasons.specs.Paths.{path_fault}
 use Rattle.acn_reasons.proofs.paths.path_faults.Given as goal

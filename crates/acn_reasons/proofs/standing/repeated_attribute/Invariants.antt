@@ -3,7 +3,7 @@ use Rattle.std.specs.Prelude.{ℕ, List}
 use Rattle.acn_world.specs.Lookup.{EntryAt}
 use Rattle.acn_world.specs.Chained.{entries_view}
 use Rattle.acn_sites.specs.Places.{earliest, earliest_from}
-use Rattle.acn_sites.specs.Slots.{at_entry}
+use Rattle.acn_slots.specs.Slots.{at_entry}
 use Rattle.acn_sites.specs.Attributes.{brackets}
 use Rattle.acn_sites.specs.View.{site_view}
 use Rattle.acn_reasons.specs.Standing.{repeat_in}

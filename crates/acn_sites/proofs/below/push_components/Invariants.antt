@@ -2,7 +2,7 @@ use Rattle.std.proofs.Common.{◌≡◌, drop, map, ◌++◌}
 use Rattle.std.specs.List.{enumerate_from}
 use Rattle.acn_asn_syntax.specs.View.{component_view}
 use Rattle.acn_world.specs.Viewed.{world_view}
-use Rattle.acn_sites.specs.Slots.{bare_field}
+use Rattle.acn_slots.specs.Slots.{bare_field}
 use Rattle.acn_sites.specs.Sites.{field_site}
 use Rattle.acn_sites.specs.View.{below_view, sites_view}
 use Rattle.acn_sites.proofs.below.push_components.Given as goal

@@ -4,7 +4,7 @@ use Rattle.std.specs.List.{enumerate_from}
 use Rattle.acn_asn_syntax.specs.View.{component_view}
 use Rattle.acn_acn_syntax.specs.View.{field_of}
 use Rattle.acn_world.specs.Viewed.{world_view}
-use Rattle.acn_sites.specs.Slots.{numbered_field}
+use Rattle.acn_slots.specs.Slots.{numbered_field}
 use Rattle.acn_sites.specs.Sites.{field_site}
 use Rattle.acn_sites.specs.View.{below_view, sites_view}
 use Rattle.acn_sites.proofs.below.push_fields.Given as goal

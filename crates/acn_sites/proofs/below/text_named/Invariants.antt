@@ -2,7 +2,7 @@ use Rattle.std.proofs.Common.{◌≡◌, drop, find, map}
 use Rattle.std.specs.Str.{bytes_eq}
 use Rattle.acn_acn_syntax.specs.Mirror.{Field}
 use Rattle.acn_acn_syntax.specs.View.{field_of}
-use Rattle.acn_sites.specs.Slots.{name_in_text}
+use Rattle.acn_slots.specs.Slots.{name_in_text}
 use Rattle.acn_sites.proofs.below.text_named.Given as goal
 
 abbrev pub invariant-loop-field : goal.invariant-loop-field

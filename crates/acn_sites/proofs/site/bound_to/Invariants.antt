@@ -3,9 +3,9 @@ use Rattle.std.specs.Prelude.{filter_map}
 use Rattle.std.specs.List.{zip}
 use Rattle.acn_acn_syntax.specs.declared.modules.AcnPath.{AcnPath}
 use Rattle.acn_world.specs.Viewed.{world_view}
-use Rattle.acn_sites.specs.Slots.{leads}
+use Rattle.acn_slots.specs.Slots.{leads}
 use Rattle.acn_sites.specs.Sites.{bind}
-use Rattle.acn_sites.specs.View.{scope_view, bound_view}
+use Rattle.acn_slots.specs.View.{scope_view, bound_view}
 use Rattle.acn_sites.proofs.site.bound_to.Given as goal
 
 abbrev pub invariant-loop-i : goal.invariant-loop-i

@@ -1,5 +1,5 @@
 use Rattle.std.proofs.Common.{◌≡◌, drop, map, ◌++◌}
-use Rattle.acn_sites.specs.View.{bound_view}
+use Rattle.acn_slots.specs.View.{bound_view}
 use Rattle.acn_sites.proofs.site.copied_bound.Given as goal
 
 abbrev pub invariant-loop-name : goal.invariant-loop-name

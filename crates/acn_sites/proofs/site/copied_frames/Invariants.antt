@@ -1,5 +1,5 @@
 use Rattle.std.proofs.Common.{◌≡◌, drop, map, ◌++◌}
-use Rattle.acn_sites.specs.View.{frame_view}
+use Rattle.acn_slots.specs.View.{frame_view}
 use Rattle.acn_sites.proofs.site.copied_frames.Given as goal
 
 abbrev pub invariant-loop-frame : goal.invariant-loop-frame

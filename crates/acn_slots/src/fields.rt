@@ -5,8 +5,8 @@ ghost use Rattle.acn_asn_syntax.specs.Mirror as plain;
 ghost use Rattle.acn_asn_syntax.specs.View.{component_view, type_view};
 ghost use Rattle.acn_acn_syntax.specs.Mirror as acn;
 ghost use Rattle.acn_acn_syntax.specs.View as text;
-ghost use Rattle.acn_sites.specs.Slots as spec;
-ghost use Rattle.acn_sites.specs.View.{braces_view, use_view, field_view, numbered_view};
+ghost use Rattle.acn_slots.specs.Slots as spec;
+ghost use Rattle.acn_slots.specs.View.{braces_view, use_view, field_view, numbered_view};
 
 use acn_acn_syntax::{AcnField, AcnPath, Attr, FieldKind};
 use acn_asn_syntax::{AsnType, Component, Rest};

@@ -1,7 +1,6 @@
 //! Lists of numbers.
 
 ghost use Rattle.std.specs.Prelude.{◌≡◌, [], ◌∷◌, ◌++◌, IfOk};
-ghost use Rattle.acn_sites.specs.Places as places;
 
 use acn_num::{NoMemory, Row};
 use std::alloc::Global;
@@ -19,15 +18,5 @@ pub fn extended(alloc: Global, numbers: &[usize], last: usize) -> Result<Row<usi
 {
     let mut all = copied(alloc, numbers)?;
     all.push(last)?;
-    Ok(all)
-}
-
-/// The place of a field between the braces at a place.
-pub fn field_place(alloc: Global, at: &[usize], number: usize) -> Result<Row<usize>, NoMemory>
-    ensures { IfOk result (λ all. all ≡ places.field_place at.now number) }
-{
-    let mut all = copied(alloc, at)?;
-    all.push(2)?;
-    all.push(number)?;
     Ok(all)
 }

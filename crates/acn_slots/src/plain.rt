@@ -2,8 +2,8 @@ ghost use Rattle.std.specs.Prelude.{◌≡◌, None};
 ghost use Rattle.acn_asn_syntax.specs.Mirror as plain;
 ghost use Rattle.acn_asn_syntax.specs.View.{type_view, base_view};
 ghost use Rattle.acn_asn_syntax.specs.declared.types.AsnBase.TheVariants as base;
-ghost use Rattle.acn_sites.specs.Slots as spec;
-ghost use Rattle.acn_sites.specs.Bare.{bare};
+ghost use Rattle.acn_slots.specs.Slots as spec;
+ghost use Rattle.acn_slots.specs.Bare.{bare};
 
 use acn_asn_syntax::{AsnBase, AsnType};
 use acn_num::Row;

@@ -3,10 +3,10 @@ use Rattle.std.proofs.Common.{◌≡◌, ℕ, suc, ◌+◌, Bool, true, false, L
 use Rattle.std.specs.Prelude.{option_and_then, if◌then◌else◌}
 use Rattle.acn_num.specs.Names.{Name}
 use Rattle.acn_world.specs.World.{World}
-use Rattle.acn_sites.specs.declared.slots.Slot.{Slot}
-use Rattle.acn_sites.specs.declared.slots.Lead.{Lead}
-use Rattle.acn_sites.specs.declared.slots.Lead.TheVariants as lead
-use Rattle.acn_sites.specs.Slots.{Frame, Step, step_in, follow, last_slot, up_to_absent, lead_to, lead_of, first_absent}
+use Rattle.acn_slots.specs.declared.slots.Slot.{Slot}
+use Rattle.acn_slots.specs.declared.slots.Lead.{Lead}
+use Rattle.acn_slots.specs.declared.slots.Lead.TheVariants as lead
+use Rattle.acn_slots.specs.Slots.{Frame, Step, step_in, follow, last_slot, up_to_absent, lead_to, lead_of, first_absent}
 
 -- what is answered behind some names, from what is kept
 abbrev next : (Option Slot → Option ℕ → Option Frame → Lead) → Option ℕ → ℕ → Option Step → Lead

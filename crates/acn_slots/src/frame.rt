@@ -5,8 +5,8 @@ ghost use Rattle.acn_acn_syntax.specs.Mirror as acn;
 ghost use Rattle.acn_world.specs.Chained.{chain_view, entry_view, entries_view};
 ghost use Rattle.acn_world.specs.Chains as chains;
 ghost use Rattle.acn_world.specs.Viewed.{world_view};
-ghost use Rattle.acn_sites.specs.Slots as spec;
-ghost use Rattle.acn_sites.specs.View.{braces_view, use_view, numbered_view, frame_view, step_view, origin_view};
+ghost use Rattle.acn_slots.specs.Slots as spec;
+ghost use Rattle.acn_slots.specs.View.{braces_view, use_view, numbered_view, frame_view, step_view, origin_view};
 
 use crate::fields::{Field, Use, braces_items, component_rest, component_type, field_named};
 use crate::origin::Origin;

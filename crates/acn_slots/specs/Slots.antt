@@ -14,11 +14,11 @@ use Rattle.acn_acn_syntax.specs.declared.modules.Attr.{Attr}
 use Rattle.acn_acn_syntax.specs.declared.modules.FieldKind.{FieldKind}
 use Rattle.acn_acn_syntax.specs.declared.modules.FieldKind.TheVariants as kind
 use Rattle.acn_world.specs.World.{World}
-use Rattle.acn_sites.specs.declared.slots.Sort.{Sort}
-use Rattle.acn_sites.specs.declared.slots.Sort.TheVariants as sort
-use Rattle.acn_sites.specs.declared.slots.Slot.{Slot}
-use Rattle.acn_sites.specs.declared.slots.Lead.{Lead}
-use Rattle.acn_sites.specs.declared.slots.Lead.TheVariants as lead
+use Rattle.acn_slots.specs.declared.slots.Sort.{Sort}
+use Rattle.acn_slots.specs.declared.slots.Sort.TheVariants as sort
+use Rattle.acn_slots.specs.declared.slots.Slot.{Slot}
+use Rattle.acn_slots.specs.declared.slots.Lead.{Lead}
+use Rattle.acn_slots.specs.declared.slots.Lead.TheVariants as lead
 use Rattle.acn_world.specs.Lookup.{EntryAt, type_named}
 use Rattle.acn_world.specs.Chains.{ChainOf, base_part, written, assigned_link, chain_of}
 

@@ -1,7 +1,7 @@
 ghost use Rattle.std.specs.Prelude.{◌≡◌, ◌<◌, ◌^◌, ◌∷◌, [], map, option_map, find, IfOk, Some};
 ghost use Rattle.acn_world.specs.Viewed.{world_view};
-ghost use Rattle.acn_sites.specs.Slots as spec;
-ghost use Rattle.acn_sites.specs.View.{frame_view, step_view, scope_view, bound_view};
+ghost use Rattle.acn_slots.specs.Slots as spec;
+ghost use Rattle.acn_slots.specs.View.{frame_view, step_view, scope_view, bound_view};
 
 use crate::frame::{Frame, Step};
 use crate::plain::PlainTypes;
