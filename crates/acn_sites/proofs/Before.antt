@@ -1,5 +1,5 @@
 -- The end of a comparison of places.
-use Rattle.std.proofs.Common.{◌≡◌, ℕ, zero, suc, ◌≤◌, nat_lt, false, List, [], ◌∷◌, length, drop, drop_of_length-le, refl, sym, ap, ◌∙◌, arith}
+use Rattle.std.proofs.Common.{◌≡◌, ℕ, zero, suc, ◌≤◌, nat_lt, false, [], ◌∷◌, length, drop, drop_of_length-le, refl, sym, ap, ◌∙◌, arith}
 use Rattle.std.proofs.lemmas.Bool.Decides.{nat_tests}
 use Rattle.acn_sites.specs.Places.{Place, is_before}
 

@@ -1,5 +1,5 @@
 -- The sites of a type: the nodes that are to be made for it, in preorder. These rules are this profile's own.
-use Rattle.std.specs.Prelude.{ℕ, zero, suc, Bool, List, [], ◌∷◌, ◌++◌, map, flat_map, filter_map, find, Option, Some, None, option_map, option_and_then, option_to_list, if◌then◌else◌, codes, slice_get}
+use Rattle.std.specs.Prelude.{ℕ, zero, suc, Bool, List, [], ◌∷◌, ◌++◌, map, flat_map, filter_map, find, Option, Some, None, option_map, option_and_then, option_to_list, if◌then◌else◌, codes}
 use Rattle.std.specs.List.{enumerate_from, list_any, zip}
 use Rattle.std.specs.Option.{option_or}
 use Rattle.std.specs.Str.{bytes_eq}
@@ -8,7 +8,6 @@ use Rattle.acn_asn_syntax.specs.Mirror.{AsnBase, AsnType, Component, component_l
 use Rattle.acn_asn_syntax.specs.declared.types.Rest.{Rest}
 use Rattle.acn_acn_syntax.specs.Mirror as acn
 use Rattle.acn_acn_syntax.specs.declared.modules.AcnPath.{AcnPath}
-use Rattle.acn_acn_syntax.specs.declared.modules.Attr.{Attr}
 use Rattle.acn_acn_syntax.specs.declared.modules.FieldKind.{FieldKind}
 use Rattle.acn_acn_syntax.specs.declared.modules.Param.{Param}
 use Rattle.acn_world.specs.World.{World}
@@ -19,7 +18,7 @@ use Rattle.acn_world.specs.declared.sources.TypeId.{TypeId}
 use Rattle.acn_slots.specs.declared.slots.Slot.{Slot}
 use Rattle.acn_slots.specs.declared.slots.Lead.{Lead}
 use Rattle.acn_slots.specs.declared.slots.Lead.TheVariants as lead
-use Rattle.acn_sites.specs.Places.{Place, entry_place, argument_place, attribute_place, field_place}
+use Rattle.acn_sites.specs.Places.{Place, entry_place, field_place}
 use Rattle.acn_slots.specs.Slots.{default_of, Use, no_use, use_of, Field, component, extra, name_in_text, fields_of, kind_chain, Origin, at_use, at_entry, braces_origin, braces_at, braces_module, Frame, Scope, no_scope, leads}
 
 -- what a node is in the node above it
