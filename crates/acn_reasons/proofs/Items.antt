@@ -1,5 +1,5 @@
 -- An item is among those that were noted.
-use Rattle.std.proofs.Common.{◌≡◌, ℕ, Bool, true, false, List, [], ◌∷◌, Option, Some, None, refl, sym, ap, ◌∙◌}
+use Rattle.std.proofs.Common.{◌≡◌, ℕ, Bool, true, false, List, [], ◌∷◌, Option, Some, refl, ap, ◌∙◌}
 use Rattle.std.specs.Prelude.{is_some, cond, ◌||◌}
 use Rattle.std.specs.Str.{bytes_eq}
 use Rattle.acn_num.specs.Names.{Name}

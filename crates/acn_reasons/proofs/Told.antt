@@ -1,8 +1,8 @@
 -- Faults of constraints that are told on.
-use Rattle.std.proofs.Common.{◌≡◌, Bool, true, false, Option, Some, None, refl, sym, ap, ◌∙◌, option_map}
-use Rattle.std.specs.Prelude.{Result, Ok, Err, is_some}
+use Rattle.std.proofs.Common.{◌≡◌, Bool, true, Option, Some, None, ap, ◌∙◌, option_map}
+use Rattle.std.specs.Prelude.{Result, Ok, is_some}
 use Rattle.acn_num.specs.Ranges.{Ranges}
-use Rattle.acn_constraint.specs.Constraints.{Fault, unbounded}
+use Rattle.acn_constraint.specs.Constraints.{Fault}
 use Rattle.acn_constraint.specs.Views.{fault_of, Refused}
 use Rattle.acn_constraint.specs.declared.fault.ConstraintFault.{ConstraintFault}
 use Rattle.acn_reasons.specs.Constrained.{fault_in, size_fault}

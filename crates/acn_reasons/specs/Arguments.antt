@@ -1,6 +1,6 @@
 -- Arguments that differ from the parameters. These rules are this profile's own.
-use Rattle.std.specs.Prelude.{ℕ, Bool, true, false, not, ◌&&◌, ◌||◌, nat_eq, List, [], ◌∷◌, length, Option, Some, None, option_map, option_and_then, if◌then◌else◌}
-use Rattle.std.specs.List.{zip, list_any, list_all}
+use Rattle.std.specs.Prelude.{ℕ, Bool, true, false, not, ◌&&◌, ◌||◌, nat_eq, List, [], length, Option, Some, None, option_and_then, if◌then◌else◌}
+use Rattle.std.specs.List.{zip, list_all}
 use Rattle.acn_asn_syntax.specs.Mirror.{AsnType}
 use Rattle.acn_acn_syntax.specs.declared.modules.AcnPath.{AcnPath}
 use Rattle.acn_acn_syntax.specs.declared.modules.Param.{Param}
@@ -8,13 +8,13 @@ use Rattle.acn_acn_syntax.specs.declared.modules.ParamKind.{ParamKind}
 use Rattle.acn_acn_syntax.specs.declared.modules.ParamKind.TheVariants as param
 use Rattle.acn_world.specs.World.{World}
 use Rattle.acn_world.specs.Lookup.{EntryAt}
-use Rattle.acn_world.specs.Chains.{ChainOf, written, chain_of, gives_parameters, has_items}
+use Rattle.acn_world.specs.Chains.{written, chain_of, gives_parameters, has_items}
 use Rattle.acn_slots.specs.declared.slots.Sort.{Sort}
 use Rattle.acn_slots.specs.declared.slots.Sort.TheVariants as sort
 use Rattle.acn_slots.specs.declared.slots.Lead.{Lead}
 use Rattle.acn_slots.specs.declared.slots.Lead.TheVariants as lead
 use Rattle.acn_slots.specs.Slots.{Origin, named_chain, sort_of, braces_origin, leads}
-use Rattle.acn_sites.specs.Sites.{Site, base_of, Inside, components, alternatives, an_element, octets, nothing, inside_of, has_parameters, content_of}
+use Rattle.acn_sites.specs.Sites.{Site, base_of, Inside, an_element, octets, inside_of, has_parameters, content_of}
 
 -- ---- whether arguments stand for what is in a site
 

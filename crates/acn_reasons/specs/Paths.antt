@@ -13,7 +13,7 @@ use Rattle.acn_sites.specs.declared.attributes.AttrKind.{AttrKind}
 use Rattle.acn_sites.specs.declared.attributes.AttrKind.TheVariants as kind
 use Rattle.acn_slots.specs.declared.slots.Lead.{Lead}
 use Rattle.acn_slots.specs.declared.slots.Lead.TheVariants as lead
-use Rattle.acn_sites.specs.Places.{Place, argument_place, condition_place, sooner, earliest_from, found_there}
+use Rattle.acn_sites.specs.Places.{Place, argument_place, condition_place, earliest_from, found_there}
 use Rattle.acn_slots.specs.Slots.{Scope, leads}
 use Rattle.acn_sites.specs.Sites.{Site}
 use Rattle.acn_sites.specs.Attributes.{Given, nearest, place_of, scope_of}

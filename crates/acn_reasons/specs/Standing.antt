@@ -1,7 +1,6 @@
 -- Attributes that are given twice, and attributes that may not stand where they stand. These rules are this profile's own.
 use Rattle.std.specs.Prelude.{ℕ, Bool, true, false, not, ◌&&◌, ◌||◌, nat_lt, List, [], ◌∷◌, take, length, find, Option, Some, None, option_map, is_some, if◌then◌else◌}
 use Rattle.std.specs.List.{enumerate_from, list_any}
-use Rattle.acn_asn_syntax.specs.declared.types.Rest.TheVariants as rest
 use Rattle.acn_acn_syntax.specs.declared.modules.Attr.{Attr}
 use Rattle.acn_acn_syntax.specs.declared.modules.Attr.TheVariants as attr
 use Rattle.acn_acn_syntax.specs.declared.modules.SizeAttr.{SizeAttr}

@@ -1,5 +1,4 @@
 use Rattle.std.proofs.Common.{◌≡◌, drop, map}
-use Rattle.std.specs.Prelude.{ℕ, List}
 use Rattle.acn_world.specs.Lookup.{EntryAt}
 use Rattle.acn_world.specs.Chained.{entries_view}
 use Rattle.acn_sites.specs.Places.{earliest, earliest_from}
