@@ -11,6 +11,7 @@ use crate::measure::{
 use crate::names::told;
 use crate::reading::{kept_told, print_told, tokens_told};
 use crate::sheet::{Question, Sheet};
+use crate::siting::sites_of_t;
 use crate::texts::sources;
 use crate::trouble::{Trouble, trouble_in_words};
 use acn_names::resolve;
@@ -37,6 +38,7 @@ fn looked_up(
         Question::Count => count_of_t(alloc, world),
         Question::Sizes => sizes_of_t(alloc, world),
         Question::Characters => characters_of_t(alloc, world),
+        Question::Sites => sites_of_t(alloc, world),
         Question::Text => text_of_t(alloc, world),
         _ => Err(Trouble::Absent),
     }

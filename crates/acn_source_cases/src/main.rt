@@ -15,6 +15,7 @@ mod measure;
 mod names;
 mod reading;
 mod sheet;
+mod siting;
 mod texts;
 mod trouble;
 

@@ -47,7 +47,8 @@ fn open_in_words(alloc: Global, set: &OpenSet) -> Result<String, Trouble> {
     Ok(words)
 }
 
-fn fault_in_words(alloc: Global, fault: ConstraintFault) -> Result<String, Trouble> {
+/// The fault of constraints in words.
+pub fn fault_in_words(alloc: Global, fault: ConstraintFault) -> Result<String, Trouble> {
     match fault {
         ConstraintFault::NoMemory => Err(Trouble::NoMemory),
         ConstraintFault::Empty => Ok(format!(in alloc; "Empty")?),

@@ -44,6 +44,8 @@ pub enum Question {
     Characters,
     /// Its sizes and characters together.
     Text,
+    /// The sites of the type T of the module M, or the first that can't be made.
+    Sites,
     /// The way of the first node of a graph that leads to itself.
     Ring,
     /// The same in a long chain.
@@ -105,6 +107,7 @@ fn more_questions_of(word: &str) -> Option<Question> {
         "count" => Some(Question::Count),
         "sizes" => Some(Question::Sizes),
         "characters" => Some(Question::Characters),
+        "sites" => Some(Question::Sites),
         "text" => Some(Question::Text),
         "ring" => Some(Question::Ring),
         "long-ring" => Some(Question::LongRing),

@@ -1,0 +1,4 @@
+pub mod Places
+pub mod Sites
+pub mod Attributes
+pub mod View
