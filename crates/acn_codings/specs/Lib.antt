@@ -1,0 +1,3 @@
+pub mod Codings
+pub mod Left
+pub mod Tables

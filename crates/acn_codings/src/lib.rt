@@ -1,0 +1,11 @@
+//! How numbers, patterns and sizes are written where ACN's attributes say so: which coding `size` and `encoding` give,
+//! which numbers it can write, what a mapping table maps, and what is left of a set.
+#![tactic(auto)]
+
+mod coding;
+mod left;
+mod table;
+
+pub use coding::{Coding, coding_of, fits, numbers};
+pub use left::{least_lost, left_of};
+pub use table::{keys_to, table_fault};
