@@ -1,5 +1,5 @@
 -- What is left of the numbers of an INTEGER where its coding can't write all. (This profile's own.)
-use Rattle.std.specs.Prelude.{Bool, true, false, List, [], ◌∷◌, Option, Some, None, if◌then◌else◌, ℤ}
+use Rattle.std.specs.Prelude.{Bool, true, false, [], ◌∷◌, Option, Some, None, ℤ}
 use Rattle.acn_num.specs.Ranges.{Ranges, meet, except, some_range, bottom, top, least, greatest}
 use Rattle.acn_constraint.specs.Constraints.{Opened}
 

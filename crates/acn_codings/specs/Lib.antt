@@ -1,3 +1,4 @@
 pub mod Codings
 pub mod Left
+pub mod Literals
 pub mod Tables

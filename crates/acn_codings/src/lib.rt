@@ -4,8 +4,10 @@
 
 mod coding;
 mod left;
+mod literal;
 mod table;
 
 pub use coding::{Coding, coding_of, fits, numbers};
 pub use left::{least_lost, left_of};
+pub use literal::{bit_count, pattern_of};
 pub use table::{keys_to, table_fault};
