@@ -3,11 +3,13 @@
 #![tactic(auto)]
 
 mod coding;
+mod items;
 mod left;
 mod literal;
 mod table;
 
 pub use coding::{Coding, coding_of, fits, numbers};
+pub use items::numbers_of;
 pub use left::{least_lost, left_of};
 pub use literal::{bit_count, pattern_of};
 pub use table::{keys_to, table_fault};

@@ -58,8 +58,8 @@ fn is_line(line: &(i128, i128, i128)) -> bool
     }
 }
 
-// The numbers from one to another.
-fn some_range(alloc: Global, low: i128, high: i128) -> Result<RangeSet, NoMemory>
+/// The numbers from one to another.
+pub fn some_range(alloc: Global, low: i128, high: i128) -> Result<RangeSet, NoMemory>
     requires above { bottom ≤ℤ low }
     requires below { high ≤ℤ top }
     ensures { IfOk result (λ s. s ≡ some_range low high) }
@@ -120,10 +120,7 @@ fn taken(
 {
     let same_keys = keys(alloc, line)?.meet(alloc, keys_before)?;
     let same_images = images(alloc, line)?.meet(alloc, images_before)?;
-    Ok(lesser(
-        same_keys.least(),
-        key_of_least(line, &same_images),
-    ))
+    Ok(lesser(same_keys.least(), key_of_least(line, &same_images)))
 }
 
 // The key at which a line is at fault behind lines that give keys and images.
