@@ -5,4 +5,4 @@ pub mod stand;
 pub mod written;
 
 pub use stand::{all_stand, named_of};
-pub use written::{character_in, next_character, number_in, text_in};
+pub use written::{character_in, next_character, number_in, signed, text_in};

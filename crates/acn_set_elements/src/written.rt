@@ -8,8 +8,8 @@ use acn_world::World;
 /// The octet of a quotation mark.
 const QUOTE: u8 = 34;
 
-// The number of this sign and these digits.
-fn signed(negative: bool, digits: u64) -> i128
+/// The number of this sign and these digits.
+pub fn signed(negative: bool, digits: u64) -> i128
     ensures { result ≡ spec.signed negative digits }
 {
     if negative {
