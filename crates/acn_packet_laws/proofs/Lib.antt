@@ -58,6 +58,7 @@ mod OneRefusals
 mod OneWriting
 mod Overlaps
 mod PartPaths
+mod NamedSlots
 mod PathSlots
 mod PlaceRows
 -- for acn_check

@@ -481,7 +481,7 @@ homes_run find h e each k (element d es) m i = truth {F = NodeHomes h} (nat_eq m
     (λ n. homes_run find h e each (suc k) es m (sym (if_no (nat_eq m k) (find d) (element_part find (suc k) es m) n) ∙ i))
 
 mutual
-  homes_at : (g : Grammar) → NodeHomes g → (d : Data) (r : List ℕ) (h : Grammar) (e : Data) → part_at g d r ≡ Some (occurrence h e) → NodeHomes h
+  pub homes_at : (g : Grammar) → NodeHomes g → (d : Data) (r : List ℕ) (h : Grammar) (e : Data) → part_at g d r ≡ Some (occurrence h e) → NodeHomes h
   homes_at (node align form) homes d [] h e i =
       let u : Occurrence = occurrence (node align form) d in
       let v : Occurrence = occurrence h e in

@@ -1,8 +1,8 @@
 -- Laws of the definitions, as contracts name them.
-use Rattle.std.specs.Prelude.{◌*◌, ◌≡◌, ◌≢◌, ℕ, ◌+◌, ◌≤◌, ◌<◌, ℤ, Bool, true, false, List, [], ◌∷◌, ◌++◌, length, map, take, slice_get, Some, IsTrue, ◌⊎◌, IsSome}
+use Rattle.std.specs.Prelude.{◌*◌, ◌≡◌, ◌≢◌, ℕ, ◌+◌, ◌≤◌, ◌<◌, ℤ, Bool, true, false, List, [], ◌∷◌, ◌++◌, length, map, take, slice_get, Option, Some, IsTrue, ◌⊎◌, IsSome}
 use Rattle.std.specs.List.{flat_map, AllByRecursion}
 use Rattle.acn_grammar.specs.Grammar.{Grammar, Fields, Data, node, num, seq}
-use Rattle.acn_grammar.specs.Asks.{moments, field_path}
+use Rattle.acn_grammar.specs.Asks.{Moment, asks, counts, moments, field_path}
 use Rattle.acn_grammar.specs.AsksOn.{form_asks_on}
 use Rattle.acn_num.specs.Ranges.{In}
 use Rattle.acn_grammar.specs.Check.{CheckFault, AsksFor, NodeAt, Undecodable, FirstFault, HasWidth, open_at}
@@ -225,6 +225,20 @@ abbrev pub EachOccurrenceAsks : Type 0
 EachOccurrenceAsks =
     (root : Grammar) (d part : Data) (path home : List ℕ) (align s : ℕ) (fields : Fields) → IsTree root → part_at root d path ≡ Some (occurrence (node align (seq fields home)) part) → IsTrue (holds home s)
     → asks_of (field_path path fields s) (moments root root [] [] d) ≡ form_asks_on root s (seq fields home) part
+
+-- a moment that asks names a field of its slot
+abbrev pub NamesItsSlot : (slot_at : List ℕ → Option ℕ) → Moment → Type 0
+NamesItsSlot slot_at (asks path field s a) = slot_at field ≡ Some s
+NamesItsSlot slot_at (counts path n sizing) = Unit {0}
+
+-- which slot a field is of, by its path in a packet: that of each ask of a walk, and of each slot at home in an occurrence of a SEQUENCE
+pub record TellsSlots (root : Grammar) (slot_at : List ℕ → Option ℕ) : Type 0 where
+  pub asked : (d : Data) → AllByRecursion (NamesItsSlot slot_at) (moments root root [] [] d)
+  pub at_home : (d part : Data) (path home : List ℕ) (align s : ℕ) (fields : Fields) → part_at root d path ≡ Some (occurrence (node align (seq fields home)) part) → IsTrue (holds home s) → slot_at (field_path path fields s) ≡ Some s
+
+-- in an accepted tree the path of a field tells its slot
+abbrev pub FieldsTellTheirSlots : Type 0
+FieldsTellTheirSlots = (root : Grammar) → IsAccepted root → (slot_at : List ℕ → Option ℕ) × TellsSlots root slot_at
 
 -- in what is spelled, read or written, nothing is a breach
 abbrev pub SpellingsHaveNoBreach : Type 0

@@ -1,4 +1,4 @@
-ghost use Rattle.acn_packet_laws.specs.Laws.{NumbersArePrefixFree, BoundsHold, FailuresRestOnBits, FrontsRestOnBits, NoFaultWithoutAFirst, OneFirstFault, AcceptedIsScoped, AcceptedIsSound, EachNodeIsSound, SoundIsScoped, KnownBehind, KnownStays, SlotsPermitWhatTheirFieldsSay, FewAreOpen, UsesFitTheirSlots, NodesArePrefixFree, SlotFieldsArePrefixFree, EachNodeIsPrefixFree, PacketsArePrefixFree, EachNumberHasACode, LengthsAreTold, EachLengthIsTold, WidthsAreLengths, OneFront, FrontsExcludeFailures, OneFailure, EachInputIsReadOrFails, EachInputIsANumberOrFails, WrittenIsRead, SpelledValuesMeet, SpellingsHaveNoBreach, EachOccurrenceAsks, OneWriting, RefusedIsNotSpelled, OneRefusal, EachValueIsWrittenOrRefused, LaterStartsEndLater, ValuesLieWithinBounds, ReachesLieInside, ShortIsNear, EachNodeHasItsPath, EachPathHasItsNumber, ValuesAreOfNodes, FailuresAreAtNodes, BreachesAreAtNodes, RefusalsAreAtNodes, PartsAreOfNodes};
+ghost use Rattle.acn_packet_laws.specs.Laws.{NumbersArePrefixFree, BoundsHold, FailuresRestOnBits, FrontsRestOnBits, NoFaultWithoutAFirst, OneFirstFault, AcceptedIsScoped, AcceptedIsSound, EachNodeIsSound, SoundIsScoped, KnownBehind, KnownStays, SlotsPermitWhatTheirFieldsSay, FewAreOpen, UsesFitTheirSlots, NodesArePrefixFree, SlotFieldsArePrefixFree, EachNodeIsPrefixFree, PacketsArePrefixFree, EachNumberHasACode, LengthsAreTold, EachLengthIsTold, WidthsAreLengths, OneFront, FrontsExcludeFailures, OneFailure, EachInputIsReadOrFails, EachInputIsANumberOrFails, WrittenIsRead, SpelledValuesMeet, SpellingsHaveNoBreach, EachOccurrenceAsks, FieldsTellTheirSlots, OneWriting, RefusedIsNotSpelled, OneRefusal, EachValueIsWrittenOrRefused, LaterStartsEndLater, ValuesLieWithinBounds, ReachesLieInside, ShortIsNear, EachNodeHasItsPath, EachPathHasItsNumber, ValuesAreOfNodes, FailuresAreAtNodes, BreachesAreAtNodes, RefusalsAreAtNodes, PartsAreOfNodes};
 
 /// No code of a number leaf begins another, and the code tells the number.
 pub fn numbers_are_prefix_free()
@@ -160,6 +160,12 @@ pub fn spellings_have_no_breach()
 /// What the whole walk asks of one field is what the occurrence of its slot's home asks of the slot.
 pub fn each_occurrence_asks()
     ensures { EachOccurrenceAsks }
+{}
+
+/// The path of a field in a packet tells the slot whose number it says: that of each ask, and of each slot at home in an
+/// occurrence of a SEQUENCE.
+pub fn fields_tell_their_slots()
+    ensures { FieldsTellTheirSlots }
 {}
 
 /// A value of an accepted tree is written in one way.

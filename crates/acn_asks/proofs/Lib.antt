@@ -1,0 +1,5 @@
+mod Lists
+mod Steps
+mod Fields
+mod Walked
+mod Turns

@@ -1,0 +1,4 @@
+pub mod Heard
+pub mod Judged
+pub mod Kept
+pub mod Moments
