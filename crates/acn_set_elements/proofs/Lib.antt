@@ -3,3 +3,4 @@ pub mod Bases
 mod Ones
 -- for acn_constraint
 pub mod Texts
+mod FoundNumbers

@@ -1,3 +1,4 @@
 pub mod Material
+pub mod Numbered
 pub mod Stands
 pub mod Written

@@ -1,6 +1,6 @@
 //! Which elements may stand in a constraint of which type.
 
-ghost use Rattle.std.specs.Prelude.{◌≡◌, [], ◌&&◌, map, filter};
+ghost use Rattle.std.specs.Prelude.{◌≡◌, [], ◌&&◌, map, filter, IfOk};
 ghost use Rattle.std.specs.List.{list_all};
 ghost use Rattle.acn_asn_syntax.specs.View.{seen_meet, seen_part, base_view, constraint_view, element_view, set_view, meet_view, part_view, meets_of, parts_of};
 ghost use Rattle.acn_asn_syntax.specs.Mirror.{part_of, union_of};
@@ -9,18 +9,22 @@ ghost use Rattle.acn_world.specs.Viewed.{world_view};
 ghost use Rattle.acn_set_elements.specs.Material.{built_of};
 ghost use Rattle.acn_set_elements.specs.Stands as spec;
 ghost use Rattle.acn_set_elements.specs.Stands.{of_numbers, of_sizes, of_texts};
-ghost use Rattle.acn_set_elements.specs.Written.{named_of as names_of, listed as names_listed};
+ghost use Rattle.acn_set_elements.specs.Written.{named_of as names_of};
 
-use crate::written::{character_in, number_in, text_in};
-use acn_asn_syntax::{AsnBase, AsnRange, AsnValue, Constraint, Element, Meet, Named, Part, Set};
-use acn_num::Row;
+use crate::numbers::NumberNames;
+use crate::written::{character_in, number_in, plain_number_in, text_in};
+use acn_asn_syntax::{AsnBase, AsnRange, AsnValue, Constraint, Element, Meet, Part, Set};
+use acn_num::NoMemory;
 use acn_world::World;
+use std::alloc::Global;
 
 /// What a set is built of.
 #[derive(Clone, Copy)]
 pub enum Material<'n> {
     /// Numbers, where these names stand for numbers.
-    Numbers(&'n [Named]),
+    Numbers(&'n NumberNames<'n>),
+    /// Numbers, where no name of a type's own stands for one.
+    Plain,
     /// Texts.
     Texts,
     /// SIZE alone.
@@ -40,6 +44,7 @@ fn value_fits(site: Site<'_>, value: &AsnValue) -> bool
 {
     match site.of {
         Material::Numbers(names) => number_in(site.world, names, site.owner, value).is_some(),
+        Material::Plain => plain_number_in(site.world, site.owner, value).is_some(),
         Material::Texts => text_in(site.world, site.owner, value).is_some(),
         Material::Sizes => false,
     }
@@ -55,6 +60,7 @@ fn end_fits(site: Site<'_>, end: &Option<AsnValue>) -> bool
         (Material::Numbers(names), Some(value)) => {
             number_in(site.world, names, site.owner, value).is_some()
         }
+        (Material::Plain, Some(value)) => plain_number_in(site.world, site.owner, value).is_some(),
         (Material::Texts, Some(value)) => character_in(site.world, site.owner, value).is_some(),
     }
 }
@@ -75,6 +81,7 @@ pub fn built(set: &Set, site: Site<'_>) -> bool
         Set::AllExcept(element) => match site.of {
             Material::Sizes => false,
             Material::Numbers(_) => element_built(element, site),
+            Material::Plain => element_built(element, site),
             Material::Texts => element_built(element, site),
         },
         Set::Union(first, more) => meet_built(first, site) && meets_built(more.items(), site),
@@ -136,10 +143,11 @@ fn element_built(element: &Element, site: Site<'_>) -> bool
         Element::Range(range) => range_fits(site, range),
         Element::SizeOf(set) => match site.of {
             Material::Sizes => {
-                let of = Material::Numbers(&[]);
+                let of = Material::Plain;
                 built(set.get(), Site { of, ..site })
             }
             Material::Numbers(_) => false,
+            Material::Plain => false,
             Material::Texts => false,
         },
         Element::From(_) => false,
@@ -244,40 +252,11 @@ fn text_set(set: &Set, world: &World, owner: u32) -> bool
     }
 }
 
-// Named numbers, where some are written.
-fn listed(names: &Option<Row<Named>>) -> &[Named]
-    ensures { result.now ≡ names_listed names.now }
-{
-    match names {
-        None => &[],
-        Some(names) => names.items(),
-    }
-}
-
-/// The named numbers of an INTEGER.
-pub fn named_of(base: &AsnBase) -> &[Named]
-    ensures { result.now ≡ names_of (base_view base.now) }
-{
-    match base {
-        AsnBase::Integer(names) => listed(names),
-        AsnBase::Boolean => &[],
-        AsnBase::Null => &[],
-        AsnBase::Enumerated(_) => &[],
-        AsnBase::OctetString => &[],
-        AsnBase::BitString => &[],
-        AsnBase::Ia5String => &[],
-        AsnBase::Sequence(_) => &[],
-        AsnBase::SequenceOf(_, _) => &[],
-        AsnBase::Choice(_) => &[],
-        AsnBase::Ref(_, _) => &[],
-    }
-}
-
 // Whether a set is built of the numbers of an INTEGER.
-fn numbers_stand(base: &AsnBase, set: &Set, world: &World, owner: u32) -> bool
-    ensures { result ≡ spec.built (world_view world.now) owner (of_numbers (names_of (base_view base.now))) (set_view set.now) }
+fn numbers_stand(names: &NumberNames<'_>, set: &Set, world: &World, owner: u32) -> bool
+    ensures { result ≡ spec.built (world_view world.now) owner (of_numbers names.now) (set_view set.now) }
 {
-    let of = Material::Numbers(named_of(base));
+    let of = Material::Numbers(names);
     built(set, Site { world, owner, of })
 }
 
@@ -289,11 +268,12 @@ fn sizes_stand(set: &Set, world: &World, owner: u32) -> bool
     built(set, Site { world, owner, of })
 }
 
-fn set_stands(base: &AsnBase, set: &Set, world: &World, owner: u32) -> bool
+fn set_stands(base: &AsnBase, names: &NumberNames<'_>, set: &Set, world: &World, owner: u32) -> bool
+    requires { names.now ≡ names_of (base_view base.now) }
     ensures { result ≡ spec.set_stands (world_view world.now) owner (base_view base.now) (set_view set.now) }
 {
     match base {
-        AsnBase::Integer(_) => numbers_stand(base, set, world, owner),
+        AsnBase::Integer(_) => numbers_stand(names, set, world, owner),
         AsnBase::Ia5String => text_set(set, world, owner),
         AsnBase::OctetString => sizes_stand(set, world, owner),
         AsnBase::BitString => sizes_stand(set, world, owner),
@@ -330,7 +310,7 @@ fn has_sizes(base: &AsnBase) -> bool
 fn plain_stand(set: &Set, world: &World, owner: u32) -> bool
     ensures { result ≡ spec.built (world_view world.now) owner (of_numbers []) (set_view set.now) }
 {
-    let of = Material::Numbers(&[]);
+    let of = Material::Plain;
     built(set, Site { world, owner, of })
 }
 
@@ -360,22 +340,35 @@ fn is_octets(base: &AsnBase) -> bool
 }
 
 // Whether a constraint may stand on a type.
-fn stands(base: &AsnBase, constraint: &Constraint, world: &World, owner: u32) -> bool
+fn stands(
+    base: &AsnBase,
+    names: &NumberNames<'_>,
+    constraint: &Constraint,
+    world: &World,
+    owner: u32,
+) -> bool
+    requires { names.now ≡ names_of (base_view base.now) }
     ensures { result ≡ spec.stands (world_view world.now) owner (base_view base.now) (constraint_view constraint.now) }
 {
     match constraint {
-        Constraint::Set(set) => set_stands(base, set, world, owner),
+        Constraint::Set(set) => set_stands(base, names, set, world, owner),
         Constraint::Size(set) => size_stands(base, set, world, owner),
         Constraint::Containing(_) => is_octets(base),
     }
 }
 
 // Whether each constraint may stand on a type.
-fn each_stands(constraints: &[(u32, &Constraint)], base: &AsnBase, world: &World) -> bool
+fn each_stands(
+    constraints: &[(u32, &Constraint)],
+    base: &AsnBase,
+    names: &NumberNames<'_>,
+    world: &World,
+) -> bool
+    requires { names.now ≡ names_of (base_view base.now) }
     ensures { result ≡ list_all (λ c. spec.stands (world_view world.now) c.0 (base_view base.now) c.1) (constraints_view constraints.now) }
 {
     for constraint in constraints {
-        if !stands(base, constraint.1, world, constraint.0) {
+        if !stands(base, names, constraint.1, world, constraint.0) {
             return false;
         }
     }
@@ -409,8 +402,14 @@ fn contains_once(constraints: &[(u32, &Constraint)]) -> bool
 
 /// Whether each constraint may stand on a type, and CONTAINING stands at most once.
 #[tactic(auto, unfolding(crate::specs::Stands::all_stand))]
-pub fn all_stand(constraints: &[(u32, &Constraint)], base: &AsnBase, world: &World) -> bool
-    ensures { result ≡ spec.all_stand (world_view world.now) (base_view base.now) (constraints_view constraints.now) }
+pub fn all_stand(
+    alloc: Global,
+    constraints: &[(u32, &Constraint)],
+    base: &AsnBase,
+    world: &World,
+) -> Result<bool, NoMemory>
+    ensures { IfOk result (λ b. b ≡ spec.all_stand (world_view world.now) (base_view base.now) (constraints_view constraints.now)) }
 {
-    each_stands(constraints, base, world) && contains_once(constraints)
+    let names = NumberNames::of(alloc, base, constraints)?;
+    Ok(each_stands(constraints, base, &names, world) && contains_once(constraints))
 }

@@ -1,8 +1,9 @@
-ghost use Rattle.std.specs.Prelude.{◌≡◌, option_map, ◌<◌, ◌≤◌, ◌+◌, ◌∷◌, ◌&&◌, length, get_or, drop};
+ghost use Rattle.std.specs.Prelude.{◌≡◌, option_map, ◌<◌, ◌≤◌, ◌+◌, ◌∷◌, [], ◌&&◌, length, get_or, drop};
 ghost use Rattle.acn_world.specs.Viewed.{world_view};
 ghost use Rattle.acn_set_elements.specs.Written as spec;
 
-use acn_asn_syntax::{AsnValue, Named};
+use crate::numbers::NumberNames;
+use acn_asn_syntax::AsnValue;
 use acn_world::World;
 
 /// The octet of a quotation mark.
@@ -17,18 +18,6 @@ pub fn signed(negative: bool, digits: u64) -> i128
     } else {
         i128::from(digits)
     }
-}
-
-// The number of a named number.
-fn named_in(names: &[Named], name: &[u8]) -> Option<i128>
-    ensures { result ≡ spec.named_in names.now name.now }
-{
-    for named in names {
-        if named.name.bytes() == name {
-            return Some(signed(named.negative, named.number));
-        }
-    }
-    None
 }
 
 // The number that a value is.
@@ -57,15 +46,31 @@ fn referred_number(world: &World, k: u32, name: &[u8]) -> Option<i128>
 }
 
 /// A number as it is written in a module, where these names stand for numbers before any other.
-pub fn number_in(world: &World, names: &[Named], k: u32, value: &AsnValue) -> Option<i128>
+pub fn number_in(world: &World, names: &NumberNames<'_>, k: u32, value: &AsnValue) -> Option<i128>
     ensures { result ≡ spec.number_in (world_view world.now) names.now k value.now }
 {
     match value {
         AsnValue::Number(negative, digits) => Some(signed(*negative, *digits)),
-        AsnValue::Ref(name) => match named_in(names, name.bytes()) {
+        AsnValue::Ref(name) => match names.number_of(name.bytes()) {
             Some(number) => Some(number),
             None => referred_number(world, k, name.bytes()),
         },
+        AsnValue::True => None,
+        AsnValue::False => None,
+        AsnValue::Null => None,
+        AsnValue::Bits(_) => None,
+        AsnValue::Hex(_) => None,
+        AsnValue::Text(_) => None,
+    }
+}
+
+/// The same where no names but those of values stand for numbers.
+pub fn plain_number_in(world: &World, k: u32, value: &AsnValue) -> Option<i128>
+    ensures { result ≡ spec.number_in (world_view world.now) [] k value.now }
+{
+    match value {
+        AsnValue::Number(negative, digits) => Some(signed(*negative, *digits)),
+        AsnValue::Ref(name) => referred_number(world, k, name.bytes()),
         AsnValue::True => None,
         AsnValue::False => None,
         AsnValue::Null => None,

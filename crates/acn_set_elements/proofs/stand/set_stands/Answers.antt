@@ -1,4 +1,4 @@
-use Rattle.std.proofs.Common.{refl, sym, ◌∙◌}
+use Rattle.std.proofs.Common.{refl, sym, ap, ◌∙◌}
 use Rattle.acn_asn_syntax.proofs.Views.{view_Boolean, view_Null, view_Integer, view_Enumerated, view_OctetString, view_BitString, view_Ia5String, view_Sequence, view_Choice, view_Ref}
 use Rattle.acn_set_elements.proofs.Bases.{at_base, at_list}
 use Rattle.acn_asn_syntax.specs.View.{set_view}
@@ -26,7 +26,7 @@ pub returns-in-Ref : goal.returns-in-Ref
 returns-in-Ref c = sym (at_base (λ b. set_stands (world_view c.args.world.now) c.args.owner b (set_view c.args.set.now)) c.in-Ref.is (view_Ref c.in-Ref.field-0 c.in-Ref.field-1))
 
 pub returns-in-Integer : goal.returns-in-Integer
-returns-in-Integer c = c.numbers_stand.ensures ∙ at_base (λ b. built (world_view c.args.world.now) c.args.owner (of_numbers (named_of b)) (set_view c.args.set.now)) c.in-Integer.is (view_Integer c.in-Integer.field-0) ∙ sym (at_base (λ b. set_stands (world_view c.args.world.now) c.args.owner b (set_view c.args.set.now)) c.in-Integer.is (view_Integer c.in-Integer.field-0))
+returns-in-Integer c = c.numbers_stand.ensures ∙ ap (λ ns. built (world_view c.args.world.now) c.args.owner (of_numbers ns) (set_view c.args.set.now)) c.requires ∙ at_base (λ b. built (world_view c.args.world.now) c.args.owner (of_numbers (named_of b)) (set_view c.args.set.now)) c.in-Integer.is (view_Integer c.in-Integer.field-0) ∙ sym (at_base (λ b. set_stands (world_view c.args.world.now) c.args.owner b (set_view c.args.set.now)) c.in-Integer.is (view_Integer c.in-Integer.field-0))
 
 pub returns-in-OctetString : goal.returns-in-OctetString
 returns-in-OctetString c = c.sizes_stand.ensures ∙ sym (at_base (λ b. set_stands (world_view c.args.world.now) c.args.owner b (set_view c.args.set.now)) c.in-OctetString.is view_OctetString)

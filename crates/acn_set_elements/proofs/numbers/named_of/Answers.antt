@@ -2,7 +2,7 @@ use Rattle.std.proofs.Common.{refl, sym, ◌∙◌}
 use Rattle.acn_asn_syntax.proofs.Views.{view_Boolean, view_Null, view_Integer, view_Enumerated, view_OctetString, view_BitString, view_Ia5String, view_Sequence, view_Choice, view_Ref}
 use Rattle.acn_set_elements.proofs.Bases.{at_base, at_list}
 use Rattle.acn_set_elements.specs.Written.{named_of}
-use Rattle.acn_set_elements.proofs.stand.named_of.Goals as goal
+use Rattle.acn_set_elements.proofs.numbers.named_of.Goals as goal
 
 pub returns-in-Boolean : goal.returns-in-Boolean
 returns-in-Boolean c = sym (at_base named_of c.in-Boolean.is view_Boolean)
