@@ -13,8 +13,9 @@ ghost use Rattle.acn_constraint.specs.Readings.{reading_of};
 use crate::evaluate::{Place, Reading, set_in};
 use crate::low::{Names, set_low};
 use crate::sized::says_size;
-use acn_asn_syntax::{AsnBase, Constraint, Named, Set};
+use acn_asn_syntax::{AsnBase, Constraint, Set};
 use acn_num::{NoMemory, RangeSet, Row};
+use acn_set_elements::NumberNames;
 use acn_world::{Chain, World};
 use std::alloc::Global;
 
@@ -173,7 +174,11 @@ fn constraint_low(constraint: &Constraint, at: Names<'_>) -> Option<i128>
 
 /// The first number of the constraints that is too low.
 #[tactic(auto, using(crate::proofs::Firsts::first_append, crate::proofs::Firsts::option_or_some, crate::proofs::Firsts::option_or_none))]
-pub fn first_low(constraints: &[(u32, &Constraint)], world: &World, names: &[Named]) -> Option<i128>
+pub fn first_low<'w>(
+    constraints: &[(u32, &Constraint)],
+    world: &'w World,
+    names: &'w NumberNames<'w>,
+) -> Option<i128>
     ensures { result ≡ spec.first (flat_map (spec.low_numbers (world_view world.now) names.now) (constraints_view constraints.now)) }
 {
     for constraint in constraints {

@@ -11,25 +11,36 @@ use crate::ends::{OpenSet, TextSets, filled, opened, sized, text_sets};
 use crate::evaluate::Reading;
 use acn_asn_syntax::Constraint;
 use acn_num::{BOTTOM, NoMemory, RangeSet, TOP};
-use acn_set_elements::{all_stand, named_of};
+use acn_set_elements::{NumberNames, all_stand};
 use acn_world::{Chain, World};
 use std::alloc::Global;
 
 // Whether each constraint may stand where it stands.
-fn all_here(world: &World, chain: &Chain<'_>, constraints: &[(u32, &Constraint)]) -> bool
+fn all_here(
+    alloc: Global,
+    world: &World,
+    chain: &Chain<'_>,
+    constraints: &[(u32, &Constraint)],
+) -> Result<bool, NoMemory>
     requires { constraints_view constraints.now ≡ spec.constraints_of (chain_view chain.now) }
-    ensures { result ≡ stands.all_stand (world_view world.now) (spec.base_is (chain_view chain.now)) (spec.constraints_of (chain_view chain.now)) }
+    ensures { IfOk result (λ b. b ≡ stands.all_stand (world_view world.now) (spec.base_is (chain_view chain.now)) (spec.constraints_of (chain_view chain.now))) }
 {
-    all_stand(constraints, base_of(chain), world)
+    all_stand(alloc, constraints, base_of(chain), world)
 }
 
 // The first number that is too low.
 #[tactic(auto, unfolding(crate::specs::Constraints::first_low))]
-fn low_of(world: &World, chain: &Chain<'_>, constraints: &[(u32, &Constraint)]) -> Option<i128>
+fn low_of(
+    alloc: Global,
+    world: &World,
+    chain: &Chain<'_>,
+    constraints: &[(u32, &Constraint)],
+) -> Result<Option<i128>, NoMemory>
     requires { constraints_view constraints.now ≡ spec.constraints_of (chain_view chain.now) }
-    ensures { result ≡ spec.first_low (world_view world.now) (chain_view chain.now) }
+    ensures { IfOk result (λ low. low ≡ spec.first_low (world_view world.now) (chain_view chain.now)) }
 {
-    first_low(constraints, world, named_of(base_of(chain)))
+    let names = NumberNames::of(alloc, base_of(chain), constraints)?;
+    Ok(first_low(constraints, world, &names))
 }
 
 // The fault of a number that is too low.
@@ -45,6 +56,7 @@ fn not_low(low: Option<i128>) -> Result<(), ConstraintFault>
 // Whether each constraint may stand where it stands and no number is too low.
 #[tactic(auto, unfolding(crate::specs::Constraints::judged))]
 fn judge(
+    alloc: Global,
     world: &World,
     chain: &Chain<'_>,
     constraints: &[(u32, &Constraint)],
@@ -52,10 +64,11 @@ fn judge(
     requires { constraints_view constraints.now ≡ spec.constraints_of (chain_view chain.now) }
     ensures { Answers (λ u. u) result (spec.judged (world_view world.now) (chain_view chain.now) (Ok tt)) }
 {
-    if !all_here(world, chain, constraints) {
+    if !all_here(alloc, world, chain, constraints)? {
         return Err(ConstraintFault::NotHere);
     }
-    not_low(low_of(world, chain, constraints))
+    let low = low_of(alloc, world, chain, constraints)?;
+    not_low(low)
 }
 
 // The numbers that the constraints leave of those of an INTEGER.
@@ -70,7 +83,8 @@ fn numbers_of(
     ensures { IfOk result (λ s. s ≡ spec.numbers_of (world_view world.now) (chain_view chain.now)) }
 {
     let all = RangeSet::one(alloc, BOTTOM, TOP)?;
-    let reading = Reading::Numbers(named_of(base_of(chain)));
+    let names = NumberNames::of(alloc, base_of(chain), constraints)?;
+    let reading = Reading::Numbers(&names);
     met(alloc, constraints, world, reading, all)
 }
 
@@ -178,7 +192,7 @@ pub fn range_of(alloc: Global, world: &World, chain: &Chain<'_>) -> Result<OpenS
     ensures { Answers opened_of result (spec.range_of (world_view world.now) (chain_view chain.now)) }
 {
     let constraints = constraints_of(alloc, chain)?;
-    match judge(world, chain, constraints.items()) {
+    match judge(alloc, world, chain, constraints.items()) {
         Err(fault) => Err(fault),
         Ok(()) => range_left(alloc, world, chain, constraints.items()),
     }
@@ -196,7 +210,7 @@ pub fn size_of(
     ensures { Answers (λ s. s) result (spec.size_of (world_view world.now) (chain_view chain.now)) }
 {
     let constraints = constraints_of(alloc, chain)?;
-    match judge(world, chain, constraints.items()) {
+    match judge(alloc, world, chain, constraints.items()) {
         Err(fault) => Err(fault),
         Ok(()) => size_left(alloc, world, chain, constraints.items()),
     }
@@ -213,7 +227,7 @@ pub fn alphabet_of(
     ensures { Answers (λ s. s) result (spec.alphabet_of (world_view world.now) (chain_view chain.now)) }
 {
     let constraints = constraints_of(alloc, chain)?;
-    match judge(world, chain, constraints.items()) {
+    match judge(alloc, world, chain, constraints.items()) {
         Err(fault) => Err(fault),
         Ok(()) => alphabet_left(alloc, world, chain, constraints.items()),
     }
@@ -226,7 +240,7 @@ pub fn text_of(alloc: Global, world: &World, chain: &Chain<'_>) -> Result<TextSe
     ensures { Answers texts_of result (spec.text_of (world_view world.now) (chain_view chain.now)) }
 {
     let constraints = constraints_of(alloc, chain)?;
-    match judge(world, chain, constraints.items()) {
+    match judge(alloc, world, chain, constraints.items()) {
         Err(fault) => Err(fault),
         Ok(()) => text_left(alloc, world, chain, constraints.items()),
     }

@@ -12,9 +12,9 @@ ghost use Rattle.acn_constraint.specs.Each.{each_meet};
 use crate::letters::letters;
 use crate::sized::element_says_size;
 use crate::span::{between, single};
-use acn_asn_syntax::{AsnRange, AsnValue, Element, Meet, Named, Part, Set};
+use acn_asn_syntax::{AsnRange, AsnValue, Element, Meet, Part, Set};
 use acn_num::{NoMemory, RangeSet};
-use acn_set_elements::{character_in, number_in, text_in};
+use acn_set_elements::{NumberNames, character_in, number_in, plain_number_in, text_in};
 use acn_world::World;
 use std::alloc::Global;
 
@@ -22,7 +22,7 @@ use std::alloc::Global;
 #[derive(Clone, Copy)]
 pub enum Reading<'n> {
     /// Values of an INTEGER with these named numbers.
-    Numbers(&'n [Named]),
+    Numbers(&'n NumberNames<'n>),
     /// Sizes.
     Sizes,
     /// Characters.
@@ -43,7 +43,7 @@ fn value_set(alloc: Global, place: Place<'_>, value: &AsnValue) -> Result<RangeS
 {
     let number = match place.reading {
         Reading::Numbers(names) => number_in(place.world, names, place.owner, value),
-        Reading::Sizes => number_in(place.world, &[], place.owner, value),
+        Reading::Sizes => plain_number_in(place.world, place.owner, value),
         Reading::Characters => {
             return match text_in(place.world, place.owner, value) {
                 Some(token) => letters(alloc, token),
@@ -63,7 +63,7 @@ fn end_number(place: Place<'_>, value: &AsnValue) -> Option<i128>
 {
     match place.reading {
         Reading::Numbers(names) => number_in(place.world, names, place.owner, value),
-        Reading::Sizes => number_in(place.world, &[], place.owner, value),
+        Reading::Sizes => plain_number_in(place.world, place.owner, value),
         Reading::Characters => character_in(place.world, place.owner, value),
     }
 }

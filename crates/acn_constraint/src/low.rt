@@ -5,9 +5,9 @@ ghost use Rattle.acn_asn_syntax.specs.View.{seen_meet, seen_part, constraint_vie
 ghost use Rattle.acn_world.specs.Viewed.{world_view};
 ghost use Rattle.acn_constraint.specs.Constraints as spec;
 
-use acn_asn_syntax::{AsnValue, Constraint, Element, Meet, Named, Part, Set};
+use acn_asn_syntax::{AsnValue, Constraint, Element, Meet, Part, Set};
 use acn_num::LEAST_NUMBER;
-use acn_set_elements::number_in;
+use acn_set_elements::{NumberNames, number_in};
 use acn_world::World;
 
 /// Where numbers are read, with the names that stand for numbers.
@@ -15,7 +15,7 @@ use acn_world::World;
 pub struct Names<'w> {
     pub world: &'w World,
     pub owner: u32,
-    pub names: &'w [Named],
+    pub names: &'w NumberNames<'w>,
 }
 
 // Whether a number is below the least one that can be kept.
