@@ -4,3 +4,4 @@ mod Judged
 mod Steps
 mod Unions
 mod Permitted
+mod Shared

@@ -20,7 +20,7 @@ pub joined_ranges : (a b : Ranges) → AreRanges a → AreRanges b → AreRanges
 unfolding union outside
 joined_ranges a b h k = outside_above (bottom -ℤ pos 1) _ (meet_above (bottom -ℤ pos 1) (bottom -ℤ pos 1) _ _ (outside_above (bottom -ℤ pos 1) a h) (outside_above (bottom -ℤ pos 1) b k))
 
-less_ranges : (a b : Ranges) → AreRanges a → AreRanges b → AreRanges (except a b)
+pub less_ranges : (a b : Ranges) → AreRanges a → AreRanges b → AreRanges (except a b)
 unfolding except outside
 less_ranges a b h k = meet_above (bottom -ℤ pos 1) (bottom -ℤ pos 1) a (outside_from (bottom -ℤ pos 1) b) h (outside_above (bottom -ℤ pos 1) b k)
 
@@ -113,13 +113,13 @@ module _ (w : World) (k : ℕ) (before : Ranges) (ordered : AreRanges before) wh
     meet_holds : (r : Reading) (m : Meet) → Holds (meet_in w k r m before) (λ x. meet_permits w k before x r m)
     meet_holds r (meet_of p more) = parts_hold r more (part_in w k r p before) (λ x. part_permits w k before x r p) (part_holds r p)
 
-    parts_hold : (r : Reading) (more : Parts) (found : Ranges) (p : ℤ → Bool) → Holds found p → Holds (parts_in w k r more found before) (λ x. p x && all_permit w k before x r more)
+    pub parts_hold : (r : Reading) (more : Parts) (found : Ranges) (p : ℤ → Bool) → Holds found p → Holds (parts_in w k r more found before) (λ x. p x && all_permit w k before x r more)
     parts_hold r no_parts found p h = (h.0, λ x. h.1 x ∙ sym (and-true (p x)))
     parts_hold r (and_part word q more) found p h =
         let all = parts_hold r more (meet found (part_in w k r q before)) (λ x. p x && part_permits w k before x r q) (shared found (part_in w k r q before) p (λ x. part_permits w k before x r q) h (part_holds r q)) in
         (all.0, λ x. all.1 x ∙ and_assoc (p x) (part_permits w k before x r q) (all_permit w k before x r more))
 
-    part_holds : (r : Reading) (p : Part) → Holds (part_in w k r p before) (λ x. part_permits w k before x r p)
+    pub part_holds : (r : Reading) (p : Part) → Holds (part_in w k r p before) (λ x. part_permits w k before x r p)
     part_holds r (part_of e) = element_holds r e
     part_holds r (part_but e but) =
         chosen (is_aside r e) before (except (element_in w k r e before) (element_in w k r but before)) (λ x. has before x) (λ x. element_permits w k before x r e && not (element_permits w k before x r but)) stood

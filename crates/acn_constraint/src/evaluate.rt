@@ -7,13 +7,14 @@ ghost use Rattle.acn_asn_syntax.specs.View.{seen_meet, seen_part, element_view, 
 ghost use Rattle.acn_world.specs.Viewed.{world_view};
 ghost use Rattle.acn_constraint.specs.Readings.{reading_of};
 ghost use Rattle.acn_constraint.specs.Sets as sets;
-ghost use Rattle.acn_constraint.specs.Each.{each_meet};
+ghost use Rattle.acn_num.specs.Ranges.{except};
+ghost use Rattle.acn_constraint.specs.Each.{each_meet, everything, each_outside, IsWithoutAll};
 
 use crate::letters::letters;
 use crate::sized::element_says_size;
 use crate::span::{between, single};
 use acn_asn_syntax::{AsnRange, AsnValue, Element, Meet, Part, Set};
-use acn_num::{NoMemory, RangeSet};
+use acn_num::{BOTTOM, NoMemory, RangeSet, TOP};
 use acn_set_elements::{NumberNames, character_in, number_in, plain_number_in, text_in};
 use acn_world::World;
 use std::alloc::Global;
@@ -102,6 +103,26 @@ fn is_aside(reading: Reading<'_>, element: &Element) -> bool
     }
 }
 
+// The numbers outside a set.
+fn outside_of(alloc: Global, set: &RangeSet) -> Result<RangeSet, NoMemory>
+    ensures { IfOk result (λ s. s ≡ except everything set.now) }
+{
+    let all = RangeSet::one(alloc, BOTTOM, TOP)?;
+    all.except(alloc, set)
+}
+
+// What a set holds outside all others.
+fn without_all(alloc: Global, set: &RangeSet, others: &[RangeSet]) -> Result<RangeSet, NoMemory>
+    ensures { IfOk result (λ s. IsWithoutAll set.now others.now s) }
+{
+    let none = RangeSet::empty(alloc);
+    let joined = none.union_all(alloc, others)?;
+    let left = set.except(alloc, &joined)?;
+    let _set = set.ranges();
+    let _left = left.ranges();
+    Ok(left)
+}
+
 /// What a set leaves of what stood before it.
 #[cycle(evaluate)]
 #[tactic(auto, unfolding(crate::specs::Sets::set_in, crate::specs::Sets::meets_in, crate::specs::Sets::meet_in, crate::specs::Sets::parts_in, crate::specs::Sets::part_in, crate::specs::Sets::element_in), using(acn_asn_syntax::proofs::Views::set_views, crate::proofs::Unions::joined))]
@@ -154,27 +175,30 @@ fn meet_in(
 ) -> Result<RangeSet, NoMemory>
     ensures { IfOk result (λ s. s ≡ sets.meet_in (world_view place.entry.world.now) place.entry.owner (reading_of place.entry.reading) (meet_view meet.now) before.now) }
 {
+    let _before = before.ranges();
     let found = part_in(alloc, &meet.first, place, before)?;
-    parts_in(alloc, meet.more.items(), place, found, before)
+    let outside = outsides(alloc, meet.more.items(), place, before)?;
+    without_all(alloc, &found, outside.as_slice())
 }
 
+// The numbers outside each part, since a meet of many is what is left without the union of these.
 #[cycle(evaluate)]
 #[tactic(auto, unfolding(crate::specs::Sets::set_in, crate::specs::Sets::meets_in, crate::specs::Sets::meet_in, crate::specs::Sets::parts_in, crate::specs::Sets::part_in, crate::specs::Sets::element_in), using(acn_asn_syntax::proofs::Views::set_views))]
-fn parts_in(
+fn outsides(
     alloc: Global,
     more: &[(bool, Part)],
     place: Place<'_>,
-    found: RangeSet,
     before: &RangeSet,
-) -> Result<RangeSet, NoMemory>
-    ensures { IfOk result (λ s. s ≡ sets.parts_in (world_view place.entry.world.now) place.entry.owner (reading_of place.entry.reading) (parts_of (map seen_part more.now)) found before.now) }
+) -> Result<Vec<RangeSet>, NoMemory>
+    ensures { IfOk result (λ all. all.items ≡ each_outside (world_view place.entry.world.now) place.entry.owner (reading_of place.entry.reading) (parts_of (map seen_part more.now)) before.now) }
 {
-    let mut found = found;
+    let mut all = Vec::new(alloc);
     for part in more {
         let next = part_in(alloc, &part.1, place, before)?;
-        found = found.meet(alloc, &next)?;
+        let outside = outside_of(alloc, &next)?;
+        all.push(outside)?;
     }
-    Ok(found)
+    Ok(all)
 }
 
 #[cycle(evaluate)]
