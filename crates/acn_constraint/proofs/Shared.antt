@@ -1,5 +1,6 @@
 -- A meet of many parts is what the first holds outside the numbers that are outside one of the others.
-use Rattle.std.proofs.Common.{◌≡◌, ℕ, Bool, true, false, not, ◌&&◌, ◌||◌, List, [], ◌∷◌, refl, sym, ap, subst, ◌∙◌, ℤ, pos, arith}
+use Rattle.std.proofs.Common.{◌≡◌, ℕ, Bool, true, false, not, ◌&&◌, ◌||◌, List, [], ◌∷◌, length, refl, sym, ap, subst, ◌∙◌, ℤ, pos, arith}
+use Rattle.std.proofs.lemmas.Bool.Decides.{nat_tests}
 use Rattle.std.proofs.lemmas.Int.{ints}
 use Rattle.std.specs.Prelude.{◌≤ℤ◌, ◌-ℤ◌, int_le, Result, Ok, Err, IfOk, map}
 use Rattle.acn_num.specs.Ranges.{Ranges, has, AreRanges, except, bottom, top}
@@ -9,6 +10,8 @@ use Rattle.acn_num.proofs.Order.{same_set}
 use Rattle.acn_asn_syntax.specs.Mirror.{Parts, no_parts, and_part}
 use Rattle.acn_asn_syntax.specs.View.{seen_part, part_view, parts_of, meet_view}
 use Rattle.acn_asn_syntax.specs.declared.sets.Meet.{Meet}
+use Rattle.acn_asn_syntax.specs.declared.sets.Part.{Part}
+use Rattle.std.specs.Bool.{◌==◌}
 use Rattle.acn_asn_syntax.specs.declared.sets.Element.TheViews.{out-Meet}
 use Rattle.acn_asn_syntax.proofs.Views.{open_meet}
 use Rattle.acn_world.specs.World.{World}
@@ -65,3 +68,14 @@ module _ (w : World) (k : ℕ) (before : Ranges) (ordered : AreRanges before) (r
   shared_parts m found others (Ok s) p q h =
       without_all_is (parts_of (map seen_part (out-Meet m).more)) found s (subst (λ (os : List Ranges). IsWithoutAll found os s) q h)
       ∙ (ap (λ z. parts_in w k r (parts_of (map seen_part (out-Meet m).more)) z before) p ∙ sym (opened m))
+
+  alone : (f : Ranges) (all : List (Bool × Part)) → [] ≡ all → f ≡ parts_in w k r (parts_of (map seen_part all)) f before
+  unfolding parts_in
+  alone f all e = ap (λ (more : List (Bool × Part)). parts_in w k r (parts_of (map seen_part more)) f before) e
+
+  -- what is answered for a meet of one part
+  pub only_part : {E : Type 0} (m : Meet) (more : List (Bool × Part)) (answer : Result Ranges E) → more ≡ (out-Meet m).more → true ≡ (length more == 0) → IfOk answer (λ s. s ≡ part_in w k r (part_view (out-Meet m).first) before) → IfOk answer (λ s. s ≡ meet_in w k r (meet_view m) before)
+  only_part m more (Err e) p q h = h
+  only_part m (x ∷ more) (Ok s) p q h = absurd (grind (arith, nat_tests))
+  only_part m [] (Ok s) p q h =
+      h ∙ (alone (part_in w k r (part_view (out-Meet m).first) before) (out-Meet m).more p ∙ sym (opened m))

@@ -176,8 +176,12 @@ fn meet_in(
     ensures { IfOk result (λ s. s ≡ sets.meet_in (world_view place.entry.world.now) place.entry.owner (reading_of place.entry.reading) (meet_view meet.now) before.now) }
 {
     let _before = before.ranges();
+    let more = meet.more.items();
+    if more.is_empty() {
+        return part_in(alloc, &meet.first, place, before);
+    }
     let found = part_in(alloc, &meet.first, place, before)?;
-    let outside = outsides(alloc, meet.more.items(), place, before)?;
+    let outside = outsides(alloc, more, place, before)?;
     without_all(alloc, &found, outside.as_slice())
 }
 
