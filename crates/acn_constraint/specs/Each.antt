@@ -2,7 +2,7 @@
 use Rattle.std.specs.Prelude.{ℕ, List, [], ◌∷◌}
 use Rattle.acn_num.specs.Ranges.{Ranges}
 use Rattle.acn_asn_syntax.specs.Mirror.{Meets, no_meets, and_meet}
-use Rattle.acn_world.specs.World.{World}
+use Rattle.acn_index.specs.World.{World}
 use Rattle.acn_constraint.specs.Sets.{Reading, meet_in}
 
 abbrev pub each_meet : World → ℕ → Reading → Meets → Ranges → List Ranges
