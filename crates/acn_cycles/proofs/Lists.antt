@@ -44,10 +44,6 @@ got_within [] n lt = absurd (omega arith)
 got_within (z ∷ xs) zero lt = (z, refl)
 got_within (z ∷ xs) (suc n) lt = got_within xs n (omega arith)
 
-pub among_map : {A : Type 0} (f : A → ℕ) {x : A} {xs : List A} → Among x xs → graph.Among (f x) (map f xs)
-among_map f here = graph.here
-among_map f (there i) = graph.there (among_map f i)
-
 pub map_among : {A : Type 0} (f : A → ℕ) (xs : List A) {n : ℕ} → graph.Among n (map f xs) → (x : A) × Among x xs × (f x ≡ n)
 map_among f [] i = absurd (elim i [ ])
 map_among f (x ∷ xs) graph.here = (x, here, refl)

@@ -8,8 +8,9 @@ use Rattle.acn_graph.specs.Graph.{Among}
 use Rattle.acn_world.specs.Cycles.{targets, Reaches, once, more, HasNoCycle, IsFirstCycle}
 use Rattle.acn_index.specs.declared.sources.TypeId.{TypeId}
 use Rattle.acn_graph.specs.Graph as graph
+use Rattle.acn_index.proofs.Left.{mapped_in}
 use Rattle.acn_cycles.specs.Numbers.{starts, number_in, row_in, graph_of, places_at}
-use Rattle.acn_cycles.proofs.Lists.{got_row, row_got, among_map, map_among, split_at, within_front}
+use Rattle.acn_cycles.proofs.Lists.{got_row, row_got, map_among, split_at, within_front}
 use Rattle.acn_cycles.proofs.Places.{number_of_place, place_of_number}
 use Rattle.acn_cycles.proofs.Assigned.{IsAssigned, target_assigned, source_assigned}
 
@@ -37,7 +38,7 @@ module _ (w : World) where
   -- ---- from the world to the graph
 
   step_to : (n : ℕ) (p q : TypeId) → stands n p → Among q (targets w p) → graph.Among (number q) (graph.onward (graph_of w) n)
-  step_to n p q e i = subst (λ (ns : List ℕ). graph.Among (number q) ns) (sym (row_of n p e)) (among_map number i)
+  step_to n p q e i = subst (λ (ns : List ℕ). graph.Among (number q) ns) (sym (row_of n p e)) (mapped_in number i)
 
   leads : {p q : TypeId} {way : List TypeId} → Reaches w p q way → (n : ℕ) → stands n p → (ns : List ℕ) × graph.Leads (graph_of w) n (number q) ns
   leads (once {p} {q} i) n e = (n ∷ [], graph.once (step_to n p q e i))

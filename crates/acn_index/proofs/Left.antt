@@ -42,11 +42,11 @@ is_below (suc n) k lt = elim (last_or_lower n k lt) [ inl e ↦ subst (λ (z : �
 
 -- ---- places
 
-in_front : {A : Type 0} {x : A} {xs : List A} (ys : List A) → Among x xs → Among x (xs ++ ys)
+pub in_front : {A : Type 0} {x : A} {xs : List A} (ys : List A) → Among x xs → Among x (xs ++ ys)
 in_front ys here = here
 in_front ys (there i) = there (in_front ys i)
 
-in_back : {A : Type 0} {y : A} {ys : List A} (xs : List A) → Among y ys → Among y (xs ++ ys)
+pub in_back : {A : Type 0} {y : A} {ys : List A} (xs : List A) → Among y ys → Among y (xs ++ ys)
 in_back [] i = i
 in_back (x ∷ xs) i = there (in_back xs i)
 

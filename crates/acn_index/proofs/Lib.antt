@@ -12,7 +12,7 @@ mod ImportJumps
 mod LastValues
 mod LastLinks
 mod Numbered
--- for acn_names
+-- for acn_cycles and acn_names
 pub mod Left
 mod ImportWays
 mod Bounded

@@ -7,17 +7,10 @@ use Rattle.acn_mentions.specs.Mentions.{Mention, to_type, mentions, base_mention
 use Rattle.acn_index.specs.World.{World, place, assignment, type_of_assign}
 use Rattle.acn_graph.specs.Graph.{Among, here, there}
 use Rattle.acn_index.specs.Chains.{base_reference, reference_of}
+use Rattle.acn_index.proofs.Left.{in_front, in_back}
 use Rattle.acn_names.specs.Standing.{constraint_parts, base_parts, parts, Stands, assigned, inside}
 
 -- ---- lists that are joined
-
-pub in_front : {A : Type 0} {x : A} {xs : List A} (ys : List A) → Among x xs → Among x (xs ++ ys)
-in_front ys here = here
-in_front ys (there i) = there (in_front ys i)
-
-pub in_back : {A : Type 0} {x : A} (xs : List A) {ys : List A} → Among x ys → Among x (xs ++ ys)
-in_back [] i = i
-in_back (z ∷ xs) i = there (in_back xs i)
 
 either_part : {A : Type 0} {x : A} (xs : List A) {ys : List A} → Among x (xs ++ ys) → Among x xs ⊎ Among x ys
 either_part [] i = inr i
