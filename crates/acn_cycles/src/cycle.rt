@@ -8,10 +8,10 @@ ghost use Rattle.acn_cycles.specs.Numbers.{graph_of};
 use crate::numbers::{places_at, starts_of};
 use crate::rows::rows_in;
 use acn_graph::{Ring, first_ring};
-use acn_num::{NoMemory, Row};
-use acn_world::TypeId;
 use acn_index::index::Index;
 use acn_index::places::places;
+use acn_num::{NoMemory, Row};
+use acn_world::TypeId;
 use std::alloc::Global;
 
 /// A type or a value that reaches itself, and a way: the assignments that are passed, itself first.

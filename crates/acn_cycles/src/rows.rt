@@ -4,9 +4,9 @@ ghost use Rattle.acn_cycles.specs.Numbers as spec;
 
 use crate::numbers::numbers_in;
 use crate::targets::push_targets;
+use acn_index::index::Index;
 use acn_num::{NoMemory, Row};
 use acn_world::TypeId;
-use acn_index::index::Index;
 use std::alloc::Global;
 
 // The numbers of those to which an assignment refers.

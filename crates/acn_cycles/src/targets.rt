@@ -6,11 +6,11 @@ ghost use Rattle.acn_mentions.specs.Mentions.{value_mentions};
 ghost use Rattle.acn_world.specs.Cycles as spec;
 
 use acn_asn_syntax::{AsnValue, Assign};
+use acn_index::index::Index;
+use acn_index::references::{assignment, type_named, value_named};
 use acn_mentions::{Mention, push_type};
 use acn_num::NoMemory;
 use acn_world::TypeId;
-use acn_index::index::Index;
-use acn_index::references::{assignment, type_named, value_named};
 use std::alloc::Global;
 
 // The type that is mentioned.

@@ -6,9 +6,9 @@ ghost use Rattle.acn_index.specs.World.{IsSmall, world_of, asn_modules, acn_modu
 
 use acn_acn_syntax::{AcnModule, AcnModules, MapTable, MapTables};
 use acn_asn_syntax::{AsnModule, AsnModules};
+use acn_index::index::Index;
 use acn_num::{NoMemory, Row};
 use acn_world::Sources;
-use acn_index::index::Index;
 use std::alloc::Global;
 
 // The modules of all ASN.1 files.

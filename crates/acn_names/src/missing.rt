@@ -9,10 +9,10 @@ ghost use Rattle.acn_repeated.specs.Blamed.{blames_view};
 
 use acn_acn_syntax::AcnModule;
 use acn_asn_syntax::{AsnModule, Import};
-use acn_num::{Name, NoMemory};
-use acn_repeated::{Blame, Kind, push_blames};
 use acn_index::index::Index;
 use acn_index::lookup::{imports_of, module_named};
+use acn_num::{Name, NoMemory};
+use acn_repeated::{Blame, Kind, push_blames};
 use std::alloc::Global;
 
 // Adds the name, where no ASN.1 module has it.

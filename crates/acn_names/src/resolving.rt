@@ -11,10 +11,10 @@ use crate::few::are_few;
 use crate::gathering::gather;
 use crate::wrong::late_fault;
 use acn_cycles::{Round, first_cycle};
-use acn_num::{Name, NoMemory, Row};
 use acn_index::index::Index;
 use acn_index::lookup::module_at;
 use acn_index::references::{assignment, name_of};
+use acn_num::{Name, NoMemory, Row};
 use acn_world::{NameFault, Sources, TypeId, World};
 use std::alloc::Global;
 

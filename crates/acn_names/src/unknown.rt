@@ -10,13 +10,13 @@ ghost use Rattle.acn_repeated.specs.Named.{names_view};
 ghost use Rattle.acn_repeated.specs.Blamed.{blames_view};
 
 use acn_asn_syntax::{AsnBase, AsnModule, AsnType, AsnValue, Assign, Import, Item, Named};
-use acn_mentions::{Mention, push_type};
-use acn_num::{Name, NoMemory, Row};
-use acn_repeated::{Blame, Kind, push_blames};
 use acn_index::chain::{base_of, written};
 use acn_index::index::Index;
 use acn_index::lookup::{Sort, found, imports_of, module_named, same};
 use acn_index::references::{type_named, value_named};
+use acn_mentions::{Mention, push_type};
+use acn_num::{Name, NoMemory, Row};
+use acn_repeated::{Blame, Kind, push_blames};
 use std::alloc::Global;
 
 // Whether one of the named numbers has this name.

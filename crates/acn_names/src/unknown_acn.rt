@@ -9,13 +9,13 @@ ghost use Rattle.acn_repeated.specs.Named.{names_view};
 ghost use Rattle.acn_repeated.specs.Blamed.{blames_view};
 
 use acn_acn_syntax::{AcnEntry, AcnModule};
+use acn_index::index::Index;
+use acn_index::lookup::module_named;
+use acn_index::references::{table_named, type_in, type_named};
 use acn_mentions::{AcnMention, push_entry};
 use acn_num::{Name, NoMemory};
 use acn_repeated::{Blame, Kind, push_blames};
 use acn_world::TypeId;
-use acn_index::index::Index;
-use acn_index::lookup::module_named;
-use acn_index::references::{table_named, type_in, type_named};
 use std::alloc::Global;
 
 /// The type to which a reference in the ACN module with a name leads.

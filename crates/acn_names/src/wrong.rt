@@ -17,13 +17,13 @@ use crate::unknown::{is_governed, mention_name, push_assign};
 use crate::unknown_acn::{acn_mention_name, acn_type_named};
 use acn_acn_syntax::{AcnEntry, AcnModule};
 use acn_asn_syntax::{AsnBase, AsnModule, AsnType, Assign};
+use acn_index::chain::{assigned_link, base_of, written};
+use acn_index::index::Index;
+use acn_index::values::leads_to_number;
 use acn_mentions::{AcnMention, Mention, Role, push_entry};
 use acn_num::{Name, NoMemory};
 use acn_repeated::{Blame, Kind, push_blames};
 use acn_world::NameFault;
-use acn_index::chain::{assigned_link, base_of, written};
-use acn_index::index::Index;
-use acn_index::values::leads_to_number;
 use std::alloc::Global;
 
 // Whether the type is INTEGER.

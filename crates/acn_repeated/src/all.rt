@@ -10,8 +10,8 @@ use crate::lists::push_twice_tables;
 use crate::seen::nothing_seen;
 use crate::{repeated, repeated_acn};
 use acn_acn_syntax::MapTable;
-use acn_num::{Name, NoMemory};
 use acn_index::index::Index;
+use acn_num::{Name, NoMemory};
 use std::alloc::Global;
 
 // Adds a fault for each name of a table that is given twice.

@@ -10,9 +10,9 @@ use crate::lists::push_imports;
 use crate::seen::{Seen, nothing_seen, push_again, push_repeated_behind, see};
 use crate::twice_types::push_twice;
 use acn_asn_syntax::{AsnModule, AsnType, Assign};
-use acn_num::{Name, NoMemory};
 use acn_index::lookup::imports_of;
 use acn_index::references::name_of;
+use acn_num::{Name, NoMemory};
 use std::alloc::Global;
 
 // The type of an assignment.
