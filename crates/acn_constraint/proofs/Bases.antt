@@ -9,7 +9,7 @@ use Rattle.acn_asn_syntax.specs.declared.types.AsnBase.{AsnBase}
 use Rattle.acn_asn_syntax.specs.declared.types.AsnBase.TheVariants as base
 use Rattle.acn_asn_syntax.specs.declared.types.Constraint.{Constraint}
 use Rattle.acn_asn_syntax.specs.declared.types.AsnBase.TheViews.{out-AsnType}
-use Rattle.acn_world.specs.Chains.{base_part}
+use Rattle.acn_index.specs.Chains.{base_part}
 use Rattle.acn_asn_syntax.proofs.Views.{view_Of, view_SizeOf, open_type}
 use Rattle.acn_constraint.specs.Constraints.{own_constraint}
 

@@ -1,8 +1,8 @@
 -- What is answered behind the faults that are tried first.
 use Rattle.std.proofs.Common.{◌≡◌, Bool, true, false, Option, Some, None, Result, Ok, Err, refl, ap, ◌∙◌, subst}
 use Rattle.std.specs.Prelude.{ℤ}
-use Rattle.acn_world.specs.World.{World}
-use Rattle.acn_world.specs.Chains.{ChainOf}
+use Rattle.acn_index.specs.World.{World}
+use Rattle.acn_index.specs.Chains.{ChainOf}
 use Rattle.acn_constraint.specs.Constraints.{Fault, not_here, judged, unless, unless_low, base_is, constraints_of, first_low}
 use Rattle.acn_set_elements.specs.Stands.{all_stand}
 use Rattle.acn_constraint.specs.Views.{Refused, Answers}

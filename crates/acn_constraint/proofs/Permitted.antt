@@ -9,7 +9,7 @@ use Rattle.acn_num.proofs.Order.{meet_above, outside_above, has_union}
 use Rattle.acn_asn_syntax.specs.Mirror.{Set, all_except, union_of, Meets, no_meets, and_meet, Meet, meet_of, Parts, no_parts, and_part, Part, part_of, part_but, Element, value_of, range_of, size_of, from_of, inner_of}
 use Rattle.acn_asn_syntax.specs.declared.sets.AsnRange.{AsnRange}
 use Rattle.acn_asn_syntax.specs.declared.values.AsnValue.{AsnValue}
-use Rattle.acn_world.specs.World.{World}
+use Rattle.acn_index.specs.World.{World}
 use Rattle.acn_set_elements.specs.Written.{number_in, text_in}
 use Rattle.acn_constraint.specs.Sets.{nearest, above, below, between, one, ones, end_of, range_in, Reading, numbers, sizes, characters, is_aside, letters_behind, letters_of, value_set, end_number, set_in, meets_in, meet_in, parts_in, part_in, element_in}
 use Rattle.acn_constraint.specs.Permits.{permits, any_permits, meet_permits, all_permit, part_permits, element_permits}

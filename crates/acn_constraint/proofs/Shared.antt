@@ -14,7 +14,7 @@ use Rattle.acn_asn_syntax.specs.declared.sets.Part.{Part}
 use Rattle.std.specs.Bool.{◌==◌}
 use Rattle.acn_asn_syntax.specs.declared.sets.Element.TheViews.{out-Meet}
 use Rattle.acn_asn_syntax.proofs.Views.{open_meet}
-use Rattle.acn_world.specs.World.{World}
+use Rattle.acn_index.specs.World.{World}
 use Rattle.acn_constraint.specs.Sets.{Reading, meet_in, parts_in, part_in}
 use Rattle.acn_constraint.specs.Permits.{all_permit, part_permits}
 use Rattle.acn_constraint.specs.Each.{everything, each_outside, IsWithoutAll}

@@ -7,7 +7,7 @@ use Rattle.acn_asn_syntax.specs.View.{seen_meet, seen_part, meet_view, part_view
 use Rattle.acn_asn_syntax.specs.declared.sets.Meet.{Meet}
 use Rattle.acn_asn_syntax.specs.declared.sets.Part.{Part}
 use Rattle.acn_asn_syntax.specs.declared.types.Named.{Named}
-use Rattle.acn_world.specs.World.{World}
+use Rattle.acn_index.specs.World.{World}
 use Rattle.acn_constraint.specs.Constraints.{low_among, meet_values, meets_values, part_values, parts_values}
 use Rattle.acn_constraint.proofs.Firsts.{low_append, option_or_some, option_or_none}
 

@@ -3,7 +3,7 @@ use Rattle.std.proofs.Common.{◌≡◌, ℕ, refl}
 use Rattle.acn_num.specs.Ranges.{Ranges, union}
 use Rattle.acn_num.specs.Unions.{unions}
 use Rattle.acn_asn_syntax.specs.Mirror.{Meets, no_meets, and_meet}
-use Rattle.acn_world.specs.World.{World}
+use Rattle.acn_index.specs.World.{World}
 use Rattle.acn_constraint.specs.Sets.{Reading, meet_in, meets_in}
 use Rattle.acn_constraint.specs.Each.{each_meet}
 

@@ -5,8 +5,8 @@ use Rattle.acn_num.specs.Ranges.{Ranges, has, meet, bottom, top, least, greatest
 use Rattle.acn_asn_syntax.specs.Mirror.{Set, all_except, union_of, Meets, no_meets, and_meet, Meet, meet_of, Parts, no_parts, and_part, Part, part_of, part_but, Element, value_of, range_of as range_element, size_of as size_element, from_of, inner_of, AsnBase, sequence_size, Constraint, by_set, by_size, containing}
 use Rattle.acn_asn_syntax.specs.declared.types.Named.{Named}
 use Rattle.acn_asn_syntax.specs.declared.values.AsnValue.{AsnValue}
-use Rattle.acn_world.specs.World.{World}
-use Rattle.acn_world.specs.Chains.{ChainOf, base_part}
+use Rattle.acn_index.specs.World.{World}
+use Rattle.acn_index.specs.Chains.{ChainOf, base_part}
 use Rattle.acn_set_elements.specs.Written.{number_in, named_of}
 use Rattle.acn_constraint.specs.Sized.{sizes_set}
 use Rattle.acn_constraint.specs.Sets.{Reading, numbers, sizes, characters, set_in}

@@ -3,7 +3,7 @@ use Rattle.std.specs.Prelude.{◌≡◌, ℕ, Bool, not, ◌&&◌, ℤ, List, []
 use Rattle.acn_num.specs.Ranges.{Ranges, has, AreRanges, except, bottom, top}
 use Rattle.acn_num.specs.Unions.{one_has}
 use Rattle.acn_asn_syntax.specs.Mirror.{Meets, no_meets, and_meet, Parts, no_parts, and_part}
-use Rattle.acn_world.specs.World.{World}
+use Rattle.acn_index.specs.World.{World}
 use Rattle.acn_constraint.specs.Sets.{Reading, meet_in, part_in}
 
 abbrev pub each_meet : World → ℕ → Reading → Meets → Ranges → List Ranges

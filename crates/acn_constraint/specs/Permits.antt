@@ -3,7 +3,7 @@
 use Rattle.std.specs.Prelude.{◌≡◌, ℕ, Bool, true, false, not, ◌&&◌, ◌||◌, if◌then◌else◌, ℤ}
 use Rattle.acn_num.specs.Ranges.{Ranges, has, AreRanges}
 use Rattle.acn_asn_syntax.specs.Mirror.{Set, all_except, union_of, Meets, no_meets, and_meet, Meet, meet_of, Parts, no_parts, and_part, Part, part_of, part_but, Element, value_of, range_of, size_of, from_of, inner_of}
-use Rattle.acn_world.specs.World.{World}
+use Rattle.acn_index.specs.World.{World}
 use Rattle.acn_constraint.specs.Sets.{Reading, numbers, sizes, characters, is_aside, value_set, end_number, range_in, set_in}
 
 module _ (w : World) (k : ℕ) (before : Ranges) (x : ℤ) where

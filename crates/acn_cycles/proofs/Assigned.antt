@@ -5,11 +5,12 @@ use Rattle.std.specs.Option.{option_or}
 use Rattle.std.specs.List.{position_from}
 use Rattle.acn_asn_syntax.specs.Mirror.{AsnModule, Assign, TypeIs, ValueIs}
 use Rattle.acn_num.specs.Names.{Name}
-use Rattle.acn_world.specs.World.{World, place, assignment}
-use Rattle.acn_world.specs.Lookup.{own, imported_from, found_within, found, type_named, value_named, is_type, is_value, module_named}
+use Rattle.acn_index.specs.World.{World, place, assignment}
+use Rattle.acn_index.specs.Lookup.{own, imported_from, found_within, found, type_named, value_named, is_type, is_value, module_named}
 use Rattle.acn_mentions.specs.Mentions.{Mention, to_type, in_constraint, in_default, in_assignment, mentions, value_mentions}
-use Rattle.acn_world.specs.Cycles.{Within, type_target, value_target, targets_of, targets_at, targets}
-use Rattle.acn_world.specs.declared.sources.TypeId.{TypeId}
+use Rattle.acn_graph.specs.Graph.{Among}
+use Rattle.acn_world.specs.Cycles.{type_target, value_target, targets_of, targets_at, targets}
+use Rattle.acn_index.specs.declared.sources.TypeId.{TypeId}
 use Rattle.acn_cycles.proofs.Lists.{nothing_within, chosen, position_within, got_within}
 
 abbrev pub IsAssigned : World → TypeId → Type 0
@@ -72,25 +73,25 @@ module _ (w : World) where
   value_target_assigned k (in_default t name) q e = absurd (cc e)
   value_target_assigned k (in_assignment name) q e = found_assigned (is_value name) name k q e
 
-  targets_of_assigned : (k : ℕ) (a : Assign) (q : TypeId) → Within q (targets_of w k a) → IsAssigned w q
+  targets_of_assigned : (k : ℕ) (a : Assign) (q : TypeId) → Among q (targets_of w k a) → IsAssigned w q
   unfolding targets_of
   targets_of_assigned k (TypeIs name t) q i = let m = chosen (type_target w k) (mentions t) i in type_target_assigned k m.0 q m.1
   targets_of_assigned k (ValueIs name t v) q i = let m = chosen (value_target w k) (value_mentions v) i in value_target_assigned k m.0 q m.1
 
-  targets_at_assigned : (k : ℕ) (o : Option Assign) (q : TypeId) → Within q (targets_at w k o) → IsAssigned w q
+  targets_at_assigned : (k : ℕ) (o : Option Assign) (q : TypeId) → Among q (targets_at w k o) → IsAssigned w q
   targets_at_assigned k None q i = absurd (nothing_within i)
   targets_at_assigned k (Some a) q i = targets_of_assigned k a q i
 
   -- those to which an assignment refers are assignments
-  pub target_assigned : (p q : TypeId) → Within q (targets w p) → IsAssigned w q
+  pub target_assigned : (p q : TypeId) → Among q (targets w p) → IsAssigned w q
   unfolding targets
   target_assigned p q i = targets_at_assigned p.module (assignment w p) q i
 
-  refers_from_some : (k : ℕ) (o : Option Assign) {q : TypeId} → Within q (targets_at w k o) → (a : Assign) × (o ≡ Some a)
+  refers_from_some : (k : ℕ) (o : Option Assign) {q : TypeId} → Among q (targets_at w k o) → (a : Assign) × (o ≡ Some a)
   refers_from_some k None i = absurd (nothing_within i)
   refers_from_some k (Some a) i = (a, refl)
 
   -- and so is what refers to anything
-  pub source_assigned : (p : TypeId) {q : TypeId} → Within q (targets w p) → IsAssigned w p
+  pub source_assigned : (p : TypeId) {q : TypeId} → Among q (targets w p) → IsAssigned w p
   unfolding targets
   source_assigned p i = refers_from_some p.module (assignment w p) i

@@ -2,10 +2,10 @@
 use Rattle.std.proofs.Common.{◌≡◌, ℕ, zero, suc, ◌+◌, ◌<◌, Bool, true, false, List, [], ◌∷◌, ◌++◌, length, get_or, take, drop, map, refl, ap, arith, inl, inr, ◌⊎◌}
 use Rattle.std.specs.Prelude.{Option, Some, None, slice_get, filter_map, cond}
 use Rattle.std.specs.List.{position_from, cons_option}
-use Rattle.acn_world.specs.Cycles.{Within, here, there}
+use Rattle.acn_graph.specs.Graph.{Among, here, there}
 use Rattle.acn_graph.specs.Graph as graph
 
-pub nothing_within : {A : Type 0} {x : A} → Within x [] → ⊥
+pub nothing_within : {A : Type 0} {x : A} → Among x [] → ⊥
 nothing_within inside = elim inside [ ]
 
 pub got_left : {A : Type 0} (xs ys : List A) (n : ℕ) (x : A) → slice_get xs n ≡ Some x → slice_get (xs ++ ys) n ≡ Some x
@@ -44,11 +44,7 @@ got_within [] n lt = absurd (omega arith)
 got_within (z ∷ xs) zero lt = (z, refl)
 got_within (z ∷ xs) (suc n) lt = got_within xs n (omega arith)
 
-pub among_map : {A : Type 0} (f : A → ℕ) {x : A} {xs : List A} → Within x xs → graph.Among (f x) (map f xs)
-among_map f here = graph.here
-among_map f (there i) = graph.there (among_map f i)
-
-pub map_among : {A : Type 0} (f : A → ℕ) (xs : List A) {n : ℕ} → graph.Among n (map f xs) → (x : A) × Within x xs × (f x ≡ n)
+pub map_among : {A : Type 0} (f : A → ℕ) (xs : List A) {n : ℕ} → graph.Among n (map f xs) → (x : A) × Among x xs × (f x ≡ n)
 map_among f [] i = absurd (elim i [ ])
 map_among f (x ∷ xs) graph.here = (x, here, refl)
 map_among f (x ∷ xs) (graph.there i) = let h = map_among f xs i in (h.0, there h.1, h.2)
@@ -60,7 +56,7 @@ split_at [] n x e = absurd (cc e)
 split_at (z ∷ xs) zero x e = let same : z ≡ x = cc e in ap (λ (y : _). y ∷ xs) same
 split_at (z ∷ xs) (suc n) x e = ap (λ (ys : List _). z ∷ ys) (split_at xs n x e)
 
-pub within_front : {A : Type 0} (xs : List A) (n : ℕ) {x : A} → Within x (take n xs) → (k : ℕ) × (k < n) × (slice_get xs k ≡ Some x)
+pub within_front : {A : Type 0} (xs : List A) (n : ℕ) {x : A} → Among x (take n xs) → (k : ℕ) × (k < n) × (slice_get xs k ≡ Some x)
 within_front [] zero i = absurd (nothing_within i)
 within_front [] (suc n) i = absurd (nothing_within i)
 within_front (z ∷ xs) zero i = absurd (nothing_within i)
@@ -69,12 +65,12 @@ within_front (z ∷ xs) (suc n) (there i) = let h = within_front xs n i in (suc 
 
 -- ---- searches
 
-chosen_or_rest : {B : Type 0} (o : Option B) (ys : List B) {y : B} → Within y (cons_option o ys) → (o ≡ Some y) ⊎ Within y ys
+chosen_or_rest : {B : Type 0} (o : Option B) (ys : List B) {y : B} → Among y (cons_option o ys) → (o ≡ Some y) ⊎ Among y ys
 chosen_or_rest None ys i = inr i
 chosen_or_rest (Some z) ys here = inl refl
 chosen_or_rest (Some z) ys (there i) = inr i
 
-pub chosen : {A B : Type 0} (h : A → Option B) (xs : List A) {y : B} → Within y (filter_map h xs) → (x : A) × (h x ≡ Some y)
+pub chosen : {A B : Type 0} (h : A → Option B) (xs : List A) {y : B} → Among y (filter_map h xs) → (x : A) × (h x ≡ Some y)
 chosen h [] i = absurd (nothing_within i)
 chosen h (x ∷ xs) i = elim (chosen_or_rest (h x) (filter_map h xs) i) [ inl e ↦ (x, e) | inr j ↦ chosen h xs j ]
 

@@ -4,8 +4,8 @@ use Rattle.std.specs.Prelude.{Option, Some, None, slice_get, flat_map, option_an
 use Rattle.std.proofs.lemmas.Option.{slice_get_within}
 use Rattle.std.specs.List.{enumerate_from}
 use Rattle.acn_asn_syntax.specs.Mirror.{AsnModule, Assign}
-use Rattle.acn_world.specs.World.{World, place, assignment, module_places, places, count, IsSmall}
-use Rattle.acn_world.specs.declared.sources.TypeId.{TypeId}
+use Rattle.acn_index.specs.World.{World, place, assignment, module_places, places, count, IsSmall}
+use Rattle.acn_index.specs.declared.sources.TypeId.{TypeId}
 use Rattle.acn_cycles.specs.Numbers.{starts_from, starts, number_in, AreSmall}
 use Rattle.acn_cycles.proofs.Lists.{got_left, got_right, got_either}
 

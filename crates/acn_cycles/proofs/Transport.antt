@@ -3,12 +3,14 @@ use Rattle.std.proofs.Common.{refl, ◌≡◌, ℕ, suc, ◌<◌, List, [], ◌�
 use Rattle.std.specs.Prelude.{IsSome, Option, Some, None, slice_get}
 use Rattle.std.specs.List.{cons_option}
 use Rattle.std.proofs.lemmas.List.{length-map}
-use Rattle.acn_world.specs.World.{World, places, assignment}
-use Rattle.acn_world.specs.Cycles.{Within, targets, Reaches, once, more, HasNoCycle, IsFirstCycle}
-use Rattle.acn_world.specs.declared.sources.TypeId.{TypeId}
+use Rattle.acn_index.specs.World.{World, places, assignment}
+use Rattle.acn_graph.specs.Graph.{Among}
+use Rattle.acn_world.specs.Cycles.{targets, Reaches, once, more, HasNoCycle, IsFirstCycle}
+use Rattle.acn_index.specs.declared.sources.TypeId.{TypeId}
 use Rattle.acn_graph.specs.Graph as graph
+use Rattle.acn_index.proofs.Left.{mapped_in}
 use Rattle.acn_cycles.specs.Numbers.{starts, number_in, row_in, graph_of, places_at}
-use Rattle.acn_cycles.proofs.Lists.{got_row, row_got, among_map, map_among, split_at, within_front}
+use Rattle.acn_cycles.proofs.Lists.{got_row, row_got, map_among, split_at, within_front}
 use Rattle.acn_cycles.proofs.Places.{number_of_place, place_of_number}
 use Rattle.acn_cycles.proofs.Assigned.{IsAssigned, target_assigned, source_assigned}
 
@@ -35,8 +37,8 @@ module _ (w : World) where
 
   -- ---- from the world to the graph
 
-  step_to : (n : ℕ) (p q : TypeId) → stands n p → Within q (targets w p) → graph.Among (number q) (graph.onward (graph_of w) n)
-  step_to n p q e i = subst (λ (ns : List ℕ). graph.Among (number q) ns) (sym (row_of n p e)) (among_map number i)
+  step_to : (n : ℕ) (p q : TypeId) → stands n p → Among q (targets w p) → graph.Among (number q) (graph.onward (graph_of w) n)
+  step_to n p q e i = subst (λ (ns : List ℕ). graph.Among (number q) ns) (sym (row_of n p e)) (mapped_in number i)
 
   leads : {p q : TypeId} {way : List TypeId} → Reaches w p q way → (n : ℕ) → stands n p → (ns : List ℕ) × graph.Leads (graph_of w) n (number q) ns
   leads (once {p} {q} i) n e = (n ∷ [], graph.once (step_to n p q e i))
@@ -56,11 +58,11 @@ module _ (w : World) where
 
   -- ---- from the graph to the world
 
-  step_back : (n m : ℕ) (p q : TypeId) → stands n p → stands m q → graph.Among m (graph.onward (graph_of w) n) → Within q (targets w p)
+  step_back : (n m : ℕ) (p q : TypeId) → stands n p → stands m q → graph.Among m (graph.onward (graph_of w) n) → Among q (targets w p)
   step_back n m p q e f i =
       let t = map_among number (targets w p) (subst (λ (ns : List ℕ). graph.Among m ns) (row_of n p e) i) in
       let at_m = subst (λ (k : ℕ). stands k t.0) t.2 (assigned_stands t.0 (target_assigned w p t.0 t.1)) in
-      subst (λ (x : TypeId). Within x (targets w p)) (same_place m at_m f) t.1
+      subst (λ (x : TypeId). Among x (targets w p)) (same_place m at_m f) t.1
 
   led_stands : (n m : ℕ) (p : TypeId) → stands n p → graph.Among m (graph.onward (graph_of w) n) → (q : TypeId) × stands m q
   led_stands n m p e i =

@@ -1,9 +1,9 @@
 -- The assignments of a world by numbers, in the order of the text, and where each leads.
 use Rattle.std.specs.Prelude.{ℕ, ◌+◌, ◌<◌, List, [], ◌∷◌, length, get_or, map, slice_get, filter_map}
 use Rattle.acn_asn_syntax.specs.Mirror.{AsnModule}
-use Rattle.acn_world.specs.World.{World, places}
+use Rattle.acn_index.specs.World.{World, places}
 use Rattle.acn_world.specs.Cycles.{targets}
-use Rattle.acn_world.specs.declared.sources.TypeId.{TypeId}
+use Rattle.acn_index.specs.declared.sources.TypeId.{TypeId}
 use Rattle.acn_graph.specs.Graph.{Graph}
 
 -- the number of the first assignment of each module

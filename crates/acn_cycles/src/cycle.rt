@@ -1,6 +1,6 @@
 ghost use Rattle.std.specs.Prelude.{◌≡◌, IfOk, IfSome, IsSome, MatchOption};
-ghost use Rattle.acn_world.specs.Views.{index_view};
-ghost use Rattle.acn_world.specs.World as world;
+ghost use Rattle.acn_index.specs.Views.{index_view};
+ghost use Rattle.acn_index.specs.World as world;
 ghost use Rattle.acn_world.specs.Cycles.{HasNoCycle, IsFirstCycle};
 ghost use Rattle.acn_graph.specs.Graph.{HasNoRing, IsFirstRing};
 ghost use Rattle.acn_cycles.specs.Numbers.{graph_of};
@@ -8,10 +8,10 @@ ghost use Rattle.acn_cycles.specs.Numbers.{graph_of};
 use crate::numbers::{places_at, starts_of};
 use crate::rows::rows_in;
 use acn_graph::{Ring, first_ring};
+use acn_index::index::Index;
+use acn_index::places::places;
 use acn_num::{NoMemory, Row};
 use acn_world::TypeId;
-use acn_world::index::Index;
-use acn_world::roots::places;
 use std::alloc::Global;
 
 /// A type or a value that reaches itself, and a way: the assignments that are passed, itself first.

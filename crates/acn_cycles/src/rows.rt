@@ -1,12 +1,12 @@
 ghost use Rattle.std.specs.Prelude.{◌≡◌, IfOk};
-ghost use Rattle.acn_world.specs.Views.{index_view};
+ghost use Rattle.acn_index.specs.Views.{index_view};
 ghost use Rattle.acn_cycles.specs.Numbers as spec;
 
 use crate::numbers::numbers_in;
 use crate::targets::push_targets;
+use acn_index::index::Index;
 use acn_num::{NoMemory, Row};
 use acn_world::TypeId;
-use acn_world::index::Index;
 use std::alloc::Global;
 
 // The numbers of those to which an assignment refers.

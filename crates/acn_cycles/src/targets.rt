@@ -1,16 +1,16 @@
 ghost use Rattle.std.specs.Prelude.{◌≡◌, ◌++◌, filter_map, OnOk};
 ghost use Rattle.acn_asn_syntax.specs.View.{assign_view};
-ghost use Rattle.acn_world.specs.Views.{index_view};
+ghost use Rattle.acn_index.specs.Views.{index_view};
 ghost use Rattle.acn_mentions.specs.Mentioned.{mention_view, mentions_view};
 ghost use Rattle.acn_mentions.specs.Mentions.{value_mentions};
 ghost use Rattle.acn_world.specs.Cycles as spec;
 
 use acn_asn_syntax::{AsnValue, Assign};
+use acn_index::index::Index;
+use acn_index::references::{assignment, type_named, value_named};
 use acn_mentions::{Mention, push_type};
 use acn_num::NoMemory;
 use acn_world::TypeId;
-use acn_world::index::Index;
-use acn_world::references::{assignment, type_named, value_named};
 use std::alloc::Global;
 
 // The type that is mentioned.

@@ -1,3 +1,3 @@
--- for acn_world
+-- for acn_index
 pub mod Leading
 mod Ways

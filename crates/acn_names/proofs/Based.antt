@@ -8,41 +8,42 @@ use Rattle.std.proofs.lemmas.Grind.{flat_map-append}
 use Rattle.acn_num.specs.Names.{Name}
 use Rattle.acn_asn_syntax.specs.Mirror.{AsnType, type_of, reference, no_constraints, Assign, TypeIs, ValueIs, Constraint}
 use Rattle.acn_asn_syntax.specs.declared.types.Tag.{Tag}
-use Rattle.acn_world.specs.World.{World, assignment, type_at, type_part, places, count, place}
-use Rattle.acn_world.specs.Lookup.{type_named, is_type, module_named, found, EntryAt}
+use Rattle.acn_index.specs.World.{World, assignment, type_at, type_part, places, count, place}
+use Rattle.acn_index.specs.Lookup.{type_named, is_type, module_named, found, EntryAt}
 use Rattle.acn_mentions.specs.Mentions.{Mention, to_type, mentions, assign_mentions}
 use Rattle.acn_world.specs.Repeated.{when}
 use Rattle.acn_world.specs.Unknown.{is_known, mention_name}
-use Rattle.acn_world.specs.Cycles.{Within, here, there, type_target, targets, targets_of, Reaches, once, more}
-use Rattle.acn_world.specs.Chains.{Link, ChainOf, written, assigned_link, base_reference, reference_of, next_link, more_links, links_within, links, last_link, base_link, base_of, link_constraints, link_entry, chain_of_links, chain_of}
+use Rattle.acn_graph.specs.Graph.{Among, here, there}
+use Rattle.acn_world.specs.Cycles.{type_target, targets, targets_of, Reaches, once, more}
+use Rattle.acn_index.specs.Chains.{Link, ChainOf, written, assigned_link, base_reference, reference_of, next_link, more_links, links_within, links, last_link, base_link, base_of, link_constraints, link_entry, chain_of_links, chain_of}
 use Rattle.acn_world.specs.Faults.{IsSound, early_fault}
-use Rattle.acn_world.specs.declared.sources.TypeId.{TypeId}
+use Rattle.acn_index.specs.declared.sources.TypeId.{TypeId}
 use Rattle.acn_names.specs.Standing.{Stands}
 use Rattle.acn_names.proofs.Valued.{chained, within_tested}
 use Rattle.acn_names.proofs.Known.{front_empty, back_empty, there_when, none_of}
-use Rattle.acn_world.proofs.ChainSteps.{last_ends, last_goes}
-use Rattle.acn_world.proofs.Left.{without, every_place}
+use Rattle.acn_index.proofs.ChainSteps.{last_ends, last_goes}
+use Rattle.acn_index.proofs.Left.{without, every_place}
 use Rattle.acn_names.proofs.Ended.{assigned_in, reached_in}
 use Rattle.acn_names.proofs.Inside.{IsInside, stands_inside, mentioned}
 
-member_empty : {A B : Type 0} (f : A → List B) {x : A} (xs : List A) → flat_map f xs ≡ [] → Within x xs → f x ≡ []
+member_empty : {A B : Type 0} (f : A → List B) {x : A} (xs : List A) → flat_map f xs ≡ [] → Among x xs → f x ≡ []
 member_empty f [] e i = absurd (elim i [ ])
 member_empty f (z ∷ xs) e here = front_empty (f z) (flat_map f xs) e
 member_empty f (z ∷ xs) e (there i) = member_empty f xs (back_empty (f z) (flat_map f xs) e) i
 
-behind_it : {A : Type 0} {y : A} (o : Option A) {ys : List A} → Within y ys → Within y (cons_option o ys)
+behind_it : {A : Type 0} {y : A} (o : Option A) {ys : List A} → Among y ys → Among y (cons_option o ys)
 behind_it None i = i
 behind_it (Some z) i = there i
 
-at_front : {A : Type 0} (y : A) (o : Option A) (ys : List A) → o ≡ Some y → Within y (cons_option o ys)
-at_front y o ys e = subst (λ (z : Option _). Within y (cons_option z ys)) (sym e) here
+at_front : {A : Type 0} (y : A) (o : Option A) (ys : List A) → o ≡ Some y → Among y (cons_option o ys)
+at_front y o ys e = subst (λ (z : Option _). Among y (cons_option z ys)) (sym e) here
 
-chosen_in : {A B : Type 0} (f : A → Option B) {x : A} (xs : List A) (y : B) → f x ≡ Some y → Within x xs → Within y (filter_map f xs)
+chosen_in : {A B : Type 0} (f : A → Option B) {x : A} (xs : List A) (y : B) → f x ≡ Some y → Among x xs → Among y (filter_map f xs)
 chosen_in f [] y e i = absurd (elim i [ ])
 chosen_in f (z ∷ xs) y e here = at_front y (f z) (filter_map f xs) e
 chosen_in f (z ∷ xs) y e (there i) = behind_it (f z) (chosen_in f xs y e i)
 
-in_type : {m : Mention} (name : Name) (t : AsnType) → Within m (mentions t) → Within m (assign_mentions (TypeIs name t))
+in_type : {m : Mention} (name : Name) (t : AsnType) → Among m (mentions t) → Among m (assign_mentions (TypeIs name t))
 unfolding assign_mentions
 in_type name t i = i
 
@@ -65,7 +66,7 @@ module _ (w : World) where
   named_typed k (Some from) name q e = let other = chained (found w (is_type name) name) (module_named w from) q e in found_typed name other.0 q other.2
 
   -- a type to which a type refers in a sound world is there
-  known : early_fault w ≡ None → (p : TypeId) (a : Assign) (from : Option Name) (name : Name) → assignment w p ≡ Some a → Within (to_type from name) (assign_mentions a) → (q : TypeId) × (type_named w p.module from name ≡ Some q)
+  known : early_fault w ≡ None → (p : TypeId) (a : Assign) (from : Option Name) (name : Name) → assignment w p ≡ Some a → Among (to_type from name) (assign_mentions a) → (q : TypeId) × (type_named w p.module from name ≡ Some q)
   unfolding is_known
   known e p a from name f i =
       let test = λ (m : Mention). when (not (is_known w p.module m)) (mention_name m) in
@@ -80,7 +81,7 @@ module _ (w : World) where
   unfolding type_at
   at_type p t e = assigned_type p (assignment w p) t refl e
 
-  edge : (p q : TypeId) (name : Name) (t : AsnType) (r : Option Name × Name) → assignment w p ≡ Some (TypeIs name t) → reference_of t ≡ Some r → type_named w p.module r.0 r.1 ≡ Some q → Within q (targets w p)
+  edge : (p q : TypeId) (name : Name) (t : AsnType) (r : Option Name × Name) → assignment w p ≡ Some (TypeIs name t) → reference_of t ≡ Some r → type_named w p.module r.0 r.1 ≡ Some q → Among q (targets w p)
   unfolding targets targets_of
   edge p q name t r e f g = rw e (chosen_in (type_target w p.module) (mentions t) q g (mentioned t r f))
 
@@ -130,14 +131,14 @@ module _ (w : World) where
 
   module _ (sound : IsSound w) where
     -- what is reached from an assignment stands among those that are left; the assignment itself isn't reached
-    ended : (n : ℕ) (left : List TypeId) (p : TypeId) (t : AsnType) → length left ≤ n → type_at w p ≡ Some t → Within p left
-        → ((q : TypeId) (way : List TypeId) → Reaches w p q way → Within q left) → (m : ℕ) × (n ≡ suc m) × Ends n (link_at p t)
+    ended : (n : ℕ) (left : List TypeId) (p : TypeId) (t : AsnType) → length left ≤ n → type_at w p ≡ Some t → Among p left
+        → ((q : TypeId) (way : List TypeId) → Reaches w p q way → Among q left) → (m : ℕ) × (n ≡ suc m) × Ends n (link_at p t)
     ended zero left p t le e i all = let h = without left i in let a = h.1 in absurd (omega arith)
     ended (suc n) left p t le e i all =
         let own = at_type p t e in
         let rest = without left i in
         let fewer : length rest.0 ≤ n = (let a = rest.1 in omega arith) in
-        let stays : (q : TypeId) (way : List TypeId) → Reaches w p q way → Within q rest.0 = λ q way r. elim (rest.2 q (all q way r)) [
+        let stays : (q : TypeId) (way : List TypeId) → Reaches w p q way → Among q rest.0 = λ q way r. elim (rest.2 q (all q way r)) [
           | inl same ↦ absurd (sound.acyclic.none p way (subst (λ (y : TypeId). Reaches w p y way) same r))
           | inr j ↦ j
         ] in (

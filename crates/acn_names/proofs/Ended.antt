@@ -5,14 +5,15 @@ use Rattle.acn_asn_syntax.specs.Mirror.{AsnType, ValueIs}
 use Rattle.acn_asn_syntax.specs.declared.values.AsnValue.{AsnValue}
 use Rattle.acn_asn_syntax.specs.declared.values.AsnValue.TheVariants as value
 use Rattle.acn_num.specs.Names.{Name}
-use Rattle.acn_world.specs.World.{World, assignment, places, count}
-use Rattle.acn_world.specs.Lookup.{value_named}
-use Rattle.acn_world.specs.Values.{Worth, refers, first_worth, value_within, value_of}
-use Rattle.acn_world.specs.Cycles.{Within, here, targets, targets_of, Reaches, once, more}
+use Rattle.acn_index.specs.World.{World, assignment, places, count}
+use Rattle.acn_index.specs.Lookup.{value_named}
+use Rattle.acn_index.specs.Values.{Worth, refers, first_worth, value_within, value_of}
+use Rattle.acn_graph.specs.Graph.{Among, here}
+use Rattle.acn_world.specs.Cycles.{targets, targets_of, Reaches, once, more}
 use Rattle.acn_world.specs.Faults.{IsSound}
-use Rattle.acn_world.specs.declared.sources.TypeId.{TypeId}
-use Rattle.acn_world.proofs.Left.{without, is_placed, every_place}
-use Rattle.acn_world.proofs.ValueSteps.{lost, ends, goes}
+use Rattle.acn_index.specs.declared.sources.TypeId.{TypeId}
+use Rattle.acn_index.proofs.Left.{without, is_placed, every_place}
+use Rattle.acn_index.proofs.ValueSteps.{lost, ends, goes}
 use Rattle.acn_cycles.proofs.Assigned.{IsAssigned, target_assigned}
 use Rattle.acn_names.proofs.Valued.{valued}
 use Rattle.acn_names.proofs.Known.{named_behind}
@@ -30,14 +31,14 @@ is_reference (value.Hex name) other e = absurd (cc e)
 is_reference (value.Text name) other e = absurd (cc e)
 
 module _ (w : World) where
-  pub assigned_in : (p : TypeId) → IsAssigned w p → Within p (places w)
+  pub assigned_in : (p : TypeId) → IsAssigned w p → Among p (places w)
   assigned_in p a = is_placed w p a.0 a.1
 
-  pub reached_in : {p q : TypeId} {way : List TypeId} → Reaches w p q way → Within q (places w)
+  pub reached_in : {p q : TypeId} {way : List TypeId} → Reaches w p q way → Among q (places w)
   reached_in (once {p} {q} i) = assigned_in q (target_assigned w p q i)
   reached_in (more i rest) = reached_in rest
 
-  onward : (p q : TypeId) (name : Name) (t : AsnType) (other : Name) → assignment w p ≡ Some (ValueIs name t (value.Ref other)) → value_named w p.module other ≡ Some q → Within q (targets w p)
+  onward : (p q : TypeId) (name : Name) (t : AsnType) (other : Name) → assignment w p ≡ Some (ValueIs name t (value.Ref other)) → value_named w p.module other ≡ Some q → Among q (targets w p)
   unfolding targets targets_of
   onward p q name t other e f = rw e (rw f here)
 
@@ -55,14 +56,14 @@ module _ (w : World) where
 
   module _ (sound : IsSound w) where
     -- what is reached from an assignment stands among those that are left; the assignment itself isn't reached
-    ended : (n : ℕ) (left : List TypeId) (k : ℕ) (name : Name) (p : TypeId) → length left ≤ n → value_named w k name ≡ Some p → Within p left
-        → ((q : TypeId) (way : List TypeId) → Reaches w p q way → Within q left) → LeadsOn n k name
+    ended : (n : ℕ) (left : List TypeId) (k : ℕ) (name : Name) (p : TypeId) → length left ≤ n → value_named w k name ≡ Some p → Among p left
+        → ((q : TypeId) (way : List TypeId) → Reaches w p q way → Among q left) → LeadsOn n k name
     ended zero left k name p le e i all = let h = without left i in let a = h.1 in absurd (omega arith)
     ended (suc n) left k name p le e i all =
         let v = valued w k name p e in
         let rest = without left i in
         let fewer : length rest.0 ≤ n = (let a = rest.1 in omega arith) in
-        let stays : (q : TypeId) (way : List TypeId) → Reaches w p q way → Within q rest.0 = λ q way r. elim (rest.2 q (all q way r)) [
+        let stays : (q : TypeId) (way : List TypeId) → Reaches w p q way → Among q rest.0 = λ q way r. elim (rest.2 q (all q way r)) [
           | inl same ↦ absurd (sound.acyclic.none p way (subst (λ (y : TypeId). Reaches w p y way) same r))
           | inr j ↦ j
         ] in

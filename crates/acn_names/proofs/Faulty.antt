@@ -5,10 +5,10 @@ use Rattle.std.specs.Borrow.{Bor}
 use Rattle.acn_num.specs.declared.memory.NoMemory.{NoMemory}
 use Rattle.acn_num.specs.declared.name.Name as num
 use Rattle.acn_num.specs.Names.{Name}
-use Rattle.acn_world.specs.World.{World}
+use Rattle.acn_index.specs.World.{World}
 use Rattle.acn_world.specs.Cycles.{HasNoCycle, IsFirstCycle, wrong_kinds}
 use Rattle.acn_world.specs.Faults.{first, early_fault, module_name_at, name_at, names_at, IsFault, early, cyclic, late, IsSound}
-use Rattle.acn_world.specs.declared.sources.TypeId.{TypeId}
+use Rattle.acn_index.specs.declared.sources.TypeId.{TypeId}
 use Rattle.acn_world.specs.declared.fault.NameFault.{NameFault}
 use Rattle.acn_world.specs.declared.fault.NameFault.TheVariants as fault
 use Rattle.acn_names.specs.Rounds.{IsCycleFault}

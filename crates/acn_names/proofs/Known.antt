@@ -6,15 +6,15 @@ use Rattle.std.proofs.lemmas.Grind.{flat_map-append}
 use Rattle.acn_asn_syntax.specs.Mirror.{AsnModule, AsnType, Assign, ValueIs}
 use Rattle.acn_asn_syntax.specs.declared.values.AsnValue.TheVariants as value
 use Rattle.acn_num.specs.Names.{Name}
-use Rattle.acn_world.specs.World.{World, assignment}
-use Rattle.acn_world.specs.Lookup.{value_named, imports_of}
+use Rattle.acn_index.specs.World.{World, assignment}
+use Rattle.acn_index.specs.Lookup.{value_named, imports_of}
 use Rattle.acn_mentions.specs.Mentions.{Mention, in_assignment, mentions, assign_mentions}
 use Rattle.acn_world.specs.Repeated.{repeats, when}
 use Rattle.acn_world.specs.Unknown.{missing_modules, unknowns, unknown_of, unknown_in, unknown_mentions, import_unknown, acn_unknown_in, is_known, mention_name}
 use Rattle.acn_acn_syntax.specs.Mirror.{Module}
 use Rattle.acn_world.specs.Faults.{first, early_fault}
 use Rattle.acn_world.specs.declared.fault.NameFault.TheVariants as fault
-use Rattle.acn_world.specs.declared.sources.TypeId.{TypeId}
+use Rattle.acn_index.specs.declared.sources.TypeId.{TypeId}
 use Rattle.acn_names.proofs.Valued.{stands_in}
 
 no_first : {A : Type 0} (xs : List A) → first xs ≡ None → xs ≡ []

@@ -4,9 +4,9 @@ use Rattle.std.specs.Prelude.{option_map, option_copied, option_and_then, slice_
 use Rattle.std.specs.Borrow.{Bor}
 use Rattle.acn_asn_syntax.specs.Mirror.{AsnModule, Assign}
 use Rattle.acn_num.specs.Names.{Name}
-use Rattle.acn_world.specs.World.{World, name_of, assignment}
+use Rattle.acn_index.specs.World.{World, name_of, assignment}
 use Rattle.acn_world.specs.Faults.{module_name_at, name_at}
-use Rattle.acn_world.specs.declared.sources.TypeId.{TypeId}
+use Rattle.acn_index.specs.declared.sources.TypeId.{TypeId}
 
 mapped_some : {A B : Type 0} (f : A → B) (o : Option A) → IsSome o → IsSome (option_map f o)
 mapped_some f None h = h

@@ -6,9 +6,9 @@ use Rattle.std.specs.List.{position_from}
 use Rattle.acn_asn_syntax.specs.Mirror.{AsnModule, AsnType, Assign, TypeIs, ValueIs}
 use Rattle.acn_asn_syntax.specs.declared.values.AsnValue.{AsnValue}
 use Rattle.acn_num.specs.Names.{Name}
-use Rattle.acn_world.specs.World.{World, place, assignment}
-use Rattle.acn_world.specs.Lookup.{own, imported_from, found_within, found, value_named, is_value}
-use Rattle.acn_world.specs.declared.sources.TypeId.{TypeId}
+use Rattle.acn_index.specs.World.{World, place, assignment}
+use Rattle.acn_index.specs.Lookup.{own, imported_from, found_within, found, value_named, is_value}
+use Rattle.acn_index.specs.declared.sources.TypeId.{TypeId}
 
 mapped : {A B : Type 0} (f : A → B) (o : Option A) (y : B) → option_map f o ≡ Some y → (x : A) × (o ≡ Some x) × (f x ≡ y)
 mapped f None y e = absurd (cc e)

@@ -6,7 +6,7 @@ use Rattle.acn_asn_syntax.specs.Mirror.{AsnModule}
 use Rattle.acn_asn_syntax.specs.View.{module_view}
 use Rattle.acn_asn_syntax.specs.declared.modules.AsnModule as tree
 use Rattle.acn_asn_syntax.specs.declared.modules.AsnModules.{AsnModules}
-use Rattle.acn_world.specs.World.{asn_modules}
+use Rattle.acn_index.specs.World.{asn_modules}
 use Rattle.acn_names.specs.Few.{weight}
 
 pub weight_is : (ms : List AsnModule) → weight ms ≡ length ms + length (flat_map (λ (m : AsnModule). m.items) ms)

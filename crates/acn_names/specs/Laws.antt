@@ -3,12 +3,12 @@ use Rattle.std.specs.Prelude.{◌≡◌, ℕ, is_some, Option, Some, None}
 use Rattle.acn_num.specs.Names.{Name}
 use Rattle.acn_asn_syntax.specs.Mirror.{AsnType, type_of, reference, no_constraints}
 use Rattle.acn_asn_syntax.specs.declared.types.Tag.{Tag}
-use Rattle.acn_world.specs.World.{World}
-use Rattle.acn_world.specs.Lookup.{value_named, type_named}
-use Rattle.acn_world.specs.Values.{value_of}
-use Rattle.acn_world.specs.Chains.{Link, written, assigned_link, base_reference, base_of, chain_of}
+use Rattle.acn_index.specs.World.{World}
+use Rattle.acn_index.specs.Lookup.{value_named, type_named}
+use Rattle.acn_index.specs.Values.{value_of}
+use Rattle.acn_index.specs.Chains.{Link, written, assigned_link, base_reference, base_of, chain_of}
 use Rattle.acn_world.specs.Faults.{IsSound}
-use Rattle.acn_world.specs.declared.sources.TypeId.{TypeId}
+use Rattle.acn_index.specs.declared.sources.TypeId.{TypeId}
 use Rattle.acn_names.specs.Standing.{Stands}
 
 -- in a sound world an identifier leads to a value exactly where it names one

@@ -1,9 +1,9 @@
 -- The fault of what reaches itself.
 use Rattle.std.specs.Prelude.{◌≡◌, List, Some}
 use Rattle.acn_num.specs.Names.{Name}
-use Rattle.acn_world.specs.World.{World}
+use Rattle.acn_index.specs.World.{World}
 use Rattle.acn_world.specs.Faults.{module_name_at, name_at, names_at}
-use Rattle.acn_world.specs.declared.sources.TypeId.{TypeId}
+use Rattle.acn_index.specs.declared.sources.TypeId.{TypeId}
 use Rattle.acn_world.specs.declared.fault.NameFault.{NameFault}
 use Rattle.acn_world.specs.declared.fault.NameFault.TheVariants as fault
 

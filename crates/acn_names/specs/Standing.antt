@@ -1,8 +1,8 @@
 -- The types that stand in the text of a module.
 use Rattle.std.specs.Prelude.{◌≡◌, ℕ, List, [], ◌∷◌, ◌++◌, map, flat_map, Some}
 use Rattle.acn_asn_syntax.specs.Mirror.{AsnType, type_of, AsnBase, sequence, sequence_of, sequence_size, choice, Constraint, containing, Component, Alternative, Assign, component_list, alternative_list, constraint_list}
-use Rattle.acn_world.specs.World.{World, place, assignment, type_of_assign}
-use Rattle.acn_world.specs.Cycles.{Within}
+use Rattle.acn_index.specs.World.{World, place, assignment, type_of_assign}
+use Rattle.acn_graph.specs.Graph.{Among}
 
 -- a contained type
 abbrev pub constraint_parts : Constraint → List AsnType
@@ -24,4 +24,4 @@ parts (type_of tag b cs) = base_parts b ++ flat_map constraint_parts (constraint
 -- stands there.
 pub data Stands (w : World) (k : ℕ) : AsnType → Type 0 where
   assigned : (i : ℕ) (a : Assign) → assignment w (place k i) ≡ Some a → Stands w k (type_of_assign a)
-  inside : {t u : AsnType} → Within u (parts t) → Stands w k t → Stands w k u
+  inside : {t u : AsnType} → Among u (parts t) → Stands w k t → Stands w k u

@@ -1,5 +1,5 @@
 ghost use Rattle.std.specs.Prelude.{◌≡◌, [], ◌∷◌, ◌++◌, map, option_map, OnOk, IfOk, length, ◌<◌};
-ghost use Rattle.acn_world.specs.Views.{index_view};
+ghost use Rattle.acn_index.specs.Views.{index_view};
 ghost use Rattle.acn_world.specs.Unknown as unknown;
 ghost use Rattle.acn_world.specs.Faults as spec;
 ghost use Rattle.acn_world.specs.declared.fault.NameFault.TheVariants as fault;
@@ -8,10 +8,10 @@ ghost use Rattle.acn_repeated.specs.Blamed.{blame_view, blames_view};
 
 use crate::missing::{push_missing_acn, push_missing_modules};
 use crate::{unknown, unknown_acn};
+use acn_index::index::Index;
 use acn_num::{Name, NoMemory};
 use acn_repeated::{Blame, Kind, push_repeats};
 use acn_world::NameFault;
-use acn_world::index::Index;
 use std::alloc::Global;
 
 // Adds the modules that aren't there.

@@ -1,6 +1,6 @@
 ghost use Rattle.std.specs.Prelude.{◌≡◌, ◌+◌, ◌≤◌, ◌↔◌, min, map, IsTrue};
 ghost use Rattle.acn_asn_syntax.specs.View.{module_view};
-ghost use Rattle.acn_world.specs.World.{IsSmall, asn_modules, world_of};
+ghost use Rattle.acn_index.specs.World.{IsSmall, asn_modules, world_of};
 ghost use Rattle.acn_names.specs.Few.{weight};
 
 use acn_asn_syntax::{AsnModule, AsnModules};
@@ -41,7 +41,7 @@ fn weigh_all(files: &[AsnModules]) -> usize
 }
 
 /// Whether the modules and assignments are few enough to be numbered by 32 bits.
-#[tactic(auto, unfolding(acn_world::specs::World::world_of, acn_world::specs::World::count))]
+#[tactic(auto, unfolding(acn_index::specs::World::world_of, acn_index::specs::World::count))]
 pub fn are_few(sources: &Sources) -> bool
     ensures { IsTrue result ↔ IsSmall (world_of sources.now) }
 {

@@ -1,14 +1,14 @@
 ghost use Rattle.std.specs.Prelude.{◌≡◌, ◌++◌, map, flat_map, IfOk, OnOk};
 ghost use Rattle.acn_asn_syntax.specs.View.{module_view};
 ghost use Rattle.acn_acn_syntax.specs.View.{module_of, modules_of};
-ghost use Rattle.acn_world.specs.Views.{index_view};
-ghost use Rattle.acn_world.specs.World.{IsSmall, world_of, asn_modules, acn_modules, map_tables};
+ghost use Rattle.acn_index.specs.Views.{index_view};
+ghost use Rattle.acn_index.specs.World.{IsSmall, world_of, asn_modules, acn_modules, map_tables};
 
 use acn_acn_syntax::{AcnModule, AcnModules, MapTable, MapTables};
 use acn_asn_syntax::{AsnModule, AsnModules};
+use acn_index::index::Index;
 use acn_num::{NoMemory, Row};
 use acn_world::Sources;
-use acn_world::index::Index;
 use std::alloc::Global;
 
 // The modules of all ASN.1 files.
@@ -45,7 +45,7 @@ fn gather_tables(alloc: Global, files: Vec<MapTables>) -> Result<Row<MapTable>, 
 }
 
 /// The modules and tables of all files.
-#[tactic(auto, unfolding(acn_world::specs::World::world_of))]
+#[tactic(auto, unfolding(acn_index::specs::World::world_of))]
 pub fn gather(alloc: Global, sources: Sources) -> Result<Index, NoMemory>
     requires { IsSmall (world_of sources) }
     ensures { IfOk result (λ index. index_view index ≡ world_of sources) }

@@ -1,7 +1,7 @@
 ghost use Rattle.std.specs.Prelude.{◌≡◌, [], ◌∷◌, ◌++◌, map, flat_map, OnOk, IfOk};
 ghost use Rattle.acn_asn_syntax.specs.View.{module_view};
 ghost use Rattle.acn_acn_syntax.specs.View.{module_of};
-ghost use Rattle.acn_world.specs.Views.{index_view};
+ghost use Rattle.acn_index.specs.Views.{index_view};
 ghost use Rattle.acn_world.specs.Repeated.{when};
 ghost use Rattle.acn_world.specs.Unknown as spec;
 ghost use Rattle.acn_repeated.specs.Named.{names_view};
@@ -9,10 +9,10 @@ ghost use Rattle.acn_repeated.specs.Blamed.{blames_view};
 
 use acn_acn_syntax::AcnModule;
 use acn_asn_syntax::{AsnModule, Import};
+use acn_index::index::Index;
+use acn_index::lookup::{imports_of, module_named};
 use acn_num::{Name, NoMemory};
 use acn_repeated::{Blame, Kind, push_blames};
-use acn_world::index::Index;
-use acn_world::lookup::{imports_of, module_named};
 use std::alloc::Global;
 
 // Adds the name, where no ASN.1 module has it.

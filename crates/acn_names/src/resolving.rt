@@ -1,7 +1,7 @@
 ghost use Rattle.std.specs.Prelude.{◌≡◌, ◌⊎◌, option_copied, IfErr, IfOk, IsSome, MatchOption, None, OnOk};
-ghost use Rattle.acn_world.specs.Views.{index_view};
+ghost use Rattle.acn_index.specs.Views.{index_view};
 ghost use Rattle.acn_world.specs.Viewed.{world_view};
-ghost use Rattle.acn_world.specs.World as world;
+ghost use Rattle.acn_index.specs.World as world;
 ghost use Rattle.acn_world.specs.Faults as spec;
 ghost use Rattle.acn_world.specs.declared.fault.NameFault.TheVariants as fault;
 ghost use Rattle.acn_names.specs.Rounds.{IsCycleFault};
@@ -11,10 +11,10 @@ use crate::few::are_few;
 use crate::gathering::gather;
 use crate::wrong::late_fault;
 use acn_cycles::{Round, first_cycle};
+use acn_index::index::Index;
+use acn_index::lookup::module_at;
+use acn_index::references::{assignment, name_of};
 use acn_num::{Name, NoMemory, Row};
-use acn_world::index::Index;
-use acn_world::lookup::module_at;
-use acn_world::references::{assignment, name_of};
 use acn_world::{NameFault, Sources, TypeId, World};
 use std::alloc::Global;
 

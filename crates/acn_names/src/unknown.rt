@@ -1,7 +1,7 @@
 ghost use Rattle.std.specs.Prelude.{◌≡◌, [], ◌∷◌, ◌++◌, not, is_some, map, flat_map, OnOk, IfOk, ◌+◌, ◌<◌, length};
 ghost use Rattle.std.specs.List.{enumerate_from};
 ghost use Rattle.acn_asn_syntax.specs.View.{assign_view, module_view, base_view, type_view};
-ghost use Rattle.acn_world.specs.Views.{index_view};
+ghost use Rattle.acn_index.specs.Views.{index_view};
 ghost use Rattle.acn_mentions.specs.Mentioned.{mention_view, mentions_view, governor_view};
 ghost use Rattle.acn_mentions.specs.Mentions as mentions;
 ghost use Rattle.acn_world.specs.Repeated as repeated;
@@ -10,13 +10,13 @@ ghost use Rattle.acn_repeated.specs.Named.{names_view};
 ghost use Rattle.acn_repeated.specs.Blamed.{blames_view};
 
 use acn_asn_syntax::{AsnBase, AsnModule, AsnType, AsnValue, Assign, Import, Item, Named};
+use acn_index::chain::{base_of, written};
+use acn_index::index::Index;
+use acn_index::lookup::{Sort, found, imports_of, module_named, same};
+use acn_index::references::{type_named, value_named};
 use acn_mentions::{Mention, push_type};
 use acn_num::{Name, NoMemory, Row};
 use acn_repeated::{Blame, Kind, push_blames};
-use acn_world::chain::{base_of, written};
-use acn_world::index::Index;
-use acn_world::lookup::{Sort, found, imports_of, module_named, same};
-use acn_world::references::{type_named, value_named};
 use std::alloc::Global;
 
 // Whether one of the named numbers has this name.

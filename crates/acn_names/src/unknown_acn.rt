@@ -1,21 +1,21 @@
 ghost use Rattle.std.specs.Prelude.{◌≡◌, [], ◌∷◌, ◌++◌, not, is_some, map, flat_map, OnOk, IfOk};
 ghost use Rattle.acn_acn_syntax.specs.View.{entry_of, module_of};
-ghost use Rattle.acn_world.specs.Views.{index_view};
+ghost use Rattle.acn_index.specs.Views.{index_view};
 ghost use Rattle.acn_mentions.specs.AcnMentioned.{acn_mention_view, acn_mentions_view};
 ghost use Rattle.acn_world.specs.Unknown as spec;
 ghost use Rattle.acn_world.specs.Repeated.{when};
-ghost use Rattle.acn_world.specs.Lookup.{type_in};
+ghost use Rattle.acn_index.specs.Lookup.{type_in};
 ghost use Rattle.acn_repeated.specs.Named.{names_view};
 ghost use Rattle.acn_repeated.specs.Blamed.{blames_view};
 
 use acn_acn_syntax::{AcnEntry, AcnModule};
+use acn_index::index::Index;
+use acn_index::lookup::module_named;
+use acn_index::references::{table_named, type_in, type_named};
 use acn_mentions::{AcnMention, push_entry};
 use acn_num::{Name, NoMemory};
 use acn_repeated::{Blame, Kind, push_blames};
 use acn_world::TypeId;
-use acn_world::index::Index;
-use acn_world::lookup::module_named;
-use acn_world::references::{table_named, type_in, type_named};
 use std::alloc::Global;
 
 /// The type to which a reference in the ACN module with a name leads.

@@ -2,7 +2,7 @@ ghost use Rattle.std.specs.Prelude.{◌≡◌, [], ◌∷◌, ◌++◌, not, ◌
 ghost use Rattle.std.specs.List.{enumerate_from};
 ghost use Rattle.acn_asn_syntax.specs.View.{assign_view, module_view, base_view, type_view};
 ghost use Rattle.acn_acn_syntax.specs.View.{entry_of, module_of};
-ghost use Rattle.acn_world.specs.Views.{index_view};
+ghost use Rattle.acn_index.specs.Views.{index_view};
 ghost use Rattle.acn_mentions.specs.Mentioned.{mention_view, mentions_view, governor_view};
 ghost use Rattle.acn_mentions.specs.AcnMentioned.{acn_mention_view, acn_mentions_view};
 ghost use Rattle.acn_world.specs.Repeated.{when};
@@ -17,13 +17,13 @@ use crate::unknown::{is_governed, mention_name, push_assign};
 use crate::unknown_acn::{acn_mention_name, acn_type_named};
 use acn_acn_syntax::{AcnEntry, AcnModule};
 use acn_asn_syntax::{AsnBase, AsnModule, AsnType, Assign};
+use acn_index::chain::{assigned_link, base_of, written};
+use acn_index::index::Index;
+use acn_index::values::leads_to_number;
 use acn_mentions::{AcnMention, Mention, Role, push_entry};
 use acn_num::{Name, NoMemory};
 use acn_repeated::{Blame, Kind, push_blames};
 use acn_world::NameFault;
-use acn_world::chain::{assigned_link, base_of, written};
-use acn_world::index::Index;
-use acn_world::values::leads_to_number;
 use std::alloc::Global;
 
 // Whether the type is INTEGER.

@@ -6,9 +6,9 @@ use Rattle.acn_acn_syntax.specs.declared.modules.AcnPath.{AcnPath}
 use Rattle.acn_acn_syntax.specs.declared.modules.Param.{Param}
 use Rattle.acn_acn_syntax.specs.declared.modules.ParamKind.{ParamKind}
 use Rattle.acn_acn_syntax.specs.declared.modules.ParamKind.TheVariants as param
-use Rattle.acn_world.specs.World.{World}
-use Rattle.acn_world.specs.Lookup.{EntryAt}
-use Rattle.acn_world.specs.Chains.{written, chain_of, gives_parameters, has_items}
+use Rattle.acn_index.specs.World.{World}
+use Rattle.acn_index.specs.Lookup.{EntryAt}
+use Rattle.acn_index.specs.Chains.{written, chain_of, gives_parameters, has_items}
 use Rattle.acn_slots.specs.declared.slots.Sort.{Sort}
 use Rattle.acn_slots.specs.declared.slots.Sort.TheVariants as sort
 use Rattle.acn_slots.specs.declared.slots.Lead.{Lead}

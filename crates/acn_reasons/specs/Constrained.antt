@@ -1,7 +1,7 @@
 -- The fault of a site's constraints.
 use Rattle.std.specs.Prelude.{Bool, true, not, ◌&&◌, Option, Some, None, is_some, Result, Ok, Err, if◌then◌else◌}
 use Rattle.acn_num.specs.Ranges.{Ranges}
-use Rattle.acn_world.specs.World.{World}
+use Rattle.acn_index.specs.World.{World}
 use Rattle.acn_constraint.specs.Constraints.{Fault, unbounded, range_of, size_of, text_of}
 use Rattle.acn_sites.specs.Sites.{Site, content_of}
 use Rattle.acn_reasons.specs.declared.classes.Class.{Class}

@@ -8,7 +8,7 @@ use Rattle.acn_acn_syntax.specs.declared.modules.SizeAttr.{SizeAttr}
 use Rattle.acn_acn_syntax.specs.declared.modules.SizeAttr.TheVariants as size
 use Rattle.acn_acn_syntax.specs.declared.modules.Attr.{Attr}
 use Rattle.acn_acn_syntax.specs.declared.modules.Attr.TheVariants as attr
-use Rattle.acn_world.specs.World.{World}
+use Rattle.acn_index.specs.World.{World}
 use Rattle.acn_sites.specs.declared.attributes.AttrKind.{AttrKind}
 use Rattle.acn_sites.specs.declared.attributes.AttrKind.TheVariants as kind
 use Rattle.acn_slots.specs.declared.slots.Lead.{Lead}

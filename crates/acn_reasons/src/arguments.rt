@@ -2,7 +2,7 @@ ghost use Rattle.std.specs.Prelude.{◌≡◌, option_map, option_and_then, IfOk
 ghost use Rattle.std.specs.List.{zip, list_all};
 ghost use Rattle.acn_asn_syntax.specs.View.{type_view};
 ghost use Rattle.acn_world.specs.Chained.{chain_view, entry_view, entries_view};
-ghost use Rattle.acn_world.specs.Chains as chains;
+ghost use Rattle.acn_index.specs.Chains as chains;
 ghost use Rattle.acn_world.specs.Viewed.{world_view};
 ghost use Rattle.acn_slots.specs.View.{origin_view};
 ghost use Rattle.acn_sites.specs.View.{site_view, inside_view, typed_view};

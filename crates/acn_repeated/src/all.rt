@@ -1,5 +1,5 @@
 ghost use Rattle.std.specs.Prelude.{◌≡◌, ◌++◌, map, OnOk};
-ghost use Rattle.acn_world.specs.Views.{index_view};
+ghost use Rattle.acn_index.specs.Views.{index_view};
 ghost use Rattle.acn_world.specs.Repeated as repeated;
 ghost use Rattle.acn_world.specs.declared.fault.NameFault.TheVariants as fault;
 ghost use Rattle.acn_repeated.specs.Named.{names_view};
@@ -10,8 +10,8 @@ use crate::lists::push_twice_tables;
 use crate::seen::nothing_seen;
 use crate::{repeated, repeated_acn};
 use acn_acn_syntax::MapTable;
+use acn_index::index::Index;
 use acn_num::{Name, NoMemory};
-use acn_world::index::Index;
 use std::alloc::Global;
 
 // Adds a fault for each name of a table that is given twice.

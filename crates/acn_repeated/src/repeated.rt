@@ -1,6 +1,6 @@
 ghost use Rattle.std.specs.Prelude.{◌≡◌, [], ◌∷◌, ◌++◌, map, OnOk, IfOk};
 ghost use Rattle.acn_asn_syntax.specs.View.{assign_view, module_view, type_view};
-ghost use Rattle.acn_world.specs.World as world;
+ghost use Rattle.acn_index.specs.World as world;
 ghost use Rattle.acn_world.specs.Repeated as spec;
 ghost use Rattle.acn_repeated.specs.Named.{names_view};
 ghost use Rattle.acn_repeated.specs.Blamed.{blames_view};
@@ -10,9 +10,9 @@ use crate::lists::push_imports;
 use crate::seen::{Seen, nothing_seen, push_again, push_repeated_behind, see};
 use crate::twice_types::push_twice;
 use acn_asn_syntax::{AsnModule, AsnType, Assign};
+use acn_index::lookup::imports_of;
+use acn_index::references::name_of;
 use acn_num::{Name, NoMemory};
-use acn_world::lookup::imports_of;
-use acn_world::references::name_of;
 use std::alloc::Global;
 
 // The type of an assignment.

@@ -5,7 +5,7 @@ use Rattle.acn_asn_syntax.specs.Mirror.{Set, all_except, union_of, Meets, no_mee
 use Rattle.acn_asn_syntax.specs.declared.sets.AsnRange.{AsnRange}
 use Rattle.acn_asn_syntax.specs.declared.types.Named.{Named}
 use Rattle.acn_asn_syntax.specs.declared.values.AsnValue.{AsnValue}
-use Rattle.acn_world.specs.World.{World}
+use Rattle.acn_index.specs.World.{World}
 use Rattle.acn_set_elements.specs.Written.{number_in, text_in, character_in, named_of}
 
 -- What a set is built of: numbers alone, texts alone, SIZE alone.

@@ -8,8 +8,8 @@ use Rattle.acn_asn_syntax.specs.declared.types.Named.{Named}
 use Rattle.acn_asn_syntax.specs.declared.values.AsnValue.{AsnValue}
 use Rattle.acn_asn_syntax.specs.declared.values.AsnValue.TheVariants as value
 use Rattle.acn_num.specs.Names.{Name}
-use Rattle.acn_world.specs.World.{World}
-use Rattle.acn_world.specs.Values.{value_of}
+use Rattle.acn_index.specs.World.{World}
+use Rattle.acn_index.specs.Values.{value_of}
 
 -- ---- numbers (X.680 clause 19)
 

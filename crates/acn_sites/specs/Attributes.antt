@@ -4,8 +4,8 @@ use Rattle.std.specs.List.{enumerate_from}
 use Rattle.std.specs.Option.{option_or}
 use Rattle.acn_acn_syntax.specs.declared.modules.Attr.{Attr}
 use Rattle.acn_acn_syntax.specs.declared.modules.Attr.TheVariants as attr
-use Rattle.acn_world.specs.World.{World}
-use Rattle.acn_world.specs.Lookup.{EntryAt}
+use Rattle.acn_index.specs.World.{World}
+use Rattle.acn_index.specs.Lookup.{EntryAt}
 use Rattle.acn_sites.specs.declared.attributes.AttrKind.{AttrKind}
 use Rattle.acn_sites.specs.declared.attributes.AttrKind.TheVariants as kind
 use Rattle.acn_sites.specs.Places.{Place, attribute_place}

@@ -1,6 +1,6 @@
 -- Places in the text of the ACN modules, and the earliest of what was found there.
 use Rattle.std.specs.Prelude.{ℕ, Bool, true, false, ◌&&◌, nat_lt, nat_eq, if◌then◌else◌, List, [], ◌∷◌, ◌++◌, Option, Some, None}
-use Rattle.acn_world.specs.Lookup.{EntryAt}
+use Rattle.acn_index.specs.Lookup.{EntryAt}
 
 -- The number of the ACN module, that of the entry in it, and then the way inside the entry: at each level 0 and the number of an
 -- argument, 1 and that of an attribute, or 2 and that of a field between the braces, as they follow each other in the text.

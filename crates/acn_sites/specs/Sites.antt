@@ -10,11 +10,11 @@ use Rattle.acn_acn_syntax.specs.Mirror as acn
 use Rattle.acn_acn_syntax.specs.declared.modules.AcnPath.{AcnPath}
 use Rattle.acn_acn_syntax.specs.declared.modules.FieldKind.{FieldKind}
 use Rattle.acn_acn_syntax.specs.declared.modules.Param.{Param}
-use Rattle.acn_world.specs.World.{World}
-use Rattle.acn_world.specs.Lookup.{EntryAt}
-use Rattle.acn_world.specs.Chains.{ChainOf, base_part, written, assigned_link, chain_of, gives_parameters}
+use Rattle.acn_index.specs.World.{World}
+use Rattle.acn_index.specs.Lookup.{EntryAt}
+use Rattle.acn_index.specs.Chains.{ChainOf, base_part, written, assigned_link, chain_of, gives_parameters}
 use Rattle.acn_world.specs.Faults.{module_name_at, name_at}
-use Rattle.acn_world.specs.declared.sources.TypeId.{TypeId}
+use Rattle.acn_index.specs.declared.sources.TypeId.{TypeId}
 use Rattle.acn_slots.specs.declared.slots.Slot.{Slot}
 use Rattle.acn_slots.specs.declared.slots.Lead.{Lead}
 use Rattle.acn_slots.specs.declared.slots.Lead.TheVariants as lead

@@ -1,8 +1,8 @@
 ghost use Rattle.std.specs.Prelude.{◌≡◌, ◌∷◌, [], ◌++◌, map, filter_map, option_map, option_to_list, IfOk, OnOk, Some};
 ghost use Rattle.std.specs.List.{list_any, zip};
 ghost use Rattle.acn_world.specs.Chained.{chain_view, entry_view};
-ghost use Rattle.acn_world.specs.Chains as chains;
-ghost use Rattle.acn_world.specs.World as world_of;
+ghost use Rattle.acn_index.specs.Chains as chains;
+ghost use Rattle.acn_index.specs.World as world_of;
 ghost use Rattle.acn_world.specs.Viewed.{world_view};
 ghost use Rattle.acn_slots.specs.Slots as slots;
 ghost use Rattle.acn_sites.specs.Sites as spec;

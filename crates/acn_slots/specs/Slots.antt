@@ -13,14 +13,14 @@ use Rattle.acn_acn_syntax.specs.declared.modules.AcnPath.{AcnPath}
 use Rattle.acn_acn_syntax.specs.declared.modules.Attr.{Attr}
 use Rattle.acn_acn_syntax.specs.declared.modules.FieldKind.{FieldKind}
 use Rattle.acn_acn_syntax.specs.declared.modules.FieldKind.TheVariants as kind
-use Rattle.acn_world.specs.World.{World}
+use Rattle.acn_index.specs.World.{World}
 use Rattle.acn_slots.specs.declared.slots.Sort.{Sort}
 use Rattle.acn_slots.specs.declared.slots.Sort.TheVariants as sort
 use Rattle.acn_slots.specs.declared.slots.Slot.{Slot}
 use Rattle.acn_slots.specs.declared.slots.Lead.{Lead}
 use Rattle.acn_slots.specs.declared.slots.Lead.TheVariants as lead
-use Rattle.acn_world.specs.Lookup.{EntryAt, type_named}
-use Rattle.acn_world.specs.Chains.{ChainOf, base_part, written, assigned_link, chain_of}
+use Rattle.acn_index.specs.Lookup.{EntryAt, type_named}
+use Rattle.acn_index.specs.Chains.{ChainOf, base_part, written, assigned_link, chain_of}
 
 abbrev pub default_of : {A : Type 0} → Option A → A → A
 default_of None d = d

@@ -3,7 +3,7 @@ ghost use Rattle.acn_asn_syntax.specs.Mirror as plain_data;
 ghost use Rattle.acn_asn_syntax.specs.View.{base_view, component_view};
 ghost use Rattle.acn_acn_syntax.specs.Mirror as acn;
 ghost use Rattle.acn_world.specs.Chained.{chain_view, entry_view, entries_view};
-ghost use Rattle.acn_world.specs.Chains as chains;
+ghost use Rattle.acn_index.specs.Chains as chains;
 ghost use Rattle.acn_world.specs.Viewed.{world_view};
 ghost use Rattle.acn_slots.specs.Slots as spec;
 ghost use Rattle.acn_slots.specs.View.{braces_view, use_view, numbered_view, frame_view, step_view, origin_view};

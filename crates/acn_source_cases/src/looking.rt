@@ -2,7 +2,7 @@
 
 ghost use Rattle.std.specs.List.{All};
 ghost use Rattle.acn_world.specs.Viewed.{world_view};
-ghost use Rattle.acn_world.specs.World.{IsType};
+ghost use Rattle.acn_index.specs.World.{IsType};
 
 use crate::names::push_full_name;
 use crate::trouble::Trouble;

@@ -1,7 +1,7 @@
 //! The sites of a type in words.
 
 ghost use Rattle.acn_world.specs.Viewed.{world_view};
-ghost use Rattle.acn_world.specs.World.{IsType};
+ghost use Rattle.acn_index.specs.World.{IsType};
 
 use crate::measure::fault_in_words;
 use crate::trouble::Trouble;

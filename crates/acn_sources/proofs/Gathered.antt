@@ -8,7 +8,7 @@ use Rattle.std.proofs.lemmas.Option.{slice_get_within}
 use Rattle.acn_asn_syntax.specs.declared.modules.AsnModules.{AsnModules}
 use Rattle.acn_acn_syntax.specs.declared.modules.AcnModules.{AcnModules}
 use Rattle.acn_acn_syntax.specs.declared.maps.MapTables.{MapTables}
-use Rattle.acn_world.specs.declared.sources.Sources.{Sources}
+use Rattle.acn_index.specs.declared.sources.Sources.{Sources}
 use Rattle.acn_sources.specs.Kinds.{IsAsn, IsAsnFault, IsAcn, IsAcnFault, IsMap, IsMapFault}
 use Rattle.acn_sources.specs.Files.{asn_of, acn_of, map_of, asn_bytes, acn_bytes, map_bytes, AreTrees, IsOnlyTree, AreSources, HasTree, HasFault, IsAdded, IsFirstFault, AnswersSources, AnswersFirst}
 use Rattle.acn_sources.specs.Reading.{AnswersFault}

@@ -2,7 +2,7 @@
 use Rattle.std.specs.Prelude.{◌≡◌, ℕ, ◌≤◌, ◌<◌, List, [], ◌∷◌, ◌++◌, length, Some, slice_get, Result, Ok, Err, ◌⊎◌, ◌≢◌}
 use Rattle.std.specs.List.{flat_map}
 use Rattle.acn_num.specs.declared.limits.TheConstants.{MOST_FILE_BYTES}
-use Rattle.acn_world.specs.declared.sources.Sources.{Sources}
+use Rattle.acn_index.specs.declared.sources.Sources.{Sources}
 use Rattle.acn_sources.specs.Kinds.{IsAsn, IsAsnFault, IsAcn, IsAcnFault, IsMap, IsMapFault}
 use Rattle.acn_sources.specs.declared.fault.FileFault.{FileFault}
 use Rattle.acn_sources.specs.declared.fault.FileFault.TheVariants.{NoMemory}

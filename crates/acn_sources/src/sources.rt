@@ -2,7 +2,7 @@
 
 ghost use Rattle.std.specs.Prelude.{◌≡◌, ◌≢◌, ◌≤◌, length, IfOk, IfErr};
 ghost use Rattle.acn_num.specs.declared.limits.TheConstants.{MOST_FILE_BYTES};
-ghost use Rattle.acn_world.specs.declared.sources.Sources.{Sources};
+ghost use Rattle.acn_index.specs.declared.sources.Sources.{Sources};
 ghost use Rattle.acn_sources.specs.Files as spec;
 ghost use Rattle.acn_sources.specs.Files.{AreShort, AreSources, HasTree, HasFault, IsFirstFault};
 ghost use Rattle.acn_sources.specs.Reading.{AnswersFault};

@@ -6,11 +6,11 @@ use Rattle.std.proofs.lemmas.List.{append-nil, reverse-append}
 use Rattle.std.proofs.lemmas.List.Elements.{filter_map-append}
 use Rattle.std.proofs.lemmas.Grind.{flat_map-append}
 use Rattle.acn_asn_syntax.specs.Mirror.{AsnType, Constraint}
-use Rattle.acn_world.specs.World.{World, count, type_at}
-use Rattle.acn_world.specs.Lookup.{EntryAt, placed_entry}
-use Rattle.acn_world.specs.Chains.{Link, ChainOf, written, assigned_link, next_link, more_links, links_within, links, last_link, link_constraints, link_entry, chain_of_links, chain_of}
+use Rattle.acn_index.specs.World.{World, count, type_at}
+use Rattle.acn_index.specs.Lookup.{EntryAt, placed_entry}
+use Rattle.acn_index.specs.Chains.{Link, ChainOf, written, assigned_link, next_link, more_links, links_within, links, last_link, link_constraints, link_entry, chain_of_links, chain_of}
 use Rattle.acn_world.specs.Laws.{with_entry}
-use Rattle.acn_world.specs.declared.sources.TypeId.{TypeId}
+use Rattle.acn_index.specs.declared.sources.TypeId.{TypeId}
 
 module _ (w : World) (k : ℕ) (t : AsnType) (p : TypeId) where
   abbrev front : Link

@@ -7,15 +7,15 @@ use Rattle.acn_num.specs.Names.{Name}
 use Rattle.acn_asn_syntax.specs.Mirror.{AsnModule, Assign}
 use Rattle.acn_acn_syntax.specs.Mirror.{Entry, Module}
 use Rattle.acn_acn_syntax.specs.View.{entry_of}
-use Rattle.acn_world.specs.World.{World, name_of}
-use Rattle.acn_world.specs.Lookup as spec
-use Rattle.acn_world.specs.Lookup.{entry_named, entry_of_assign, entry_at, placed, place_in, place_of_assign, entry_place, entry_in_place, entry_with, placed_entry}
+use Rattle.acn_index.specs.World.{World, name_of}
+use Rattle.acn_index.specs.Lookup as spec
+use Rattle.acn_index.specs.Lookup.{entry_named, entry_of_assign, entry_at, placed, place_in, place_of_assign, entry_place, entry_in_place, entry_with, placed_entry}
 use Rattle.acn_world.specs.Chained.{entry_view}
-use Rattle.acn_world.specs.declared.sources.TypeId.{TypeId}
-use Rattle.acn_world.specs.declared.entries.EntryPlace.{EntryPlace}
+use Rattle.acn_index.specs.declared.sources.TypeId.{TypeId}
+use Rattle.acn_index.specs.declared.sources.EntryPlace.{EntryPlace}
 use Rattle.acn_world.specs.declared.entries.EntryAt.{EntryAt}
-use Rattle.acn_world.proofs.KeyedLaws.{found_at}
-use Rattle.acn_world.proofs.Mapped.{option_regrouped}
+use Rattle.acn_index.proofs.KeyedLaws.{found_at}
+use Rattle.acn_index.proofs.Mapped.{option_regrouped}
 
 alike : {A B : Type 0} (f g : A → Option B) → ((x : A) → f x ≡ g x) → (o : Option A) → option_and_then f o ≡ option_and_then g o
 alike f g h None = refl

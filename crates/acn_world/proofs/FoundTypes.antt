@@ -7,10 +7,10 @@ use Rattle.std.specs.List.{position_from, list_any, All, AllByRecursion}
 use Rattle.std.proofs.lemmas.List.Elements.{All-from_recursion}
 use Rattle.acn_asn_syntax.specs.Mirror.{AsnModule, AsnType, Assign, TypeIs, ValueIs}
 use Rattle.acn_num.specs.Names.{Name}
-use Rattle.acn_world.specs.World.{World, IsType, place, places, is_same, type_part, assignment, type_at}
-use Rattle.acn_world.specs.Lookup.{is_type, own, found, found_within, imported_from, module_named, type_in, type_named}
+use Rattle.acn_index.specs.World.{World, IsType, place, places, is_same, type_part, assignment, type_at}
+use Rattle.acn_index.specs.Lookup.{is_type, own, found, found_within, imported_from, module_named, type_in, type_named}
 use Rattle.acn_world.specs.Faults.{is_root, is_without_parameters, referred, roots}
-use Rattle.acn_world.specs.declared.sources.TypeId.{TypeId}
+use Rattle.acn_index.specs.declared.sources.TypeId.{TypeId}
 
 -- ---- a type stands so far behind the place where a search began
 

@@ -1,8 +1,8 @@
 -- What is in a set of places, and in the places that are still to come.
 use Rattle.std.proofs.Common.{◌≡◌, Bool, true, false, cond, ◌&&◌, ◌||◌, nat_eq, refl, ◌∙◌, ap}
 use Rattle.std.specs.Cmp.{nat_eq_equiv}
-use Rattle.acn_world.specs.World.{is_same}
-use Rattle.acn_world.specs.declared.sources.TypeId.{TypeId}
+use Rattle.acn_index.specs.World.{is_same}
+use Rattle.acn_index.specs.declared.sources.TypeId.{TypeId}
 
 moved : (a b c rest : Bool) → a ≡ b → (cond a true c || rest) ≡ (c || (b || rest))
 moved true true true rest e = refl

@@ -2,9 +2,9 @@
 use Rattle.std.proofs.Common.{◌≡◌, ℕ, zero, suc, ◌<◌, ◌≤◌, Bool, true, false, ◌||◌, List, [], ◌∷◌, Option, Some, None, refl, ap, ◌∙◌, arith}
 use Rattle.std.specs.Prelude.{filter_map, option_to_list}
 use Rattle.std.specs.List.{list_any, cons_option}
-use Rattle.acn_world.specs.Lookup.{EntryAt}
-use Rattle.acn_world.specs.World.{World}
-use Rattle.acn_world.specs.Chains.{Link, next_link, more_links, links_within, link_entry, gives_parameters}
+use Rattle.acn_index.specs.Lookup.{EntryAt}
+use Rattle.acn_index.specs.World.{World}
+use Rattle.acn_index.specs.Chains.{Link, next_link, more_links, links_within, link_entry, gives_parameters}
 
 either : (b c : Bool) → (b || c) ≡ ((b || false) || c)
 either true c = refl

@@ -3,9 +3,9 @@ use Rattle.std.proofs.Common.{◌≡◌, ℕ, List, [], ◌∷◌, refl, ◌∙�
 use Rattle.std.specs.Prelude.{map, reverse, flat_map, filter_map}
 use mathlib.Core.List.{reverse_aux}
 use Rattle.acn_asn_syntax.specs.Mirror.{Constraint}
-use Rattle.acn_world.specs.Lookup.{EntryAt}
-use Rattle.acn_world.specs.World.{World}
-use Rattle.acn_world.specs.Chains.{Link, ChainOf, links, last_link, link_constraints, link_entry, chain_of}
+use Rattle.acn_index.specs.Lookup.{EntryAt}
+use Rattle.acn_index.specs.World.{World}
+use Rattle.acn_index.specs.Chains.{Link, ChainOf, links, last_link, link_constraints, link_entry, chain_of}
 
 map_onto : {A B : Type 0} (f : A → B) (xs done : List A) → map f (reverse_aux xs done) ≡ reverse_aux (map f xs) (map f done)
 map_onto f [] done = refl

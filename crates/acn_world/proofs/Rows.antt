@@ -15,16 +15,17 @@ use Rattle.acn_acn_syntax.specs.declared.modules.ParamKind.TheVariants as param_
 use Rattle.acn_acn_syntax.specs.declared.modules.Param.{Param}
 use Rattle.acn_acn_syntax.specs.declared.maps.MapTable.{MapTable}
 use Rattle.acn_acn_syntax.specs.Mirror.{Entry, Module, Braces, no_braces, braces, no_fields, and_field, plain, inserted}
-use Rattle.acn_world.specs.World.{World, place, assignment, type_at, places, count}
-use Rattle.acn_world.specs.Lookup.{module_named, own, imported_from, found_within, found, type_named, value_named, type_in, entry_at, entry_place, placed_entry, table_named}
-use Rattle.acn_world.specs.Values.{first_worth, value_within, value_of, leads_to_number}
-use Rattle.acn_world.specs.Chains.{written, next_link, links_within, links, base_link, base_of, chain_of, has_parameters}
+use Rattle.acn_index.specs.World.{World, place, assignment, type_at, places, count}
+use Rattle.acn_index.specs.Lookup.{module_named, own, imported_from, found_within, found, type_named, value_named, type_in, entry_at, entry_place, placed_entry, table_named}
+use Rattle.acn_index.specs.Values.{first_worth, value_within, value_of, leads_to_number}
+use Rattle.acn_index.specs.Chains.{written, next_link, links_within, links, base_link, base_of, chain_of, has_parameters}
 use Rattle.acn_mentions.specs.Mentions.{in_set, in_meets, in_meet, in_parts, in_part, in_element, mentions, base_mentions, component_mentions, alternative_mentions, all_constraint_mentions, constraint_mentions, assign_mentions, field_mentions, braces_mentions, fields_mentions, entry_mentions}
 use Rattle.acn_world.specs.Repeated.{repeated, twice, twice_base, twice_components, twice_alternatives, twice_constraints, twice_constraint, twice_items, twice_module, asn_repeats, twice_field, twice_braces, twice_fields, twice_entry, twice_entries, acn_repeats, repeats}
 use Rattle.acn_world.specs.Unknown.{missing_modules, names_of, is_known, unknown_in, acn_type_named, is_acn_known, acn_unknown_in, unknowns}
-use Rattle.acn_world.specs.Cycles.{Within, here, Reaches, once, more, IsFirstCycle, targets_of, targets, is_as_number, is_acn_wrong, wrong_kinds}
+use Rattle.acn_graph.specs.Graph.{Among, here}
+use Rattle.acn_world.specs.Cycles.{Reaches, once, more, IsFirstCycle, targets_of, targets, is_as_number, is_acn_wrong, wrong_kinds}
 use Rattle.acn_world.specs.Faults.{first, early_fault, refers_to, referred, is_root, roots}
-use Rattle.acn_world.specs.declared.sources.TypeId.{TypeId}
+use Rattle.acn_index.specs.declared.sources.TypeId.{TypeId}
 use Rattle.acn_world.specs.declared.fault.NameFault.TheVariants as fault
 
 -- ---- how the rows are written
@@ -108,7 +109,7 @@ abbrev kinds : List ℕ → World
 kinds kind = with_acn (TypeIs (codes "S") (type_of None (sequence no_components) no_constraints) ∷ TypeIs (codes "A") (type_of None (sequence no_components) no_constraints) ∷ TypeIs (codes "Z") (type_of None null no_constraints) ∷ [])
     (says (codes "M") (entry (codes "A") [] (braces (and_field (inserted (codes "x") (field_kind.Ref kind) []) no_fields)) ∷ []) ∷ []) []
 
-none_in_nothing : {q : TypeId} → Within q [] → ⊥
+none_in_nothing : {q : TypeId} → Among q [] → ⊥
 none_in_nothing inside = elim inside [ ]
 
 -- ---- the rows

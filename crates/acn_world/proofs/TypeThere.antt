@@ -6,9 +6,9 @@ use Rattle.acn_asn_syntax.specs.Mirror as plain
 use Rattle.acn_asn_syntax.specs.View.{module_view, assign_view}
 use Rattle.acn_asn_syntax.specs.declared.modules.AsnModule.{AsnModule}
 use Rattle.acn_asn_syntax.specs.declared.modules.Assign.{Assign}
-use Rattle.acn_world.specs.World.{World, name_of, assignment, type_at}
+use Rattle.acn_index.specs.World.{World, name_of, assignment, type_at}
 use Rattle.acn_world.specs.Faults.{name_at}
-use Rattle.acn_world.specs.declared.sources.TypeId.{TypeId}
+use Rattle.acn_index.specs.declared.sources.TypeId.{TypeId}
 
 module _ (w : World) (p : TypeId) where
   pub module_there : (r : Option (Bor AsnModule)) → option_map (λ (m : Bor AsnModule). module_view m.now) r ≡ slice_get w.modules p.module → IsSome (type_at w p) → IsSome r

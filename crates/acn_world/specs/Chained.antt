@@ -5,8 +5,8 @@ use Rattle.acn_asn_syntax.specs.Mirror as plain
 use Rattle.acn_asn_syntax.specs.View.{type_view, constraint_view}
 use Rattle.acn_asn_syntax.specs.declared.types.Constraint.{Constraint}
 use Rattle.acn_acn_syntax.specs.View.{entry_of}
-use Rattle.acn_world.specs.Lookup as lookup
-use Rattle.acn_world.specs.Chains.{ChainOf}
+use Rattle.acn_index.specs.Lookup as lookup
+use Rattle.acn_index.specs.Chains.{ChainOf}
 use Rattle.acn_world.specs.declared.entries.EntryAt.{EntryAt}
 use Rattle.acn_world.specs.declared.chains.Chain.{Chain}
 

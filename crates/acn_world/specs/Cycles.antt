@@ -4,16 +4,17 @@ use Rattle.std.specs.List.{enumerate_from}
 use Rattle.acn_asn_syntax.specs.Mirror.{AsnModule, AsnType, AsnBase, boolean, null, integer, enumerated, Assign, TypeIs, ValueIs}
 use Rattle.acn_acn_syntax.specs.Mirror.{Entry, Module}
 use Rattle.acn_num.specs.Names.{Name}
-use Rattle.acn_world.specs.World.{World, assignment, places}
-use Rattle.acn_world.specs.Lookup.{type_named, value_named}
-use Rattle.acn_world.specs.Values.{leads_to_number}
-use Rattle.acn_world.specs.Chains.{Link, written, assigned_link, base_of}
+use Rattle.acn_graph.specs.Graph.{Among}
+use Rattle.acn_index.specs.World.{World, assignment, places}
+use Rattle.acn_index.specs.Lookup.{type_named, value_named}
+use Rattle.acn_index.specs.Values.{leads_to_number}
+use Rattle.acn_index.specs.Chains.{Link, written, assigned_link, base_of}
 use Rattle.acn_mentions.specs.Mentions.{Mention, to_type, in_constraint, in_assignment, AcnMention, of_parameter, of_field, to_table, mentions, value_mentions, assign_mentions, entry_mentions}
 use Rattle.acn_world.specs.Repeated.{is_among, when}
 use Rattle.acn_world.specs.Unknown.{governor_names, acn_type_named, mention_name, acn_mention_name}
 use Rattle.acn_mentions.specs.declared.mention.Role.{Role}
 use Rattle.acn_mentions.specs.declared.mention.Role.TheVariants as role
-use Rattle.acn_world.specs.declared.sources.TypeId.{TypeId}
+use Rattle.acn_index.specs.declared.sources.TypeId.{TypeId}
 use Rattle.acn_world.specs.declared.fault.NameFault.{NameFault}
 use Rattle.acn_world.specs.declared.fault.NameFault.TheVariants as fault
 
@@ -44,14 +45,10 @@ targets_at w k (Some a) = targets_of w k a
 unfoldable pub targets : World → TypeId → List TypeId
 targets w p = targets_at w p.module (assignment w p)
 
-pub data Within {A : Type 0} : A → List A → Type 0 where
-  here : {x : A} {xs : List A} → Within x (x ∷ xs)
-  there : {x y : A} {xs : List A} → Within x xs → Within x (y ∷ xs)
-
 -- from one assignment to another by one reference or more, with those that are passed, the first one included
 pub data Reaches (w : World) : TypeId → TypeId → List TypeId → Type 0 where
-  once : {p q : TypeId} → Within q (targets w p) → Reaches w p q (p ∷ [])
-  more : {p q r : TypeId} {way : List TypeId} → Within q (targets w p) → Reaches w q r way → Reaches w p r (p ∷ way)
+  once : {p q : TypeId} → Among q (targets w p) → Reaches w p q (p ∷ [])
+  more : {p q r : TypeId} {way : List TypeId} → Among q (targets w p) → Reaches w q r way → Reaches w p r (p ∷ way)
 
 -- the first that reaches itself, with a way
 pub record IsFirstCycle (w : World) (p : TypeId) (way : List TypeId) : Type 0 where
@@ -59,7 +56,7 @@ pub record IsFirstCycle (w : World) (p : TypeId) (way : List TypeId) : Type 0 wh
   pub earlier : List TypeId
   pub later : List TypeId
   pub split : places w ≡ (earlier ++ p ∷ later)
-  pub none_before : (q : TypeId) (round : List TypeId) → Within q earlier → Reaches w q q round → ⊥
+  pub none_before : (q : TypeId) (round : List TypeId) → Among q earlier → Reaches w q q round → ⊥
 
 pub record HasNoCycle (w : World) : Type 0 where
   pub none : (q : TypeId) (round : List TypeId) → Reaches w q q round → ⊥

@@ -4,14 +4,14 @@ use Rattle.std.specs.List.{list_any}
 use Rattle.acn_asn_syntax.specs.Mirror.{AsnModule, AsnType}
 use Rattle.acn_acn_syntax.specs.Mirror.{Entry}
 use Rattle.acn_num.specs.Names.{Name}
-use Rattle.acn_world.specs.World.{World, name_of, assignment, places, is_same, type_at}
-use Rattle.acn_world.specs.Lookup.{type_named, entry_at}
-use Rattle.acn_world.specs.Chains.{Link, assigned_link, has_parameters}
+use Rattle.acn_index.specs.World.{World, name_of, assignment, places, is_same, type_at}
+use Rattle.acn_index.specs.Lookup.{type_named, entry_at}
+use Rattle.acn_index.specs.Chains.{Link, assigned_link, has_parameters}
 use Rattle.acn_mentions.specs.Mentions.{AcnMention, of_parameter, of_field, to_table, entry_mentions, mentions}
 use Rattle.acn_world.specs.Repeated.{repeats}
 use Rattle.acn_world.specs.Unknown.{missing_modules, unknowns}
 use Rattle.acn_world.specs.Cycles.{HasNoCycle, IsFirstCycle, wrong_kinds, type_targets}
-use Rattle.acn_world.specs.declared.sources.TypeId.{TypeId}
+use Rattle.acn_index.specs.declared.sources.TypeId.{TypeId}
 use Rattle.acn_world.specs.declared.fault.NameFault.{NameFault}
 use Rattle.acn_world.specs.declared.fault.NameFault.TheVariants as fault
 

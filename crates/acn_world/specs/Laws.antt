@@ -1,12 +1,13 @@
 -- Laws about the faults of names, the places of entries and the chains of assigned types.
-use Rattle.acn_world.specs.World.{World}
-use Rattle.acn_world.specs.Cycles.{Within, targets, HasNoCycle}
+use Rattle.acn_index.specs.World.{World}
+use Rattle.acn_graph.specs.Graph.{Among}
+use Rattle.acn_world.specs.Cycles.{targets, HasNoCycle}
 use Rattle.acn_world.specs.Faults.{IsFault, IsSound}
-use Rattle.acn_world.specs.declared.sources.TypeId.{TypeId}
+use Rattle.acn_index.specs.declared.sources.TypeId.{TypeId}
 use Rattle.acn_world.specs.declared.fault.NameFault.{NameFault}
 use Rattle.std.specs.Prelude.{◌≡◌, ℕ, ◌<◌, ◌++◌, Option, Some, option_and_then, option_to_list}
-use Rattle.acn_world.specs.Lookup.{EntryAt, entry_at, entry_place, entry_in_place, placed_entry}
-use Rattle.acn_world.specs.Chains.{Link, ChainOf, written, assigned_link, chain_of}
+use Rattle.acn_index.specs.Lookup.{EntryAt, entry_at, entry_place, entry_in_place, placed_entry}
+use Rattle.acn_index.specs.Chains.{Link, ChainOf, written, assigned_link, chain_of}
 
 -- a world with a fault isn't sound
 abbrev pub NoFaultInASoundWorld : Type 0
@@ -14,7 +15,7 @@ NoFaultInASoundWorld = (w : World) (f : NameFault) → IsFault w f → IsSound w
 
 -- where each assignment can be given a rank above those to which it refers, none reaches itself
 abbrev pub NoCycleAmongRanks : Type 0
-NoCycleAmongRanks = (w : World) (rank : TypeId → ℕ) → ((p q : TypeId) → Within q (targets w p) → rank q < rank p) → HasNoCycle w
+NoCycleAmongRanks = (w : World) (rank : TypeId → ℕ) → ((p q : TypeId) → Among q (targets w p) → rank q < rank p) → HasNoCycle w
 
 -- at the place of an assignment's entry stands that entry
 abbrev pub EntriesStandAtTheirPlaces : Type 0

@@ -13,8 +13,8 @@ use Rattle.acn_acn_syntax.specs.Mirror.{Field, plain, inserted, number, Braces, 
 use Rattle.acn_acn_syntax.specs.declared.modules.Param.{Param}
 use Rattle.acn_acn_syntax.specs.declared.maps.MapTable.{MapTable}
 use Rattle.acn_num.specs.Names.{Name}
-use Rattle.acn_world.specs.World.{World, name_of, type_of_assign}
-use Rattle.acn_world.specs.Lookup.{imports_of}
+use Rattle.acn_index.specs.World.{World, name_of, type_of_assign}
+use Rattle.acn_index.specs.Lookup.{imports_of}
 use Rattle.acn_world.specs.declared.fault.NameFault.{NameFault}
 use Rattle.acn_world.specs.declared.fault.NameFault.TheVariants as fault
 

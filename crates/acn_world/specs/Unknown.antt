@@ -6,12 +6,12 @@ use Rattle.acn_asn_syntax.specs.declared.types.Item.{Item}
 use Rattle.acn_asn_syntax.specs.declared.modules.Import.{Import}
 use Rattle.acn_acn_syntax.specs.Mirror.{Entry, Module}
 use Rattle.acn_num.specs.Names.{Name}
-use Rattle.acn_world.specs.World.{World}
-use Rattle.acn_world.specs.Lookup.{module_named, imports_of, found, is_named, type_named, type_in, value_named, table_named}
-use Rattle.acn_world.specs.Chains.{written, base_of}
+use Rattle.acn_index.specs.World.{World}
+use Rattle.acn_index.specs.Lookup.{module_named, imports_of, found, is_named, type_named, type_in, value_named, table_named}
+use Rattle.acn_index.specs.Chains.{written, base_of}
 use Rattle.acn_mentions.specs.Mentions.{Mention, to_type, in_constraint, in_default, in_assignment, AcnMention, of_parameter, of_field, to_table, assign_mentions, entry_mentions}
 use Rattle.acn_world.specs.Repeated.{is_among, named_names, when}
-use Rattle.acn_world.specs.declared.sources.TypeId.{TypeId}
+use Rattle.acn_index.specs.declared.sources.TypeId.{TypeId}
 use Rattle.acn_world.specs.declared.fault.NameFault.{NameFault}
 use Rattle.acn_world.specs.declared.fault.NameFault.TheVariants as fault
 

@@ -4,9 +4,9 @@ use Rattle.std.specs.Borrow.{Bor}
 use Rattle.acn_asn_syntax.specs.View.{type_view}
 use Rattle.acn_asn_syntax.specs.declared.types.AsnType.{AsnType}
 use Rattle.acn_asn_syntax.specs.declared.values.AsnValue.{AsnValue}
-use Rattle.acn_world.specs.World as plain
-use Rattle.acn_world.specs.Views.{index_view}
-use Rattle.acn_world.specs.Values.{Worth}
+use Rattle.acn_index.specs.World as plain
+use Rattle.acn_index.specs.Views.{index_view}
+use Rattle.acn_index.specs.Values.{Worth}
 use Rattle.acn_world.specs.declared.world.World.{World}
 
 abbrev pub world_view : World → plain.World

@@ -1,14 +1,14 @@
 ghost use Rattle.std.specs.Prelude.{◌≡◌, ◌++◌, map, flat_map, filter_map, reverse, option_map, option_to_list, OnOk, IfOk};
 ghost use Rattle.acn_asn_syntax.specs.View.{constraint_view};
-ghost use Rattle.acn_world.specs.Views.{index_view};
-ghost use Rattle.acn_world.specs.Linked.{link_view};
+ghost use Rattle.acn_index.specs.Views.{index_view};
+ghost use Rattle.acn_index.specs.Linked.{link_view};
 ghost use Rattle.acn_world.specs.Chained.{chain_view, constraints_view, entries_view, entry_view};
-ghost use Rattle.acn_world.specs.Chains as spec;
+ghost use Rattle.acn_index.specs.Chains as spec;
 
-use crate::chain::{Link, last_link, links};
 use crate::entries::{EntryAt, placed_entry};
-use crate::index::Index;
 use acn_asn_syntax::{AsnType, Constraint};
+use acn_index::chain::{Link, last_link, links};
+use acn_index::index::Index;
 use acn_num::{NoMemory, Row};
 use std::alloc::Global;
 
@@ -99,7 +99,7 @@ fn entries_along<'w>(
 }
 
 /// What stands along the chain that begins with a link.
-#[tactic(auto, unfolding(crate::specs::Chains::chain_of))]
+#[tactic(auto, unfolding(acn_index::specs::Chains::chain_of))]
 pub fn chain_of<'w>(alloc: Global, index: &'w Index, first: Link<'w>) -> Result<Chain<'w>, NoMemory>
     ensures { IfOk result (λ chain. chain_view chain ≡ spec.chain_of (index_view index.now) (link_view first.entry)) }
 {

@@ -3,26 +3,17 @@ ghost use Rattle.std.specs.List.{position_from};
 ghost use Rattle.std.specs.Str.{bytes_eq};
 ghost use Rattle.acn_asn_syntax.specs.View.{assign_view};
 ghost use Rattle.acn_acn_syntax.specs.View.{module_of, entry_of};
-ghost use Rattle.acn_world.specs.Views.{index_view};
+ghost use Rattle.acn_index.specs.Views.{index_view};
 ghost use Rattle.acn_world.specs.Chained.{entry_view};
-ghost use Rattle.acn_world.specs.Lookup as spec;
+ghost use Rattle.acn_index.specs.Lookup as spec;
 
-use crate::TypeId;
-use crate::index::Index;
-use crate::lookup::{item_at, module_at};
-use crate::references::name_of;
 use acn_acn_syntax::{AcnEntry, AcnModule};
 use acn_asn_syntax::Assign;
 use acn_firsts::Firsts;
-
-/// Where an ACN entry stands in the text. Both numbers count from 0, and what stands earlier has the lower ones.
-#[derive(Clone, Copy)]
-pub struct EntryPlace {
-    /// The number of its module among the ACN modules of all files.
-    pub acn: usize,
-    /// Its number among the entries of that module.
-    pub entry: usize,
-}
+use acn_index::index::Index;
+use acn_index::lookup::{item_at, module_at};
+use acn_index::references::name_of;
+use acn_index::{EntryPlace, TypeId};
 
 /// An ACN entry with its place in the text. What stands earlier in the text has the lower `(acn, entry)`.
 #[derive(Clone, Copy)]
@@ -90,7 +81,7 @@ fn place_of_assign(index: &Index, owner: &[u8], item: &Assign) -> Option<EntryPl
 }
 
 // Where the ACN module of an assignment's module says something of it.
-#[tactic(auto, unfolding(crate::specs::Lookup::entry_place))]
+#[tactic(auto, unfolding(acn_index::specs::Lookup::entry_place))]
 fn entry_place(index: &Index, place: TypeId) -> Option<EntryPlace>
     ensures { result ≡ spec.entry_place (index_view index.now) place }
 {
@@ -116,7 +107,7 @@ pub fn entry_at(index: &Index, place: TypeId) -> Option<&AcnEntry>
 }
 
 /// The same with its place.
-#[tactic(auto, unfolding(crate::specs::Lookup::placed_entry))]
+#[tactic(auto, unfolding(acn_index::specs::Lookup::placed_entry))]
 pub fn placed_entry(index: &Index, place: TypeId) -> Option<EntryAt<'_>>
     ensures { option_map entry_view result ≡ spec.placed_entry (index_view index.now) place }
 {

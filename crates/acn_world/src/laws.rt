@@ -1,7 +1,4 @@
-ghost use Rattle.acn_world.specs.Leading.{LookupsFindWhatNamesLeadTo, LinksAreTheWholeChain};
 ghost use Rattle.acn_world.specs.Laws.{NoFaultInASoundWorld, NoCycleAmongRanks, EntriesStandAtTheirPlaces, AssignedChainsHaveTheirOwnEntry};
-
-use acn_ends::endless_ways_have_no_end;
 
 /// A world with a fault isn't sound, so the answers of `resolve` exclude each other.
 pub fn no_fault_in_a_sound_world()
@@ -23,15 +20,3 @@ pub fn entries_stand_at_their_places()
 pub fn assigned_chains_have_their_own_entry()
     ensures { AssignedChainsHaveTheirOwnEntry }
 {}
-
-/// A look-up finds exactly what a name leads to, by however many imports.
-pub fn lookups_find_what_names_lead_to()
-    ensures { LookupsFindWhatNamesLeadTo }
-{}
-
-/// The links of a chain that ends are all of it.
-pub fn links_are_the_whole_chain()
-    ensures { LinksAreTheWholeChain }
-{
-    endless_ways_have_no_end();
-}

@@ -1,19 +1,19 @@
 ghost use Rattle.std.specs.Prelude.{◌≡◌, ◌++◌, map, not, filter, flat_map, filter_map, option_to_list, option_map, OnOk, Option};
 ghost use Rattle.acn_asn_syntax.specs.View.{type_view};
 ghost use Rattle.acn_acn_syntax.specs.View.{entry_of};
-ghost use Rattle.acn_world.specs.Views.{index_view};
+ghost use Rattle.acn_index.specs.Views.{index_view};
 ghost use Rattle.acn_mentions.specs.Mentioned.{mention_view, mentions_view};
 ghost use Rattle.acn_mentions.specs.AcnMentioned.{acn_mention_view, acn_mentions_view};
-ghost use Rattle.acn_world.specs.World as world;
-ghost use Rattle.acn_world.specs.Lookup as lookup;
+ghost use Rattle.acn_index.specs.World as world;
+ghost use Rattle.acn_index.specs.Lookup as lookup;
 ghost use Rattle.acn_mentions.specs.Mentions as spec;
 ghost use Rattle.acn_world.specs.Cycles as cycles;
 ghost use Rattle.acn_world.specs.Faults as faults;
 
-use crate::TypeId;
 use crate::entries::entry_at;
-use crate::index::Index;
-use crate::references::{type_at, type_named};
+use acn_index::TypeId;
+use acn_index::index::Index;
+use acn_index::references::{type_at, type_named};
 use acn_mentions::{AcnMention, Mention, push_entry, push_type};
 use acn_num::NoMemory;
 use std::alloc::Global;

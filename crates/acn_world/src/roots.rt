@@ -3,58 +3,23 @@ ghost use Rattle.std.specs.List.{enumerate_from, list_any};
 ghost use Rattle.std.specs.HashSet.{contains};
 ghost use Rattle.acn_asn_syntax.specs.Mirror as plain;
 ghost use Rattle.acn_asn_syntax.specs.View.{module_view, assign_view};
-ghost use Rattle.acn_world.specs.Views.{index_view};
-ghost use Rattle.acn_world.specs.Linked.{link_view};
-ghost use Rattle.acn_world.specs.World as world;
-ghost use Rattle.acn_world.specs.Chains as chains;
+ghost use Rattle.acn_index.specs.Views.{index_view};
+ghost use Rattle.acn_index.specs.Linked.{link_view};
+ghost use Rattle.acn_index.specs.World as world;
+ghost use Rattle.acn_index.specs.Chains as chains;
 ghost use Rattle.acn_world.specs.Faults as spec;
 
-use crate::TypeId;
-use crate::chain::{Link, assigned_link, next_link};
 use crate::chains::link_entry;
-use crate::index::Index;
 use crate::referring::push_referred;
-use crate::values::count;
 use acn_asn_syntax::{AsnModule, Assign};
+use acn_index::TypeId;
+use acn_index::chain::{Link, assigned_link, next_link};
+use acn_index::index::Index;
+use acn_index::places::places;
+use acn_index::values::count;
 use acn_num::NoMemory;
 use std::alloc::Global;
 use std::collections::HashSet;
-
-// Adds the places of a module's assignments.
-fn push_module_places(k: u32, items: &[Assign], all: &mut Vec<TypeId>) -> Result<(), NoMemory>
-    requires { length items.now < 4294967296 }
-    ensures { OnOk result (all.new.items ≡ all.old.items ++ map (λ a. world.place k a.0) (enumerate_from 0 (map assign_view items.now))) }
-{
-    for (i, _item) in items.iter().enumerate() {
-        all.push(TypeId {
-            module: k,
-            item: i as u32,
-        })?;
-    }
-    Ok(())
-}
-
-// Adds the places of the modules' assignments.
-fn push_places(modules: &[AsnModule], all: &mut Vec<TypeId>) -> Result<(), NoMemory>
-    requires modules { length modules.now < 4294967296 }
-    requires items { length (flat_map (λ (m : plain.AsnModule). m.items) (map module_view modules.now)) < 4294967296 }
-    ensures { OnOk result (all.new.items ≡ all.old.items ++ flat_map world.module_places (enumerate_from 0 (map module_view modules.now))) }
-{
-    for (k, owner) in modules.iter().enumerate() {
-        push_module_places(k as u32, owner.items.items(), all)?;
-    }
-    Ok(())
-}
-
-/// The places of all assignments, in the order of the text.
-#[tactic(auto, unfolding(crate::specs::World::places, crate::specs::World::count))]
-pub fn places(alloc: Global, index: &Index) -> Result<Vec<TypeId>, NoMemory>
-    ensures { IfOk result (λ all. all.items ≡ world.places (index_view index.now)) }
-{
-    let mut all = Vec::new(alloc);
-    push_places(index.modules.items(), &mut all)?;
-    Ok(all)
-}
 
 // The places as a set.
 fn set_of(alloc: Global, places: &[TypeId]) -> Result<HashSet<TypeId>, NoMemory>
@@ -78,7 +43,7 @@ fn gives_parameters(index: &Index, link: Link<'_>) -> bool
 }
 
 /// Whether a type has parameters, by an entry along its chain.
-#[tactic(auto, unfolding(crate::specs::Chains::has_parameters, crate::specs::Chains::links))]
+#[tactic(auto, unfolding(acn_index::specs::Chains::has_parameters, acn_index::specs::Chains::links))]
 pub fn has_parameters(index: &Index, first: Link<'_>) -> bool
     ensures { result ≡ chains.has_parameters (index_view index.now) (link_view first.entry) }
 {

@@ -1,17 +1,17 @@
-ghost use Rattle.acn_world.specs.World.{world_from};
+ghost use Rattle.acn_index.specs.World.{world_from};
 ghost use Rattle.acn_world.specs.Faults.{IsSound};
 
-use crate::chain::{assigned_link, written};
 use crate::chains::{Chain, chain_of};
 use crate::entries::{EntryAt, placed_entry};
-use crate::index::Index;
-use crate::lookup::{item_at, module_at};
-use crate::references::{name_of, table_named, type_at, type_in, type_named};
 use crate::roots::roots_of;
-use crate::sources::TypeId;
-use crate::values::value_of;
 use acn_acn_syntax::MapTable;
 use acn_asn_syntax::{AsnType, AsnValue};
+use acn_index::TypeId;
+use acn_index::chain::{assigned_link, written};
+use acn_index::index::Index;
+use acn_index::lookup::{item_at, module_at};
+use acn_index::references::{name_of, table_named, type_at, type_in, type_named};
+use acn_index::values::value_of;
 use acn_num::{Name, NoMemory};
 use std::alloc::Global;
 
@@ -29,12 +29,12 @@ impl World {
     ghost use Rattle.acn_asn_syntax.specs.View.{type_view};
     ghost use Rattle.acn_acn_syntax.specs.View.{entry_of};
     ghost use Rattle.acn_world.specs.Viewed.{world_view, valued_view};
-    ghost use Rattle.acn_world.specs.Views.{index_view};
+    ghost use Rattle.acn_index.specs.Views.{index_view};
     ghost use Rattle.acn_world.specs.Chained.{chain_view, entry_view};
-    ghost use Rattle.acn_world.specs.World as world;
-    ghost use Rattle.acn_world.specs.Lookup as lookup;
-    ghost use Rattle.acn_world.specs.Values as values;
-    ghost use Rattle.acn_world.specs.Chains as chains;
+    ghost use Rattle.acn_index.specs.World as world;
+    ghost use Rattle.acn_index.specs.Lookup as lookup;
+    ghost use Rattle.acn_index.specs.Values as values;
+    ghost use Rattle.acn_index.specs.Chains as chains;
     ghost use Rattle.acn_world.specs.Faults as faults;
 
     /// The world of an index whose names have no fault.

@@ -1,10 +1,10 @@
 use Rattle.std.proofs.Common.{◌≡◌, ◌<◌, ℕ, List, sym, ap, ◌∙◌, subst, arith, refl}
 use Rattle.std.specs.Prelude.{slice_get, Some, length}
 use Rattle.std.proofs.lemmas.Option.{slice_get_read}
-use Rattle.acn_world.specs.Views.{index_view}
-use Rattle.acn_world.specs.World.{places}
+use Rattle.acn_index.specs.Views.{index_view}
+use Rattle.acn_index.specs.World.{places}
 use Rattle.acn_world.specs.Cycles.{IsFirstCycle}
-use Rattle.acn_world.specs.declared.sources.TypeId.{TypeId}
+use Rattle.acn_index.specs.declared.sources.TypeId.{TypeId}
 use Rattle.acn_cycles.specs.Numbers.{places_at}
 use Rattle.acn_cycles.proofs.Transport.{no_cycle, first_cycle, node_stands, cyclic_there}
 use Rattle.acn_cycles.proofs.cycle.first_cycle.Goals as goal

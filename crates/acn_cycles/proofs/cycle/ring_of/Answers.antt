@@ -2,8 +2,8 @@ use Rattle.std.proofs.Common.{ℕ, List, map, sym, ap, ◌∙◌, subst}
 use Rattle.std.specs.Prelude.{IfOk, MatchOption}
 use Rattle.acn_asn_syntax.specs.View.{module_view}
 use Rattle.acn_asn_syntax.specs.declared.modules.AsnModule.{AsnModule}
-use Rattle.acn_world.specs.Views.{index_view}
-use Rattle.acn_world.specs.declared.sources.TypeId.{TypeId}
+use Rattle.acn_index.specs.Views.{index_view}
+use Rattle.acn_index.specs.declared.sources.TypeId.{TypeId}
 use Rattle.acn_graph.specs.Graph.{Graph, HasNoRing, IsFirstRing}
 use Rattle.acn_graph.specs.declared.ring.Ring.{Ring}
 use Rattle.acn_cycles.specs.Numbers.{AreSmall, starts, starts_from, rows_in, graph_of}

@@ -1,5 +1,5 @@
 use Rattle.std.proofs.Common.{◌≡◌, drop, ◌++◌}
-use Rattle.acn_world.specs.Views.{index_view}
+use Rattle.acn_index.specs.Views.{index_view}
 use Rattle.acn_cycles.specs.Numbers.{rows_in}
 use Rattle.acn_cycles.proofs.rows.rows_in.Given as goal
 

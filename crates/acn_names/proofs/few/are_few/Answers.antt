@@ -1,6 +1,6 @@
 use Rattle.std.proofs.Common.{◌≡◌, List, min, ap, ◌∙◌}
 use Rattle.acn_asn_syntax.specs.declared.modules.AsnModules.{AsnModules}
-use Rattle.acn_world.specs.World.{asn_modules, world_of, count}
+use Rattle.acn_index.specs.World.{asn_modules, world_of, count}
 use Rattle.acn_names.specs.Few.{weight}
 use Rattle.acn_names.proofs.Weights.{few_iff}
 use Rattle.acn_names.proofs.few.are_few.Goals as goal

@@ -1,7 +1,7 @@
 use Rattle.std.proofs.Common.{◌≡◌, ℕ, ◌+◌, suc, min, List, drop, map, sym, ap, ◌∙◌, subst, arith}
 use Rattle.acn_asn_syntax.specs.View.{module_view}
 use Rattle.acn_asn_syntax.specs.declared.modules.AsnModule.{AsnModule}
-use Rattle.acn_world.specs.World.{asn_modules}
+use Rattle.acn_index.specs.World.{asn_modules}
 use Rattle.acn_names.specs.Few.{weight}
 use Rattle.acn_names.proofs.Weights.{file_opened, capped_more}
 use Rattle.acn_names.proofs.few.weigh_all.Goals as goal

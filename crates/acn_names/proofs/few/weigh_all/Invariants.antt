@@ -1,5 +1,5 @@
 use Rattle.std.proofs.Common.{◌≡◌, ◌+◌, ◌≤◌, min, drop}
-use Rattle.acn_world.specs.World.{asn_modules}
+use Rattle.acn_index.specs.World.{asn_modules}
 use Rattle.acn_names.specs.Few.{weight}
 use Rattle.acn_names.proofs.few.weigh_all.Given as goal
 

@@ -1,7 +1,7 @@
 use Rattle.std.proofs.Common.{◌≡◌}
 use Rattle.std.specs.Prelude.{map}
 use Rattle.acn_acn_syntax.specs.View.{module_of}
-use Rattle.acn_world.specs.World.{acn_modules}
+use Rattle.acn_index.specs.World.{acn_modules}
 use Rattle.acn_names.proofs.gathering.gather_acn.Given as goal
 
 abbrev pub invariant-loop-file : goal.invariant-loop-file

@@ -1,7 +1,7 @@
 use Rattle.std.proofs.Common.{◌≡◌}
 use Rattle.std.specs.Prelude.{map}
 use Rattle.acn_asn_syntax.specs.View.{module_view}
-use Rattle.acn_world.specs.World.{asn_modules}
+use Rattle.acn_index.specs.World.{asn_modules}
 use Rattle.acn_names.proofs.gathering.gather_asn.Given as goal
 
 abbrev pub invariant-loop-file : goal.invariant-loop-file

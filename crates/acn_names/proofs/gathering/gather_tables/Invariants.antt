@@ -1,5 +1,5 @@
 use Rattle.std.proofs.Common.{◌≡◌}
-use Rattle.acn_world.specs.World.{map_tables}
+use Rattle.acn_index.specs.World.{map_tables}
 use Rattle.acn_names.proofs.gathering.gather_tables.Given as goal
 
 abbrev pub invariant-loop-file : goal.invariant-loop-file

@@ -1,5 +1,5 @@
 use Rattle.std.proofs.Common.{◌≡◌, drop, ◌++◌}
-use Rattle.acn_world.specs.Views.{index_view}
+use Rattle.acn_index.specs.Views.{index_view}
 use Rattle.std.specs.Prelude.{map, flat_map}
 use Rattle.acn_world.specs.Repeated.{when}
 use Rattle.acn_repeated.specs.Named.{names_view}

@@ -1,8 +1,8 @@
 use Rattle.std.proofs.Common.{◌≡◌, List, ap, ◌∙◌}
 use Rattle.std.specs.Prelude.{option_copied}
-use Rattle.acn_world.specs.Views.{index_view}
+use Rattle.acn_index.specs.Views.{index_view}
 use Rattle.acn_world.specs.Faults.{module_name_at, name_at, names_at}
-use Rattle.acn_world.specs.declared.sources.TypeId.{TypeId}
+use Rattle.acn_index.specs.declared.sources.TypeId.{TypeId}
 use Rattle.acn_names.proofs.Faulty.{made, copied_there}
 use Rattle.acn_names.proofs.Named.{owner_there, own_there}
 use Rattle.acn_names.proofs.resolving.cycle_fault.Goals as goal

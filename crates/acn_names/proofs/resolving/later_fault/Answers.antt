@@ -1,5 +1,5 @@
 use Rattle.std.proofs.Common.{◌≡◌}
-use Rattle.acn_world.specs.Views.{index_view}
+use Rattle.acn_index.specs.Views.{index_view}
 use Rattle.acn_names.proofs.Faulty.{late_answer, cycle_tells}
 use Rattle.acn_names.proofs.resolving.later_fault.Goals as goal
 

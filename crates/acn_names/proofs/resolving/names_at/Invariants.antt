@@ -1,5 +1,5 @@
 use Rattle.std.proofs.Common.{◌≡◌, drop, ◌++◌}
-use Rattle.acn_world.specs.Views.{index_view}
+use Rattle.acn_index.specs.Views.{index_view}
 use Rattle.acn_world.specs.Faults.{names_at}
 use Rattle.acn_names.proofs.resolving.names_at.Given as goal
 

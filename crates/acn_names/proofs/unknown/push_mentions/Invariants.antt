@@ -1,5 +1,5 @@
 use Rattle.std.proofs.Common.{◌≡◌, drop, ◌++◌}
-use Rattle.acn_world.specs.Views.{index_view}
+use Rattle.acn_index.specs.Views.{index_view}
 use Rattle.acn_repeated.specs.Named.{names_view}
 use Rattle.acn_mentions.specs.Mentioned.{mentions_view}
 use Rattle.acn_world.specs.Unknown.{unknown_mentions}

@@ -1,5 +1,5 @@
 use Rattle.std.proofs.Common.{◌≡◌, drop, ◌++◌}
-use Rattle.acn_world.specs.Views.{index_view}
+use Rattle.acn_index.specs.Views.{index_view}
 use Rattle.acn_repeated.specs.Named.{names_view}
 use Rattle.acn_world.specs.Unknown.{acn_unknown_mentions}
 use Rattle.acn_mentions.specs.AcnMentioned.{acn_mentions_view}

@@ -1,5 +1,5 @@
 use Rattle.std.proofs.Common.{◌≡◌, drop, ◌++◌}
-use Rattle.acn_world.specs.Views.{index_view}
+use Rattle.acn_index.specs.Views.{index_view}
 use Rattle.std.specs.Prelude.{flat_map}
 use Rattle.acn_world.specs.Repeated.{when}
 use Rattle.acn_mentions.specs.AcnMentioned.{acn_mentions_view}

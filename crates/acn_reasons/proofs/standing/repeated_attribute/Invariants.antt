@@ -1,5 +1,5 @@
 use Rattle.std.proofs.Common.{◌≡◌, drop, map}
-use Rattle.acn_world.specs.Lookup.{EntryAt}
+use Rattle.acn_index.specs.Lookup.{EntryAt}
 use Rattle.acn_world.specs.Chained.{entries_view}
 use Rattle.acn_sites.specs.Places.{earliest, earliest_from}
 use Rattle.acn_slots.specs.Slots.{at_entry}

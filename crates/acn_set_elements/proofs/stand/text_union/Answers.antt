@@ -4,7 +4,7 @@ use Rattle.std.specs.Bool.{◌==◌}
 use Rattle.acn_asn_syntax.specs.Mirror as plain
 use Rattle.acn_asn_syntax.specs.View.{seen_meet, meets_of}
 use Rattle.acn_asn_syntax.specs.declared.sets.Meet.{Meet}
-use Rattle.acn_world.specs.World.{World}
+use Rattle.acn_index.specs.World.{World}
 use Rattle.acn_set_elements.specs.Stands.{text_set, meet_built, meets_built, of_sizes}
 use Rattle.acn_set_elements.proofs.stand.text_union.Goals as goal
 

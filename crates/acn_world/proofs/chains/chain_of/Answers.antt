@@ -1,7 +1,7 @@
 use Rattle.std.proofs.Common.{◌∙◌, ap}
 use Rattle.std.specs.Prelude.{map}
-use Rattle.acn_world.specs.Views.{index_view}
-use Rattle.acn_world.specs.Linked.{link_view}
+use Rattle.acn_index.specs.Views.{index_view}
+use Rattle.acn_index.specs.Linked.{link_view}
 use Rattle.acn_world.specs.Chained.{constraints_view, entries_view}
 use Rattle.acn_world.proofs.Reversed.{map_reverse, gathered}
 use Rattle.acn_world.proofs.chains.chain_of.Goals as goal

@@ -1,9 +1,9 @@
 use Rattle.std.proofs.Common.{◌≡◌, drop, ◌++◌}
 use Rattle.std.specs.Prelude.{map, filter_map}
-use Rattle.acn_world.specs.Views.{index_view}
-use Rattle.acn_world.specs.Linked.{link_view}
+use Rattle.acn_index.specs.Views.{index_view}
+use Rattle.acn_index.specs.Linked.{link_view}
 use Rattle.acn_world.specs.Chained.{entries_view}
-use Rattle.acn_world.specs.Chains.{link_entry}
+use Rattle.acn_index.specs.Chains.{link_entry}
 use Rattle.acn_world.proofs.chains.entries_along.Given as goal
 
 abbrev pub invariant-loop-link : goal.invariant-loop-link

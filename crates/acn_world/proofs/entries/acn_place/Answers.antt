@@ -1,5 +1,5 @@
-use Rattle.acn_world.specs.Views.{index_view}
-use Rattle.acn_world.proofs.Mapped.{acn_first}
+use Rattle.acn_index.specs.Views.{index_view}
+use Rattle.acn_index.proofs.Mapped.{acn_first}
 use Rattle.acn_world.proofs.entries.acn_place.Goals as goal
 
 pub returns : goal.returns

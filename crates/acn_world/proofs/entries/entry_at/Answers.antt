@@ -1,7 +1,7 @@
 use Rattle.std.proofs.Common.{ap, ◌∙◌}
 use Rattle.std.specs.Prelude.{option_and_then}
-use Rattle.acn_world.specs.Views.{index_view}
-use Rattle.acn_world.specs.Lookup.{entry_in_place}
+use Rattle.acn_index.specs.Views.{index_view}
+use Rattle.acn_index.specs.Lookup.{entry_in_place}
 use Rattle.acn_world.proofs.EntryPlaces.{at_its_place}
 use Rattle.acn_world.proofs.entries.entry_at.Goals as goal
 

@@ -1,5 +1,5 @@
-use Rattle.acn_world.specs.Views.{index_view}
-use Rattle.acn_world.proofs.Mapped.{entry_first, no_entries}
+use Rattle.acn_index.specs.Views.{index_view}
+use Rattle.acn_index.proofs.Mapped.{entry_first, no_entries}
 use Rattle.acn_world.proofs.entries.entry_number.Goals as goal
 
 pub returns-in_err-names : goal.returns-in_err-names

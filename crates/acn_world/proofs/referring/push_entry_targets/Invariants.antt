@@ -1,6 +1,6 @@
 use Rattle.std.proofs.Common.{◌≡◌, drop, ◌++◌}
 use Rattle.std.specs.Prelude.{filter_map}
-use Rattle.acn_world.specs.Views.{index_view}
+use Rattle.acn_index.specs.Views.{index_view}
 use Rattle.acn_mentions.specs.AcnMentioned.{acn_mentions_view}
 use Rattle.acn_world.specs.Faults.{entry_target}
 use Rattle.acn_world.proofs.referring.push_entry_targets.Given as goal

@@ -1,5 +1,5 @@
 use Rattle.std.proofs.Common.{◌≡◌, drop, ◌++◌, filter, not}
-use Rattle.acn_world.specs.World.{is_same}
+use Rattle.acn_index.specs.World.{is_same}
 use Rattle.acn_world.proofs.referring.push_others.Given as goal
 
 abbrev pub invariant-loop-place : goal.invariant-loop-place

@@ -1,6 +1,6 @@
 use Rattle.std.proofs.Common.{◌≡◌, drop, ◌++◌}
 use Rattle.std.specs.Prelude.{flat_map}
-use Rattle.acn_world.specs.Views.{index_view}
+use Rattle.acn_index.specs.Views.{index_view}
 use Rattle.acn_world.specs.Faults.{refers_to}
 use Rattle.acn_world.proofs.referring.push_referred.Given as goal
 

@@ -1,5 +1,5 @@
 use Rattle.std.proofs.Common.{◌≡◌, drop, ◌++◌}
-use Rattle.acn_world.specs.Views.{index_view}
+use Rattle.acn_index.specs.Views.{index_view}
 use Rattle.acn_mentions.specs.Mentioned.{mentions_view}
 use Rattle.acn_world.specs.Cycles.{type_targets}
 use Rattle.acn_world.proofs.referring.push_type_targets.Given as goal

@@ -1,7 +1,7 @@
 use Rattle.std.proofs.Common.{◌≡◌, suc, ◌-◌, ◌+◌, sym, ◌∙◌, ap, arith}
-use Rattle.acn_world.specs.Views.{index_view}
-use Rattle.acn_world.specs.Linked.{link_view}
-use Rattle.acn_world.specs.Chains.{has_parameters, links, links_within}
+use Rattle.acn_index.specs.Views.{index_view}
+use Rattle.acn_index.specs.Linked.{link_view}
+use Rattle.acn_index.specs.Chains.{has_parameters, links, links_within}
 use Rattle.acn_world.proofs.ParameterSteps.{any_gives, gives_here, ends, goes, spent}
 use Rattle.acn_world.proofs.roots.has_parameters.Goals as goal
 

@@ -1,7 +1,7 @@
 use Rattle.std.proofs.Common.{◌≡◌, ◌-◌}
-use Rattle.acn_world.specs.Views.{index_view}
-use Rattle.acn_world.specs.Linked.{link_view}
-use Rattle.acn_world.specs.Chains.{links_within, has_parameters}
+use Rattle.acn_index.specs.Views.{index_view}
+use Rattle.acn_index.specs.Linked.{link_view}
+use Rattle.acn_index.specs.Chains.{links_within, has_parameters}
 use Rattle.acn_world.proofs.ParameterSteps.{any_gives}
 use Rattle.acn_world.proofs.roots.has_parameters.Given as goal
 

@@ -1,5 +1,5 @@
 use Rattle.std.proofs.Common.{◌≡◌, drop, ◌++◌, filter}
-use Rattle.acn_world.specs.Views.{index_view}
+use Rattle.acn_index.specs.Views.{index_view}
 use Rattle.acn_world.specs.Faults.{is_root}
 use Rattle.acn_world.proofs.roots.roots_among.Given as goal
 

@@ -2,8 +2,8 @@ use Rattle.std.proofs.Common.{◌+◌, ◌||◌, List, drop, ap, sym, ◌∙◌,
 use Rattle.std.proofs.lemmas.List.{at_drop_more}
 use Rattle.std.specs.List.{list_any}
 use Rattle.std.specs.HashSet.{contains}
-use Rattle.acn_world.specs.World.{is_same}
-use Rattle.acn_world.specs.declared.sources.TypeId.{TypeId}
+use Rattle.acn_index.specs.World.{is_same}
+use Rattle.acn_index.specs.declared.sources.TypeId.{TypeId}
 use Rattle.acn_world.proofs.Marks.{one_more, or_false}
 use Rattle.acn_world.proofs.roots.set_of.Goals as goal
 

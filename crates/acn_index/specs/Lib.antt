@@ -1,0 +1,11 @@
+pub mod World
+pub mod Lookup
+pub mod Values
+pub mod Chains
+pub mod Views
+pub mod Sorts
+pub mod Keyed
+pub mod Found
+pub mod Linked
+pub mod Steps
+pub mod Leading

@@ -1,8 +1,0 @@
-use Rattle.std.proofs.Common.{◌≡◌, ◌-◌}
-use Rattle.acn_world.specs.Views.{index_view}
-use Rattle.acn_world.specs.Linked.{link_view}
-use Rattle.acn_world.specs.Chains as spec
-use Rattle.acn_world.proofs.chain.last_within.Given as goal
-
-abbrev pub invariant-loop-step : goal.invariant-loop-step
-invariant-loop-step l = spec.last_within (l.most - l.step) (index_view l.index) (link_view l.link) ≡ spec.last_within l.most (index_view l.index) (link_view l.first)

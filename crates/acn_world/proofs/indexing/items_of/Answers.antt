@@ -1,5 +1,0 @@
-use Rattle.std.proofs.Common.{arith}
-use Rattle.acn_world.proofs.indexing.items_of.Goals as goal
-
-pub loop-owner-init : goal.loop-owner-init
-loop-owner-init c = omega arith

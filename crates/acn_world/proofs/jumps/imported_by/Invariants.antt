@@ -1,5 +1,0 @@
-use Rattle.acn_world.specs.Steps.{AreNumbered, names_view}
-use Rattle.acn_world.proofs.jumps.imported_by.Given as goal
-
-abbrev pub invariant-loop-k : goal.invariant-loop-k
-invariant-loop-k l = AreNumbered l.all.numbers (names_view l.all.names.items)

@@ -1,6 +1,0 @@
-use Rattle.acn_world.specs.Views.{index_view}
-use Rattle.acn_world.proofs.Mapped.{module_first}
-use Rattle.acn_world.proofs.lookup.module_place.Goals as goal
-
-pub returns : goal.returns
-returns c = module_first (index_view c.args.index.now) c.args.index.now.maps c.args.index.now.mapped c.args.name.now c.get.result c.get.ensures.first

@@ -1,9 +1,0 @@
-use Rattle.std.proofs.Common.{◌≡◌, drop}
-use Rattle.std.specs.Prelude.{map}
-use Rattle.acn_asn_syntax.specs.View.{assign_view}
-use Rattle.acn_firsts.specs.Placed.{noted_all}
-use Rattle.acn_world.specs.Keyed.{keyed, firsts, type_name}
-use Rattle.acn_world.proofs.maps.types_of.Given as goal
-
-abbrev pub invariant-loop-i : goal.invariant-loop-i
-invariant-loop-i l = noted_all l.all (keyed type_name l.i (map assign_view (drop l.i l.items))) ≡ firsts type_name (map assign_view l.items)

@@ -1,7 +1,0 @@
-use Rattle.std.proofs.Common.{◌≡◌, ◌-◌}
-use Rattle.acn_world.specs.Views.{index_view}
-use Rattle.acn_world.specs.Values.{value_within}
-use Rattle.acn_world.proofs.values.value_within.Given as goal
-
-abbrev pub invariant-loop-step : goal.invariant-loop-step
-invariant-loop-step l = value_within (l.most - l.step) (index_view l.index) l.owner l.name ≡ value_within l.most (index_view l.index) l.k l.fn.name
