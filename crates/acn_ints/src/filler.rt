@@ -29,6 +29,18 @@ fn write_alone<const M: usize>(buf: &mut [u8; M], leaf: &NumLeaf, x: i128) -> u6
     out.at()
 }
 
+/// How many bits the code of a permitted number has, at most 256. The call takes no memory.
+pub fn code_length(leaf: &NumLeaf, x: i128) -> u64
+    requires fine { IsTrue (num_fine leaf.now) }
+    requires permitted { In leaf.now.set x }
+    ensures count { result ≡ num_length leaf.now x }
+    ensures short { result ≤ 256 }
+{
+    check_permitted(leaf, &x);
+    let mut buf = [0u8; 32];
+    write_alone(&mut buf, leaf, x)
+}
+
 /// The number that the first bits of a buffer spell.
 fn number_at_front(buf: &[u8; 8], width: u32) -> u64
     requires { width ≤ WORD_BITS }

@@ -16,7 +16,7 @@ mod reader;
 mod said;
 mod writer;
 
-pub use filler::{fill_num, list_num};
+pub use filler::{code_length, fill_num, list_num};
 pub use ordered::pattern_number;
 pub use reader::read_num;
 pub use writer::put_num;
