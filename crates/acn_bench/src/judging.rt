@@ -77,11 +77,27 @@ fn time_tree(rt: &HostRuntime, name: &str, root: Built) -> Result<(), Fault> {
 pub fn time_trees(rt: &HostRuntime) -> Result<(), Fault> {
     let alloc = rt.alloc();
     time_tree(rt, "65,535 components", components(alloc, 65_535))?;
-    time_tree(rt, "21,845 slots of as many homes", own_slots(alloc, 21_845))?;
+    time_tree(
+        rt,
+        "21,845 slots of as many homes",
+        own_slots(alloc, 21_845),
+    )?;
     time_tree(rt, "32,767 slots of one home", flat_slots(alloc, 32_767))?;
     time_tree(rt, "62 levels with headers", deep(alloc, 62, 1_048))?;
     time_tree(rt, "65,535 items", enumerated(alloc, 65_535))?;
-    time_tree(rt, "65,531 alternatives by one slot", alternatives(alloc, Told::BySlot, 65_531))?;
-    time_tree(rt, "4,096 alternatives by two slots", alternatives(alloc, Told::ByPair, 4_096))?;
-    time_tree(rt, "65,531 alternatives by item", alternatives(alloc, Told::ByItem, 65_531))
+    time_tree(
+        rt,
+        "65,531 alternatives by one slot",
+        alternatives(alloc, Told::BySlot, 65_531),
+    )?;
+    time_tree(
+        rt,
+        "65,531 alternatives by two slots",
+        alternatives(alloc, Told::ByPair, 65_531),
+    )?;
+    time_tree(
+        rt,
+        "65,531 alternatives by item",
+        alternatives(alloc, Told::ByItem, 65_531),
+    )
 }

@@ -156,7 +156,12 @@ fn sized(alloc: Global, first: u32, count: u32) -> Built {
     for slot in first..first.saturating_add(count) {
         let number = slot.saturating_mul(2);
         insert(alloc, &mut fields, number, slot, octet(alloc))?;
-        add(alloc, &mut fields, number.saturating_add(1), data(alloc, slot))?;
+        add(
+            alloc,
+            &mut fields,
+            number.saturating_add(1),
+            data(alloc, slot),
+        )?;
     }
     let home = slots(alloc, first, count)?;
     boxed(alloc, Body::Seq(Seq { fields, home }))
@@ -193,7 +198,12 @@ fn level(alloc: Global, first: u32, width: u32, inner: Built) -> Built {
     add(alloc, &mut fields, 0, header(alloc, first, 4))?;
     for number in 0..width {
         let slot = first.saturating_add(number % 4);
-        add(alloc, &mut fields, number.saturating_add(1), data(alloc, slot))?;
+        add(
+            alloc,
+            &mut fields,
+            number.saturating_add(1),
+            data(alloc, slot),
+        )?;
     }
     add(alloc, &mut fields, width.saturating_add(1), inner)?;
     let home = slots(alloc, first, 4)?;
@@ -204,7 +214,10 @@ fn level(alloc: Global, first: u32, width: u32, inner: Built) -> Built {
 pub fn deep(alloc: Global, levels: u32, width: u32) -> Built {
     let mut node = null(alloc);
     for above in 0..levels {
-        let first = levels.saturating_sub(above).saturating_sub(1).saturating_mul(4);
+        let first = levels
+            .saturating_sub(above)
+            .saturating_sub(1)
+            .saturating_mul(4);
         node = level(alloc, first, width, node);
     }
     node

@@ -1,5 +1,5 @@
 -- The first fault of each kind, computed over the nodes in preorder.
-use Rattle.std.specs.Prelude.{◌≡◌, ℕ, zero, suc, ◌+◌, ◌-◌, ◌/◌, ◌^◌, min, ℤ, pos, neg_ℤ, int_le, int_lt, nat_eq, nat_lt, nat_le, take, Bool, true, false, not, ◌&&◌, ◌||◌, List, [], ◌∷◌, ◌++◌, length, map, Option, Some, None, option_map, if◌then◌else◌, slice_get, slice_set, Result, Ok, Err, MatchOption}
+use Rattle.std.specs.Prelude.{◌≡◌, ℕ, zero, suc, ◌+◌, ◌-◌, ◌*◌, ◌/◌, ◌%◌, ◌^◌, min, ℤ, pos, neg_ℤ, int_le, int_lt, nat_eq, nat_lt, nat_le, take, Bool, true, false, not, ◌&&◌, ◌||◌, List, [], ◌∷◌, ◌++◌, length, map, Option, Some, None, option_map, if◌then◌else◌, slice_get, slice_set, Result, Ok, Err, MatchOption}
 use Rattle.std.specs.List.{list_any, list_all, cons_option}
 use Rattle.std.specs.Ordering.{int_eq}
 use Rattle.acn_num.specs.Bits.{number}
@@ -26,6 +26,8 @@ use Rattle.acn_grammar.specs.declared.node.Test.TheVariants.{Flag, Equals}
 use Rattle.acn_grammar.specs.declared.node.ChoiceRule.{ChoiceRule}
 use Rattle.acn_grammar.specs.declared.node.ChoiceRule.TheVariants.{Tests, Item}
 use Rattle.acn_check.specs.Facts.{Facts}
+use Rattle.acn_check.specs.declared.clashes.TheConstants.{MARK_FACTOR, MARK_PRIME}
+use Rattle.acn_num.specs.declared.limits.TheConstants.{LEAST_NUMBER, GREATEST_NUMBER}
 use Rattle.acn_grammar.specs.declared.limits.TheConstants.{MOST_DETERMINANT_BITS, MOST_PACKET_BITS, MOST_OPEN_SLOTS, MOST_CONDITIONS, MOST_VALUES}
 
 -- the first answer over a list whose elements are numbered from k on
@@ -210,18 +212,30 @@ abbrev pub pairs : List Det → List ℕ → ℕ → List (List ℕ × List Test
 pairs ds path i [] = None
 pairs ds path i (c ∷ cases) = first_of_two (against ds path i c.1 (suc i) cases) (pairs ds path (suc i) cases)
 
--- the numbers that alternatives ask of a slot, where each asks one
-abbrev pub numbers_on : ℕ → List (List ℕ × List Test) → Option (List ℤ)
-numbers_on s [] = Some []
-numbers_on s (c ∷ cases) = given (number_asked s c.1) (λ x. option_map (λ xs. x ∷ xs) (numbers_on s cases))
+-- a mark that goes on with a number
+abbrev pub mixed : ℕ → ℤ → Option ℕ
+mixed m n = if int_le LEAST_NUMBER n && int_le n GREATEST_NUMBER then Some ((m * MARK_FACTOR + distance LEAST_NUMBER n) % MARK_PRIME) else None
+
+-- A mark of the numbers that conditions ask of some slots, where they ask one of each. Who asks the same has the same mark.
+abbrev pub mark_from : ℕ → List ℕ → List Test → Option ℕ
+mark_from m [] ts = Some m
+mark_from m (s ∷ ss) ts = given (given (number_asked s ts) (mixed m)) (λ next. mark_from next ss ts)
+
+abbrev pub mark : List ℕ → List Test → Option ℕ
+mark slots ts = mark_from 0 slots ts
+
+-- the marks of alternatives, where each has one
+abbrev pub marks_on : List ℕ → List (List ℕ × List Test) → Option (List ℤ)
+marks_on slots [] = Some []
+marks_on slots (c ∷ cases) = given (mark slots c.1) (λ x. option_map (λ xs. pos x ∷ xs) (marks_on slots cases))
 
 abbrev pub differ_in : Option (List ℤ) → Bool
 differ_in None = false
 differ_in (Some xs) = all_differ int_eq xs
 
--- each asks a number of its own
-abbrev pub have_own : ℕ → List (List ℕ × List Test) → Bool
-have_own s cases = differ_in (numbers_on s cases)
+-- each has a mark of its own
+abbrev pub have_own : List ℕ → List (List ℕ × List Test) → Bool
+have_own slots cases = differ_in (marks_on slots cases)
 
 abbrev pub NoneMeet : List (List ℕ × List Test) → Type 0
 NoneMeet cases = (ds : List Det) (path : List ℕ) → pairs ds path 0 cases ≡ None

@@ -1,13 +1,23 @@
 //! Conditions that can't hold together, since a slot is asked for two numbers.
-ghost use Rattle.std.specs.Prelude.{◌≡◌, true, map, option_map, IfOk};
+ghost use Rattle.std.specs.Prelude.{◌≡◌, ◌<◌, true, option_map, IfOk, IfSome};
 ghost use Rattle.std.specs.Ordering.{int_eq};
 ghost use Rattle.acn_check.specs.First as spec;
 ghost use Rattle.acn_check.specs.Program.{cases_of};
+ghost use Rattle.acn_check.specs.declared.clashes.TheConstants.{MARK_PRIME};
 
 use acn_leaf::numbers_differ;
-use acn_num::NoMemory;
+use acn_num::{GREATEST_NUMBER, LEAST_NUMBER, NoMemory, is_at_most};
 use acn_tree::{Alternative, Test};
 use std::alloc::Global;
+
+/// The prime below which marks are: 2^61 - 1.
+pub const MARK_PRIME: u128 = 2_305_843_009_213_693_951;
+
+/// What a mark is multiplied with before a number is added: some number with no pattern to it.
+pub const MARK_FACTOR: u128 = 1_099_087_573_291_337;
+
+/// How many slots a mark is made of at most.
+const MOST_MARKED: usize = 8;
 
 /// The number that a condition asks its slot for.
 #[derive(Clone, Copy, Drop)]
@@ -75,47 +85,95 @@ pub fn clash(one: &[Test], other: &[Test]) -> bool
     false
 }
 
-// The numbers that the alternatives ask of the slot, where each asks one.
-fn numbers_on(
+// A mark that goes on with a number. None goes on with what no number of a packet is.
+fn mixed(mark: u128, number: &i128) -> Option<u128>
+    requires { mark < MARK_PRIME }
+    ensures is { result ≡ spec.mixed mark number.now }
+    ensures small { IfSome result (λ m. m < MARK_PRIME) }
+{
+    if is_at_most(&LEAST_NUMBER, number) && is_at_most(number, &GREATEST_NUMBER) {
+        let distance = (*number - LEAST_NUMBER) as u128;
+        Some((mark * MARK_FACTOR + distance) % MARK_PRIME)
+    } else {
+        None
+    }
+}
+
+// The mark of the numbers that conditions ask of the slots, where they ask one of each.
+fn mark_of(tests: &[Test], slots: &[u32]) -> Option<u128>
+    ensures is { result ≡ spec.mark slots.now tests.now }
+    ensures small { IfSome result (λ m. m < MARK_PRIME) }
+{
+    let mut mark = 0u128;
+    for slot in slots {
+        let number = number_asked(tests, *slot)?;
+        mark = mixed(mark, &number)?;
+    }
+    Some(mark)
+}
+
+// The marks of the alternatives, where each has one.
+fn marks_on(
     alloc: Global,
     alternatives: &[Alternative],
-    slot: u32,
+    slots: &[u32],
 ) -> Result<Option<Vec<i128>>, NoMemory>
-    ensures { IfOk result (λ found. option_map (λ v. v.items) found ≡ spec.numbers_on slot (cases_of alternatives.now)) }
+    ensures { IfOk result (λ found. option_map (λ v. v.items) found ≡ spec.marks_on slots.now (cases_of alternatives.now)) }
 {
-    let mut numbers = Vec::new(alloc);
+    let mut marks = Vec::new(alloc);
     for alternative in alternatives {
-        match number_asked(alternative.tests.items(), slot) {
+        match mark_of(alternative.tests.items(), slots) {
             None => return Ok(None),
-            Some(number) => numbers.push(number)?,
+            Some(mark) => marks.push(mark as i128)?,
         }
     }
-    Ok(Some(numbers))
+    Ok(Some(marks))
 }
 
-// Whether each alternative asks a number of its own of the slot.
-fn have_own(alloc: Global, alternatives: &[Alternative], slot: u32) -> Result<bool, NoMemory>
-    ensures { IfOk result (λ own. own ≡ spec.have_own slot (cases_of alternatives.now)) }
+// Whether each alternative has a mark of its own by these slots.
+fn have_own(alloc: Global, alternatives: &[Alternative], slots: &[u32]) -> Result<bool, NoMemory>
+    ensures { IfOk result (λ own. own ≡ spec.have_own slots.now (cases_of alternatives.now)) }
 {
-    match numbers_on(alloc, alternatives, slot)? {
+    match marks_on(alloc, alternatives, slots)? {
         None => Ok(false),
-        Some(mut numbers) => Ok(numbers_differ(&mut numbers)),
+        Some(mut marks) => Ok(numbers_differ(&mut marks)),
     }
 }
 
-// The slot of the first condition: the one that is tried, though any would do.
-fn first_slot(alternatives: &[Alternative]) -> Option<u32> {
-    let first = alternatives.first()?;
-    let test = first.tests.items().first()?;
-    Some(asked_by(test).slot)
+// The slots of the first conditions of the first alternative, `MOST_MARKED` of them at most: those that are tried, though
+// any would do.
+fn first_slots(alloc: Global, alternatives: &[Alternative]) -> Result<Vec<u32>, NoMemory> {
+    let mut slots = Vec::new(alloc);
+    if let Some(first) = alternatives.first() {
+        for test in first.tests.items() {
+            if slots.len() < MOST_MARKED {
+                slots.push(asked_by(test).slot)?;
+            }
+        }
+    }
+    Ok(slots)
 }
 
-/// Whether all alternatives are told apart by one slot, that of the first condition: then no two hold together.
-pub fn told_by_one_slot(alloc: Global, alternatives: &[Alternative]) -> Result<bool, NoMemory>
+// Whether these slots tell all alternatives apart.
+fn told_by(alloc: Global, alternatives: &[Alternative], slots: &[u32]) -> Result<bool, NoMemory>
     ensures { IfOk result (λ told. told ≡ true → spec.NoneMeet (cases_of alternatives.now)) }
 {
-    match first_slot(alternatives) {
-        None => Ok(false),
-        Some(slot) => have_own(alloc, alternatives, slot),
+    have_own(alloc, alternatives, slots)
+}
+
+/// Whether all alternatives are told apart by the slot of the first condition, or by those of the first alternative: then
+/// no two hold together.
+pub fn told_by_slots(alloc: Global, alternatives: &[Alternative]) -> Result<bool, NoMemory>
+    ensures { IfOk result (λ told. told ≡ true → spec.NoneMeet (cases_of alternatives.now)) }
+{
+    let slots = first_slots(alloc, alternatives)?;
+    match slots.as_slice() {
+        [] => Ok(false),
+        [first, ..] => {
+            if told_by(alloc, alternatives, &[*first])? {
+                return Ok(true);
+            }
+            told_by(alloc, alternatives, &slots)
+        }
     }
 }

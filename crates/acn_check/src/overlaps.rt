@@ -13,7 +13,7 @@ ghost use Rattle.acn_check.specs.First.{Told, first_of};
 ghost use Rattle.acn_check.specs.Program.{det_of, cases_of, AreFew, FewCases, IsPut};
 ghost use Rattle.acn_grammar.specs.declared.limits.TheConstants.{MOST_NODES};
 
-use crate::clashes::{Asked, asked_by, clash, is_number, told_by_one_slot};
+use crate::clashes::{Asked, asked_by, clash, is_number, told_by_slots};
 use crate::dets::{Det, det_of_slot};
 use crate::lines::Line;
 use acn_num::{NoMemory, Path, Row};
@@ -208,7 +208,7 @@ fn all_apart(
     requires { length alternatives.now ≤ MOST_NODES }
     ensures { Told (spec.pairs (map det_of dets.now) path.now 0 (cases_of alternatives.now)) result }
 {
-    if told_by_one_slot(alloc, alternatives)? {
+    if told_by_slots(alloc, alternatives)? {
         return Ok(());
     }
     for (at, alternative) in alternatives.iter().enumerate() {

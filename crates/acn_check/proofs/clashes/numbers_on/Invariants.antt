@@ -1,8 +1,0 @@
-use Rattle.std.proofs.Common.{◌≡◌, ◌++◌, drop}
-use Rattle.std.specs.Prelude.{option_map}
-use Rattle.acn_check.specs.First.{numbers_on}
-use Rattle.acn_check.specs.Program.{cases_of}
-use Rattle.acn_check.proofs.clashes.numbers_on.Given as goal
-
-abbrev pub invariant-loop-alternative : goal.invariant-loop-alternative
-invariant-loop-alternative l = option_map (λ xs. l.numbers.items ++ xs) (numbers_on l.slot (cases_of (drop l.alternative-index l.alternatives))) ≡ numbers_on l.slot (cases_of l.alternatives)
