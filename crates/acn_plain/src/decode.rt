@@ -22,11 +22,7 @@ pub const MOST_PLAIN_BYTES: usize = 4_294_967_296;
 ///
 /// `Bad` comes exactly where no value is at the front, with the one failure that there is: the path of its node, the reason, and
 /// the bit at which that node begins. `NoMemory` comes where memory runs out. The order of reasons is this profile's own.
-pub fn plain_decode(
-    alloc: Global,
-    checked: &Checked,
-    bytes: &[u8],
-) -> Result<(Value, u64), Refuse>
+pub fn plain_decode(alloc: Global, checked: &Checked, bytes: &[u8]) -> Result<(Value, u64), Refuse>
     requires named { ItemsNamed (grammar_of checked.now.tree.root) }
     requires few { length bytes.now ≤ MOST_PLAIN_BYTES }
     ensures front { IfOk result (λ pair. Front (grammar_of checked.now.tree.root) (bits bytes.now) (data_of pair.0) pair.1) }
