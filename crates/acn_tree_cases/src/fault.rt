@@ -1,21 +1,9 @@
 //! What `check` answers, in words.
 
+use acn_case_trees::path_in_words;
 use acn_num::{NoMemory, Path};
 use acn_tree::CheckFault;
 use std::alloc::Global;
-
-/// A path in words: its steps joined by full stops, and `root` where it has none.
-pub fn path_in_words(alloc: Global, path: &Path) -> Result<String, NoMemory> {
-    let mut words = String::new(alloc);
-    for step in path.steps() {
-        let stop = if words.is_empty() { "" } else { "." };
-        write!(words, "{stop}{step}")?;
-    }
-    if words.is_empty() {
-        words.push_str("root")?;
-    }
-    Ok(words)
-}
 
 fn one_path(alloc: Global, kind: &str, path: &Path) -> Result<String, NoMemory> {
     let path = path_in_words(alloc, path)?;

@@ -1,29 +1,20 @@
 //! Prints its input, with the answer behind each `=>`.
 //!
-//! A tree is written line by line: `root : sequence home 0`, `inserted len 0 : integer 0..255 pos-int 8`,
-//! `component data : octets 0..16 slot 0`, `end`. A line `ROLE NAME .. : BODY` is a node in the one around it; SEQUENCE, CHOICE,
-//! lists and contained octets go on to their `end`. A case `QUESTION =>` asks of this tree; behind `;;` stand its parts, which come
-//! in the places of `$1` to `$4`, and a line whose part isn't there is left out. `times LOW HIGH LINE | LINE` stands for its lines
-//! once for each number from LOW up to HIGH, with the number in the place of `$i`.
+//! A tree stands in lines, as `acn_case_trees` says. A case `QUESTION =>` asks of it; behind `;;` stand its parts.
 //!
 //! Questions: `form`, `values`, `bits`, `bits-at PATH`, `check`, `check-twice`, `named`, `at PATH`, `meets VALUE`,
 //! `shaped VALUE`, `make NUMBER`.
 #![tactic(auto)]
 
 mod answer;
-mod building;
 mod fault;
-mod notation;
-mod parts;
-mod sheet;
 mod unfit;
 mod value;
-mod value_words;
 
 use acn_case_lines::{Line, line_of};
+use acn_case_trees::Sheet;
 use acn_num::NoMemory;
 use answer::answer;
-use sheet::Sheet;
 use std::alloc::Global;
 use std::io;
 

@@ -1,6 +1,6 @@
 //! Why a value isn't one of a tree's, in words.
 
-use crate::fault::path_in_words;
+use acn_case_trees::path_in_words;
 use acn_num::NoMemory;
 use acn_tree::{Unfit, UnfitReason};
 use std::alloc::Global;

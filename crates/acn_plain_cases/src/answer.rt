@@ -1,0 +1,78 @@
+//! Answers to cases.
+
+use acn_case_lines::{octets_of, word};
+use acn_case_trees::{Built, Sheet, path_in_words, value_in_words};
+use acn_check::{Checked, check};
+use acn_num::{Boxed, NoMemory};
+use acn_plain::{MOST_PLAIN_BYTES, plain_decode};
+use acn_tree::{Fault, Reason, Refuse, Tree, Value, items_named};
+use std::alloc::Global;
+
+fn reason_in_words(alloc: Global, reason: &Reason) -> Result<String, NoMemory> {
+    match reason {
+        Reason::Short => Ok(format!(in alloc; "Short")?),
+        Reason::OutOfRange { wire } => Ok(format!(in alloc; "OutOfRange {wire}")?),
+        Reason::NotMinimal => Ok(format!(in alloc; "NotMinimal")?),
+        Reason::BadDigit => Ok(format!(in alloc; "BadDigit")?),
+        Reason::BadCharacter => Ok(format!(in alloc; "BadCharacter")?),
+        Reason::BadPattern => Ok(format!(in alloc; "BadPattern")?),
+        Reason::TooLong => Ok(format!(in alloc; "TooLong")?),
+        Reason::SizeOutOfRange { n } => Ok(format!(in alloc; "SizeOutOfRange {n}")?),
+        Reason::NoAlternative => Ok(format!(in alloc; "NoAlternative")?),
+        Reason::ContentSize { octets, used } => {
+            Ok(format!(in alloc; "ContentSize {octets} {used}")?)
+        }
+        Reason::PastContent => Ok(format!(in alloc; "PastContent")?),
+    }
+}
+
+fn fault_in_words(alloc: Global, fault: &Fault) -> Result<String, NoMemory> {
+    let path = path_in_words(alloc, &fault.path)?;
+    let reason = reason_in_words(alloc, &fault.reason)?;
+    Ok(format!(in alloc; "{path} {reason} at {}", fault.at)?)
+}
+
+fn refused(alloc: Global, refuse: Refuse) -> Result<String, NoMemory> {
+    match refuse {
+        Refuse::Bad(fault) => fault_in_words(alloc, &fault),
+        Refuse::NoMemory => Err(NoMemory),
+    }
+}
+
+fn found(alloc: Global, value: &Value, bits: u64) -> Result<String, NoMemory> {
+    let words = value_in_words(alloc, value)?;
+    Ok(format!(in alloc; "{bits} bits,{words}")?)
+}
+
+// What stands at the front of the octets.
+fn read(alloc: Global, checked: &Checked, octets: &[u8]) -> Result<String, NoMemory> {
+    if !items_named(checked.tree()) {
+        return Ok(format!(in alloc; "not named")?);
+    }
+    if octets.len() > MOST_PLAIN_BYTES {
+        return Ok(format!(in alloc; "too many octets")?);
+    }
+    match plain_decode(alloc, checked, octets) {
+        Ok((value, bits)) => found(alloc, &value, bits),
+        Err(refuse) => refused(alloc, refuse),
+    }
+}
+
+fn of_tree(alloc: Global, tree: Boxed<Tree>, octets: &[u8]) -> Result<String, NoMemory> {
+    match check(alloc, tree.into_inner()) {
+        Ok(checked) => read(alloc, &checked, octets),
+        Err(_) => Ok(format!(in alloc; "not accepted")?),
+    }
+}
+
+/// The answer to a case.
+pub fn answer(alloc: Global, sheet: &Sheet, case: &str) -> Result<String, NoMemory> {
+    let parts: Vec<&str> = case.split(";;").collect(alloc)?;
+    let words: Vec<&str> = word(parts.as_slice(), 0).split_whitespace().collect(alloc)?;
+    let octets = octets_of(alloc, words.as_slice())?;
+    match sheet.built(alloc, parts.get(1..).unwrap_or(&[]))? {
+        Built::Tree(tree) => of_tree(alloc, tree, octets.as_slice()),
+        Built::NoTree => Ok(format!(in alloc; "no tree")?),
+        Built::Unknown => Ok(format!(in alloc; "not understood")?),
+    }
+}
