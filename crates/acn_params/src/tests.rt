@@ -57,7 +57,7 @@ fn left(alloc: Global) -> Result<Scope, NoMemory> {
 }
 
 /// Where a path leads.
-#[derive(Clone, Copy, Debug, PartialEq, Eq)]
+#[derive(Clone, Copy, PartialEq, Eq)]
 enum Lead {
     To(u32),
     Nowhere,
