@@ -3,6 +3,16 @@ use acn_grammar::Ask;
 use acn_num::{NoMemory, RangeSet};
 use std::alloc::Global;
 
+// A test ran out of memory.
+#[derive(Debug, Drop)]
+struct OutOfMemory;
+
+impl From<NoMemory> for OutOfMemory {
+    fn from(_: NoMemory) -> Self {
+        OutOfMemory
+    }
+}
+
 // Whether the ask is added.
 fn is_heard(alloc: Global, heard: &mut Heard, field: &[u32], set: &RangeSet, wanted: Ask) -> bool {
     match heard.hear(alloc, field, set, &wanted) {
@@ -33,7 +43,7 @@ fn earlier_of(
 
 // A field of 0 to 3 that isn't 0, 2 and 1 has the number 3.
 #[test]
-fn the_least_number_that_is_left_is_found(rt: HostRuntime) -> Result<(), NoMemory> {
+fn the_least_number_that_is_left_is_found(rt: HostRuntime) -> Result<(), OutOfMemory> {
     let alloc = rt.alloc();
     let set = RangeSet::one(alloc, 0, 3)?;
     let mut heard = Heard::new(alloc);
@@ -49,7 +59,7 @@ fn the_least_number_that_is_left_is_found(rt: HostRuntime) -> Result<(), NoMemor
 
 // The second of two strings that share a size of 2 has 3 octets.
 #[test]
-fn a_conflict_names_what_contradicts(rt: HostRuntime) -> Result<(), NoMemory> {
+fn a_conflict_names_what_contradicts(rt: HostRuntime) -> Result<(), OutOfMemory> {
     let alloc = rt.alloc();
     let set = RangeSet::one(alloc, 0, 255)?;
     let mut heard = Heard::new(alloc);

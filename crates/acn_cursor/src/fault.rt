@@ -1,5 +1,5 @@
 /// Why there is no tree. `at` is the number of a token, from 0.
-#[derive(Clone, Copy, Debug, PartialEq, Eq)]
+#[derive(Clone, Copy, PartialEq, Eq)]
 pub enum ParseFault {
     /// No tree has these tokens. Reading stopped at this token, or behind the last.
     Syntax { at: u32 },

@@ -4,9 +4,19 @@ use crate::{
 };
 use std::alloc::Global;
 
+// A test ran out of memory.
+#[derive(Debug, Drop)]
+struct OutOfMemory;
+
+impl From<NoMemory> for OutOfMemory {
+    fn from(_: NoMemory) -> Self {
+        OutOfMemory
+    }
+}
+
 // The set of `0..10 EXCEPT 3 | 20`.
 #[test]
-fn a_union_of_an_except_has_its_numbers(rt: HostRuntime) -> Result<(), NoMemory> {
+fn a_union_of_an_except_has_its_numbers(rt: HostRuntime) -> Result<(), OutOfMemory> {
     let alloc = rt.alloc();
     let to_ten = RangeSet::one(alloc, 0, 10)?;
     let three = RangeSet::one(alloc, 3, 3)?;
@@ -25,7 +35,7 @@ fn a_union_of_an_except_has_its_numbers(rt: HostRuntime) -> Result<(), NoMemory>
 }
 
 #[test]
-fn a_meet_and_a_copy_have_their_numbers(rt: HostRuntime) -> Result<(), NoMemory> {
+fn a_meet_and_a_copy_have_their_numbers(rt: HostRuntime) -> Result<(), OutOfMemory> {
     let alloc = rt.alloc();
     let low = RangeSet::one(alloc, -9223372036854775809, 10)?;
     let high = RangeSet::one(alloc, 0, 18446744073709551616)?;
@@ -49,7 +59,7 @@ fn even_numbers(alloc: Global, count: u16) -> Result<Vec<RangeSet>, NoMemory> {
 }
 
 #[test]
-fn a_thousand_sets_are_joined(rt: HostRuntime) -> Result<(), NoMemory> {
+fn a_thousand_sets_are_joined(rt: HostRuntime) -> Result<(), OutOfMemory> {
     let alloc = rt.alloc();
     let evens = even_numbers(alloc, 1_000)?;
     let set = RangeSet::one(alloc, 1, 3)?.union_all(alloc, evens.as_slice())?;
@@ -101,7 +111,7 @@ fn widths_are_the_least_ones(rt: HostRuntime) {
 }
 
 #[test]
-fn lists_keep_their_items(rt: HostRuntime) -> Result<(), NoMemory> {
+fn lists_keep_their_items(rt: HostRuntime) -> Result<(), OutOfMemory> {
     let alloc = rt.alloc();
     let mut row = Row::new(alloc);
     row.push(7u32)?;

@@ -10,7 +10,7 @@ use std::cell::Cell;
 use std::test::Fail;
 
 fn named(alloc: Global, text: &str) -> Result<Name, Fail> {
-    Ok(Name::copy(alloc, text.as_bytes())?)
+    Ok(Name::copy(alloc, text.as_bytes()).ok().ok_or("memory ran out")?)
 }
 
 fn bytes_of(alloc: Global, text: &str) -> Result<Vec<u8>, AllocError> {
@@ -19,7 +19,8 @@ fn bytes_of(alloc: Global, text: &str) -> Result<Vec<u8>, AllocError> {
 
 // Adds a file with this text.
 fn add(alloc: Global, files: &mut MemFiles, name: &str, text: &str) -> Result<(), Fail> {
-    Ok(files.add(named(alloc, name)?, bytes_of(alloc, text)?)?)
+    let added = files.add(named(alloc, name)?, bytes_of(alloc, text)?);
+    Ok(added.ok().ok_or("memory ran out")?)
 }
 
 // Whether the file, read whole, has these bytes.
@@ -84,13 +85,17 @@ fn write_surely(out: &mut SureSink, bytes: &[u8]) -> Result<(), Failed>
 // Files that never fail, of which one has these bytes.
 fn sure_files(alloc: Global, name: &str, bytes: Vec<u8>) -> Result<SureFiles, Fail> {
     let mut files = SureFiles::new(alloc);
-    files.add(named(alloc, name)?, bytes)?;
+    files
+        .add(named(alloc, name)?, bytes)
+        .ok()
+        .ok_or("memory ran out")?;
     Ok(files)
 }
 
 // How many bytes a file that never fails has.
 fn sure_length(alloc: Global, files: &mut SureFiles, name: &str) -> Result<usize, Fail> {
-    Ok(read_surely(alloc, files, name)?.len())
+    let bytes = read_surely(alloc, files, name);
+    Ok(bytes.ok().ok_or("memory ran out")?.len())
 }
 
 #[test]
@@ -114,7 +119,7 @@ fn three_reads<S: Source>(source: &mut S) -> [Result<usize, Failed>; 3] {
 #[test]
 fn a_sure_input_ends(rt: HostRuntime) -> Result<(), Fail> {
     let mut source = SureSource::new(bytes_of(rt.alloc(), "text")?, 3);
-    assert_eq!(rt; three_reads(&mut source), [Ok(3), Ok(1), Ok(0)]);
+    assert!(rt; three_reads(&mut source) == [Ok(3), Ok(1), Ok(0)]);
     Ok(())
 }
 
@@ -129,7 +134,7 @@ fn a_sure_output_takes_all(rt: HostRuntime) -> Result<(), Fail> {
 #[test]
 fn an_input_in_pieces_of_one_octet_fails_in_the_middle(rt: HostRuntime) -> Result<(), Fail> {
     let mut source = MemSource::new(bytes_of(rt.alloc(), "abc")?, 1, vec![in rt.alloc(); 2]?);
-    assert_eq!(rt; three_reads(&mut source), [Ok(1), Ok(1), Err(Failed)]);
+    assert!(rt; three_reads(&mut source) == [Ok(1), Ok(1), Err(Failed)]);
     let mut piece = [0u8; 4];
     let last = source.read(&mut piece);
     assert!(rt; last == Ok(1) && piece[0] == b'c' && source.read(&mut piece) == Ok(0));
@@ -207,10 +212,10 @@ fn the_longest_file_is_read_and_one_byte_more_is_refused(rt: HostRuntime) -> Res
 fn a_reader_of_the_system_is_an_input(rt: HostRuntime) -> Result<(), Fail> {
     let mut source = StdInput::new(b"abc".as_slice());
     let mut piece = [0u8; 2];
-    assert_eq!(rt; source.read(&mut piece), Ok(2));
+    assert!(rt; source.read(&mut piece) == Ok(2));
     assert_eq!(rt; piece, *b"ab");
-    assert_eq!(rt; source.read(&mut piece), Ok(1));
-    assert_eq!(rt; source.read(&mut piece), Ok(0));
+    assert!(rt; source.read(&mut piece) == Ok(1));
+    assert!(rt; source.read(&mut piece) == Ok(0));
     Ok(())
 }
 
@@ -268,17 +273,18 @@ fn an_output_of_the_system_that_takes_a_part_is_given_the_rest(
     let slow = Slow {
         taken: Cell::new(0),
     };
-    write_all(&mut StdOutput::new(&slow), b"ten octets")?;
-    assert_eq!(rt; slow.taken.get(), 10);
+    let written = write_all(&mut StdOutput::new(&slow), b"ten octets");
+    assert!(rt; written == Ok(()) && slow.taken.get() == 10);
     Ok(())
 }
 
 #[test]
 fn outputs_of_the_system_write_and_count_what_takes_nothing(rt: HostRuntime) -> Result<(), Fail> {
-    write_all(&mut StdOutput::new(&rt), b"to the output\n")?;
-    write_all(&mut StdError::new(&rt.stderr()), b"to the error output\n")?;
-    assert_eq!(rt; StdOutput::new(&Full).write(b"x"), Err(Failed));
-    assert_eq!(rt; StdOutput::new(&Full).write(b""), Ok(0));
-    assert_eq!(rt; StdError::new(&Full).write(b"x"), Err(Failed));
+    let out = write_all(&mut StdOutput::new(&rt), b"to the output\n");
+    let err = write_all(&mut StdError::new(&rt.stderr()), b"to the error output\n");
+    assert!(rt; out == Ok(()) && err == Ok(()));
+    assert!(rt; StdOutput::new(&Full).write(b"x") == Err(Failed));
+    assert!(rt; StdOutput::new(&Full).write(b"") == Ok(0));
+    assert!(rt; StdError::new(&Full).write(b"x") == Err(Failed));
     Ok(())
 }

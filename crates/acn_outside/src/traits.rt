@@ -4,7 +4,7 @@ ghost use Rattle.acn_outside.specs.Counts.{Rose};
 ghost use Rattle.acn_outside.specs.Moves.{Takes, Gains, IsUsedUp, AreAt, EndsBy};
 
 /// A file, an input or an output failed, and its count of faults rose.
-#[derive(Clone, Copy, Debug, PartialEq, Eq)]
+#[derive(Clone, Copy, PartialEq, Eq)]
 pub struct Failed;
 
 /// Files by name. Names are compared byte by byte.

@@ -3,6 +3,16 @@ use acn_acn_syntax::AcnPath;
 use acn_num::{Name, NoMemory, Row};
 use std::alloc::Global;
 
+// A test ran out of memory.
+#[derive(Debug, Drop)]
+struct OutOfMemory;
+
+impl From<NoMemory> for OutOfMemory {
+    fn from(_: NoMemory) -> Self {
+        OutOfMemory
+    }
+}
+
 fn slot(alloc: Global, name: &[u8], number: u32, optional: bool) -> Result<ScopeField, NoMemory> {
     Ok(ScopeField::Slot(Name::copy(alloc, name)?, number, optional))
 }
@@ -162,14 +172,14 @@ fn first_other(alloc: Global, scope: &Scope, cases: &[Case]) -> Result<Option<us
 }
 
 #[test]
-fn paths_lead_to_slots_or_are_refused(rt: HostRuntime) -> Result<(), NoMemory> {
+fn paths_lead_to_slots_or_are_refused(rt: HostRuntime) -> Result<(), OutOfMemory> {
     let scope = scope(rt.alloc())?;
     assert_eq!(rt; first_other(rt.alloc(), &scope, INSIDE)?, None);
     Ok(())
 }
 
 #[test]
-fn what_is_left_is_seen_no_more(rt: HostRuntime) -> Result<(), NoMemory> {
+fn what_is_left_is_seen_no_more(rt: HostRuntime) -> Result<(), OutOfMemory> {
     let scope = left(rt.alloc())?;
     assert_eq!(rt; first_other(rt.alloc(), &scope, OUTSIDE)?, None);
     Ok(())

@@ -58,10 +58,11 @@ fn sink(alloc: Global, piece: usize, fail: &[u64]) -> Result<MemSink, AllocError
 fn outcome(alloc: Global, case: &Case<'_>) -> Result<Answer, Fail> {
     let words = words_of(alloc, case.words)?;
     let mut files = MemFiles::new(alloc, Vec::from_slice(alloc, case.file_fails)?);
-    files.add(
-        Name::copy(alloc, case.name.as_bytes())?,
-        Vec::from_slice(alloc, case.text.as_bytes())?,
-    )?;
+    let text = Vec::from_slice(alloc, case.text.as_bytes())?;
+    Name::copy(alloc, case.name.as_bytes())
+        .and_then(|name| files.add(name, text))
+        .ok()
+        .ok_or("memory ran out")?;
     let input = Vec::from_slice(alloc, case.input)?;
     let mut input = MemSource::new(
         input,
