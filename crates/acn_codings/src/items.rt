@@ -2,7 +2,6 @@ ghost use Rattle.std.specs.Prelude.{◌≡◌, ◌≤ℤ◌, ◌<◌, IfOk, IfSo
 ghost use Rattle.acn_num.specs.Ranges.{top};
 ghost use Rattle.acn_codings.specs.Items as spec;
 
-use crate::table::some_range;
 use acn_asn_syntax::Item;
 use acn_num::{NoMemory, RangeSet, Row, TOP, greater};
 use acn_set_elements::signed;
@@ -25,7 +24,7 @@ fn alone(alloc: Global, item: &Item) -> Result<RangeSet, NoMemory>
 {
     match written(item) {
         None => Ok(RangeSet::empty(alloc)),
-        Some(x) => some_range(alloc, *greater(&0, &x), x),
+        Some(x) => RangeSet::between(alloc, *greater(&0, &x), x),
     }
 }
 

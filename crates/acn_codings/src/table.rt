@@ -4,7 +4,8 @@ ghost use Rattle.acn_grammar.specs.Leaves as leaves;
 ghost use Rattle.acn_codings.specs.Tables as spec;
 
 use acn_acn_syntax::{MapLine, Signed};
-use acn_num::{GREATEST_NUMBER, LEAST_NUMBER, NoMemory, RangeSet, greater, is_at_most, less};
+use acn_leaf::is_number;
+use acn_num::{NoMemory, RangeSet, greater, is_at_most, less};
 use acn_set_elements::signed;
 use std::alloc::Global;
 
@@ -24,12 +25,6 @@ fn line_of(line: &MapLine) -> (i128, i128, i128)
         None => first,
     };
     (first, last, number_of(&line.image))
-}
-
-fn is_number(x: &i128) -> bool
-    ensures { result ≡ leaves.is_number x.now }
-{
-    is_at_most(&LEAST_NUMBER, x) && is_at_most(x, &GREATEST_NUMBER)
 }
 
 // The number as far from `to` as `at` is from `from`.
@@ -58,24 +53,11 @@ fn is_line(line: &(i128, i128, i128)) -> bool
     }
 }
 
-/// The numbers from one to another.
-pub fn some_range(alloc: Global, low: i128, high: i128) -> Result<RangeSet, NoMemory>
-    requires above { bottom ≤ℤ low }
-    requires below { high ≤ℤ top }
-    ensures { IfOk result (λ s. s ≡ some_range low high) }
-{
-    if low <= high {
-        RangeSet::one(alloc, low, high)
-    } else {
-        Ok(RangeSet::empty(alloc))
-    }
-}
-
 fn keys(alloc: Global, line: &(i128, i128, i128)) -> Result<RangeSet, NoMemory>
     requires { leaves.line_fine line.now ≡ true }
     ensures { IfOk result (λ s. s ≡ spec.keys line.now) }
 {
-    some_range(alloc, line.0, line.1)
+    RangeSet::between(alloc, line.0, line.1)
 }
 
 fn images(alloc: Global, line: &(i128, i128, i128)) -> Result<RangeSet, NoMemory>
@@ -83,7 +65,7 @@ fn images(alloc: Global, line: &(i128, i128, i128)) -> Result<RangeSet, NoMemory
     ensures { IfOk result (λ s. s ≡ spec.images line.now) }
 {
     let last = shifted(&line.2, &line.0, &line.1);
-    some_range(alloc, line.2, last)
+    RangeSet::between(alloc, line.2, last)
 }
 
 // The lesser of two numbers that may be there.
@@ -176,7 +158,7 @@ fn keys_between(
 {
     let first = shifted(&line.0, &line.2, low);
     let last = shifted(&line.0, &line.2, high);
-    some_range(alloc, *greater(&line.0, &first), *less(&line.1, &last))
+    RangeSet::between(alloc, *greater(&line.0, &first), *less(&line.1, &last))
 }
 
 // The same of a line that may be at fault.

@@ -34,19 +34,6 @@ fn upper(out: bool, x: &i128) -> i128
     if out { end - 1 } else { end }
 }
 
-// The range between two ends, or none where they are out of order.
-fn range(alloc: Global, low: &i128, high: &i128) -> Result<RangeSet, NoMemory>
-    requires low { bottom ≤ℤ low.now }
-    requires high { high.now ≤ℤ top }
-    ensures { IfOk result (λ s. s ≡ some_range low.now high.now) }
-{
-    if *low <= *high {
-        RangeSet::one(alloc, *low, *high)
-    } else {
-        Ok(RangeSet::empty(alloc))
-    }
-}
-
 /// One number.
 pub fn single(alloc: Global, x: &i128) -> Result<RangeSet, NoMemory>
     ensures { IfOk result (λ s. s ≡ sets.one x.now) }
@@ -66,7 +53,7 @@ pub fn between(
     ensures { IfOk result (λ s. s ≡ sets.between low.now low_out high.now high_out) }
 {
     match (low, high) {
-        (Some(low), Some(high)) => range(alloc, &lower(low_out, low), &upper(high_out, high)),
+        (Some(low), Some(high)) => RangeSet::between(alloc, lower(low_out, low), upper(high_out, high)),
         (Some(_), None) => Ok(RangeSet::empty(alloc)),
         (None, _) => Ok(RangeSet::empty(alloc)),
     }

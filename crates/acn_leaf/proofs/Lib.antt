@@ -1,7 +1,7 @@
 -- for acn_well_formed
 pub mod Blocks
 mod CodeLengths
--- for acn_well_formed and acn_check
+-- for acn_well_formed
 pub mod Differ
 mod NumParts
 -- for acn_check

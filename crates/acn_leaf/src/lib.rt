@@ -13,5 +13,6 @@ mod table_rules;
 pub use leaf_rules::{num_fine, same_text};
 pub use lengths::{code_lengths, fixed_width, width};
 pub use names::names_differ;
+pub use number_rules::{begins_number, can_be_little, flag_patterns_fine, is_number, is_range};
 pub use numbers::numbers_differ;
-pub use size_rules::{is_least, list_fine, sizing_fine, text_fine};
+pub use size_rules::{is_least, is_terminator, list_fine, sizing_fine, text_fine};

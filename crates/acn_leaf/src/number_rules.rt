@@ -75,15 +75,16 @@ fn is_digit_or_sign(octet: u32) -> bool
     (48 <= octet && octet <= 57) || octet == 43 || octet == 45
 }
 
-// Whether the first octet is a digit or a sign.
-fn begins_number(end: &Pattern) -> bool
+/// Whether the first octet of a terminator is a digit or a sign.
+pub fn begins_number(end: &Pattern) -> bool
     requires { leaves.is_terminator end.now ≡ true }
     ensures { result ≡ leaves.begins_number (octet_numbers end.now) }
 {
     is_digit_or_sign(first_octet(end.bits()))
 }
 
-fn flag_patterns_fine(ones: &Option<Pattern>, zeros: &Option<Pattern>) -> bool
+/// Whether the patterns of a BOOLEAN can be told apart: where both are given, they have one length and differ.
+pub fn flag_patterns_fine(ones: &Option<Pattern>, zeros: &Option<Pattern>) -> bool
     ensures { result ≡ leaves.flag_patterns_fine ones.now zeros.now }
 {
     match (ones, zeros) {
@@ -122,7 +123,7 @@ pub fn coding_fine(coding: &NumCoding) -> bool
     }
 }
 
-// Whether the octets can stand in the other order.
+/// Whether the octets can stand in the other order.
 pub fn can_be_little(coding: &NumCoding) -> bool
     ensures { result ≡ leaves.can_be_little coding.now }
 {
@@ -166,13 +167,14 @@ fn reaches_down_to(x: &i128, bound: u128) -> bool
     -(bound as i128) <= *x
 }
 
+/// Whether the number lies between `LEAST_NUMBER` and `GREATEST_NUMBER`.
 pub fn is_number(x: &i128) -> bool
     ensures { result ≡ leaves.is_number x.now }
 {
     reaches_down_to(x, 1 << 63) && lies_below(x, 1 << 64)
 }
 
-// Whether the set is this one range.
+/// Whether the set is this one range.
 pub fn is_range(low: &i128, high: &i128, set: &RangeSet) -> bool
     ensures { result ≡ leaves.is_range low.now high.now set.now }
 {

@@ -81,17 +81,6 @@ pub fn text_end(leaf: &TextLeaf, at: u64, n: u64) -> u64
     }
 }
 
-fn number_of(v: &Value) -> i128
-    ensures { result ≡ number_of_data (data_of v.now) }
-{
-    match v {
-        Value::Int(x) => *x,
-        Value::Bool(b) => i128::from(*b),
-        Value::Item(i) => i128::from(*i),
-        _ => 0,
-    }
-}
-
 /// The place behind the code of a number.
 pub fn number_end(leaf: &NumLeaf, at: u64, v: &Value) -> u64
     requires fine { IsTrue (num_fine leaf.now) }
@@ -99,7 +88,7 @@ pub fn number_end(leaf: &NumLeaf, at: u64, v: &Value) -> u64
     ensures value { result ≡ min (at + num_length leaf.now (number_of_data (data_of v.now))) (2 ^ 40) }
     ensures small { result ≤ 2 ^ 40 }
 {
-    behind(at, code_length(leaf, number_of(v)))
+    behind(at, code_length(leaf, v.number()))
 }
 
 /// The place behind contents that end at another place of their own: whole octets.

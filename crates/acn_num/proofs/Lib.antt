@@ -1,4 +1,4 @@
--- for acn_bits, acn_ints, acn_text, acn_check and acn_run
+-- for acn_grammar, acn_packet_laws, acn_tree, acn_bits, acn_ints, acn_text, acn_plain_read, acn_check and acn_run
 pub mod BitLists
 -- for acn_constraint and acn_run
 pub mod Members

@@ -57,6 +57,19 @@ impl RangeSet {
         Ok(RangeSet { ranges })
     }
 
+    /// The numbers from `low` to `high`, or none where these are out of order.
+    pub fn between(alloc: Global, low: i128, high: i128) -> Result<RangeSet, NoMemory>
+        requires above { bottom ≤ℤ low }
+        requires below { high ≤ℤ top }
+        ensures { IfOk result (λ s. s ≡ some_range low high) }
+    {
+        if low <= high {
+            RangeSet::one(alloc, low, high)
+        } else {
+            Ok(RangeSet::empty(alloc))
+        }
+    }
+
     /// The ranges, in ascending order. It takes no memory.
     pub fn ranges(&self) -> &[(i128, i128)]
         ensures same { result.now ≡ self.now }

@@ -5,16 +5,13 @@ ghost use Rattle.acn_num.specs.Bits.{bits};
 ghost use Rattle.acn_grammar.specs.Front.{Front};
 ghost use Rattle.acn_grammar.specs.ItemsNamed.{ItemsNamed};
 ghost use Rattle.acn_grammar.specs.View.{grammar_of, data_of};
-ghost use Rattle.acn_plain.specs.declared.decode.TheConstants.{MOST_PLAIN_BYTES};
+ghost use Rattle.acn_plain_read.specs.declared.decode.TheConstants.{MOST_PLAIN_BYTES};
 ghost use Rattle.acn_plain_read.specs.Answers.{OnlyFault, OnlyFront, Refuses};
 
 use acn_check::Checked;
 use acn_plain_read::read_packet;
 use acn_tree::{Refuse, Value};
 use std::alloc::Global;
-
-/// The most bytes from which a packet is read.
-pub const MOST_PLAIN_BYTES: usize = 4_294_967_296;
 
 /// Reads the value at the front of the bytes, and answers it with the number of its bits. What stands behind them isn't looked at.
 ///

@@ -3,4 +3,5 @@
 
 mod decode;
 
-pub use decode::{MOST_PLAIN_BYTES, plain_decode};
+pub use acn_plain_read::MOST_PLAIN_BYTES;
+pub use decode::plain_decode;

@@ -10,6 +10,7 @@ ghost use Rattle.acn_grammar.specs.View.{grammar_of, data_of};
 ghost use Rattle.acn_packet_laws.specs.Laws.{IsAccepted};
 ghost use Rattle.acn_plain_read.specs.Answers.{OnlyFault, OnlyFront, Refuses};
 ghost use Rattle.acn_plain_read.specs.Decoded.{Tells};
+ghost use Rattle.acn_plain_read.specs.declared.decode.TheConstants.{MOST_PLAIN_BYTES};
 ghost use Rattle.acn_grammar.specs.Sound.{Sound};
 
 use crate::read::read_node;
@@ -19,6 +20,9 @@ use acn_grammar::{Fault, Node, Refuse, Value};
 use acn_num::{Path, Row};
 use acn_packet_laws::{accepted_is_sound, fronts_exclude_failures, one_failure, one_front};
 use std::alloc::Global;
+
+/// The most bytes from which a packet is read.
+pub const MOST_PLAIN_BYTES: usize = 4_294_967_296;
 
 // The fault of a walk that stopped at this path.
 fn refusal(stop: Stop, path: Path) -> Refuse
@@ -34,7 +38,7 @@ fn refusal(stop: Stop, path: Path) -> Refuse
 fn read_root(alloc: Global, root: &Node, bytes: &[u8]) -> Result<(Value, u64), Refuse>
     requires sound { Sound (grammar_of root.now) 0 [] (λ s. false) (grammar_of root.now) }
     requires named { ItemsNamed (grammar_of root.now) }
-    requires few { length bytes.now ≤ 2 ^ 32 }
+    requires few { length bytes.now ≤ MOST_PLAIN_BYTES }
     ensures front { IfOk result (λ pair. Front (grammar_of root.now) (bits bytes.now) (data_of pair.0) pair.1) }
     ensures fault { IfErr result (Refuses (grammar_of root.now) (bits bytes.now)) }
 {
@@ -57,7 +61,7 @@ fn read_root(alloc: Global, root: &Node, bytes: &[u8]) -> Result<(Value, u64), R
 pub fn read_packet(alloc: Global, root: &Node, bytes: &[u8]) -> Result<(Value, u64), Refuse>
     requires accepted { IsAccepted (grammar_of root.now) }
     requires named { ItemsNamed (grammar_of root.now) }
-    requires few { length bytes.now ≤ 2 ^ 32 }
+    requires few { length bytes.now ≤ MOST_PLAIN_BYTES }
     ensures front { IfOk result (λ pair. Front (grammar_of root.now) (bits bytes.now) (data_of pair.0) pair.1) }
     ensures alone { IfOk result (λ pair. OnlyFront (grammar_of root.now) (bits bytes.now) (data_of pair.0) pair.1) }
     ensures fault { IfErr result (Refuses (grammar_of root.now) (bits bytes.now)) }

@@ -16,4 +16,4 @@ mod stop;
 mod strings;
 mod texts;
 
-pub use decode::read_packet;
+pub use decode::{MOST_PLAIN_BYTES, read_packet};

@@ -21,7 +21,7 @@ use crate::numbers::{note, without};
 use crate::presence::{count_of, is_there};
 use crate::sizes::{is_ended, read_size};
 use crate::slot::read_inserted;
-use crate::steps::{number_of, pad};
+use crate::steps::pad;
 use crate::stop::Stop;
 use crate::strings::{read_bits, read_octets};
 use crate::texts::read_text;
@@ -278,7 +278,7 @@ fn read_component(
         match read_node(alloc, node, root, cur, slots, path, inside) {
             Ok(value) => {
                 path.pop();
-                note(slots, slot, &number_of(&value))?;
+                note(slots, slot, &value.number())?;
                 Ok(Some(value))
             }
             Err(stop) => Err(stop),

@@ -55,15 +55,3 @@ pub fn number_value(leaf: &NumLeaf, x: &i128) -> Value
         NumKind::Null => Value::Null,
     }
 }
-
-/// The number of a leaf's value.
-pub fn number_of(v: &Value) -> i128
-    ensures { result ≡ number_of_data (data_of v.now) }
-{
-    match v {
-        Value::Int(x) => *x,
-        Value::Bool(b) => i128::from(*b),
-        Value::Item(i) => i128::from(*i),
-        _ => 0,
-    }
-}

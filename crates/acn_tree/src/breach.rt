@@ -37,21 +37,10 @@ fn reason(breach: Breach) -> UnfitReason
     }
 }
 
-fn number_of(v: &Value) -> i128
-    ensures { result ≡ number_of_data (data_of v.now) }
-{
-    match v {
-        Value::Int(x) => *x,
-        Value::Bool(b) => i128::from(*b),
-        Value::Item(i) => i128::from(*i),
-        _ => 0,
-    }
-}
-
 fn number_meets(leaf: &NumLeaf, v: &Value) -> Result<(), Breach>
     ensures { found result ≡ first_why (unless (has leaf.now.set (number_of_data (data_of v.now))) (out_of_range (number_of_data (data_of v.now)))) }
 {
-    let value = number_of(v);
+    let value = v.number();
     if leaf.set.holds(value) {
         Ok(())
     } else {
