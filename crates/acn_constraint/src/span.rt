@@ -53,7 +53,11 @@ pub fn between(
     ensures { IfOk result (λ s. s ≡ sets.between low.now low_out high.now high_out) }
 {
     match (low, high) {
-        (Some(low), Some(high)) => RangeSet::between(alloc, lower(low_out, low), upper(high_out, high)),
+        (Some(low), Some(high)) => RangeSet::between(
+            alloc,
+            lower(low_out, low),
+            upper(high_out, high),
+        ),
         (Some(_), None) => Ok(RangeSet::empty(alloc)),
         (None, _) => Ok(RangeSet::empty(alloc)),
     }

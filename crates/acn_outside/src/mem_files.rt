@@ -204,7 +204,9 @@ mod tests {
 
     #[test]
     fn a_new_name_begins_with_the_count_of_the_others(rt: HostRuntime) -> Result<(), Fail> {
-        let name = Name::copy(rt.alloc(), b"m.asn").ok().ok_or("memory ran out")?;
+        let name = Name::copy(rt.alloc(), b"m.asn")
+            .ok()
+            .ok_or("memory ran out")?;
         let mut files = MemFiles::new(rt.alloc(), vec![in rt.alloc(); 2]?);
         assert!(rt; fails_at_front(&mut files, "m.asn"));
         let added = files.add(name, Vec::new(rt.alloc()));

@@ -10,7 +10,11 @@ use std::cell::Cell;
 use std::test::Fail;
 
 fn named(alloc: Global, text: &str) -> Result<Name, Fail> {
-    Ok(Name::copy(alloc, text.as_bytes()).ok().ok_or("memory ran out")?)
+    Ok(
+        Name::copy(alloc, text.as_bytes())
+            .ok()
+            .ok_or("memory ran out")?,
+    )
 }
 
 fn bytes_of(alloc: Global, text: &str) -> Result<Vec<u8>, AllocError> {
