@@ -1,0 +1,10 @@
+mod Order
+mod Shared
+mod Sorted
+mod Placed
+mod Joined
+mod Numbered
+mod AtHome
+mod Noted
+mod Begun
+mod Followed

@@ -1,0 +1,4 @@
+pub mod Homes
+pub mod View
+pub mod Laws
+pub mod Joined
