@@ -253,6 +253,9 @@ record Reads (leaf : NumLeaf) (p : List Bool) (low : ℤ) (width : ℕ) (order :
 abbrev Begun : List Bool → NumLeaf → Type 0
 Begun p leaf = LeadAmbiguous p (Some leaf)
 
+begun : (leaf : NumLeaf) (p : List Bool) (x : ℤ) (bs : List Bool) → Code Any leaf x bs → take (length p) bs ≡ p → Begun p leaf
+begun leaf p x bs c e = record { number = x; code = bs; codes = c; begins = e }
+
 module _ (leaf : NumLeaf) (fine : IsTrue (num_fine leaf)) (plain : leaf.table ≡ None) (p : List Bool) where
   hit_begins : (low : ℤ) (width : ℕ) (order : List Bool → List Bool) → Reads leaf p low width order → list_any (hits low (width - length p) (number (order p))) (images_of leaf) ≡ true → Begun p leaf
   hit_begins low width order r h =
@@ -264,16 +267,16 @@ module _ (leaf : NumLeaf) (fine : IsTrue (num_fine leaf)) (plain : leaf.table �
       let far : distance low t.y ≡ number (order c.0) = ap (distance low) (sym same ∙ k.1) ∙ distance_of low (number (order c.0)) in
       let long : length p ≤ length c.0 = omega (arith, r.wide, k.0) in
       let split : number (order c.0) / 2 ^ (length c.0 - length p) ≡ number (order p) = ap (λ (w : ℕ). number (order c.0) / 2 ^ (w - length p)) k.0 ∙ (ap (λ (m : ℕ). m / 2 ^ (width - length p)) (sym far) ∙ t.same) in
-      (i.x, c.0, c.1, r.to c.0 long split)
+      begun leaf p i.x c.0 c.1 (r.to c.0 long split)
 
   begins_hit : (low : ℤ) (width : ℕ) (order : List Bool → List Bool) → Reads leaf p low width order → Begun p leaf → list_any (hits low (width - length p) (number (order p))) (images_of leaf) ≡ true
   begins_hit low width order r b =
-      let c = b.2 in
-      let k = r.code b.0 b.1 c in
-      let far : distance low c.image ≡ number (order b.1) = ap (distance low) k.1 ∙ distance_of low (number (order b.1)) in
-      let long : length p ≤ length b.1 = omega (arith, r.wide, k.0) in
-      let split : distance low c.image / 2 ^ (width - length p) ≡ number (order p) = ap (λ (m : ℕ). m / 2 ^ (width - length p)) far ∙ (ap (λ (w : ℕ). number (order b.1) / 2 ^ (w - length p)) (sym k.0) ∙ r.from b.1 long b.3) in
-      any_hit low (width - length p) (number (order p)) (images_of leaf) c.image (image_has leaf b.0 c.image c.permitted c.maps) (subst (λ (y : ℤ). low ≤ℤ y) (sym k.1) (above_low low (number (order b.1)))) split
+      let c = b.codes in
+      let k = r.code b.number b.code c in
+      let far : distance low c.image ≡ number (order b.code) = ap (distance low) k.1 ∙ distance_of low (number (order b.code)) in
+      let long : length p ≤ length b.code = omega (arith, r.wide, k.0) in
+      let split : distance low c.image / 2 ^ (width - length p) ≡ number (order p) = ap (λ (m : ℕ). m / 2 ^ (width - length p)) far ∙ (ap (λ (w : ℕ). number (order b.code) / 2 ^ (w - length p)) (sym k.0) ∙ r.from b.code long b.begins) in
+      any_hit low (width - length p) (number (order p)) (images_of leaf) c.image (image_has leaf b.number c.image c.permitted c.maps) (subst (λ (y : ℤ). low ≤ℤ y) (sym k.1) (above_low low (number (order b.code)))) split
 
   -- the code in the coding that the leaf has
   code_as : (coding : NumCoding) → leaf.coding ≡ coding → leaf.little ≡ false → (x : ℤ) (bs : List Bool) (c : Code Any leaf x bs) → CodingCode Any coding false c.image bs
@@ -378,8 +381,8 @@ filled-length p n h = omega (arith, length-append p (replicate (n - length p) fa
 module _ (leaf : NumLeaf) (fine : IsTrue (num_fine leaf)) (plain : leaf.table ≡ None) (p : List Bool) (some : 1 ≤ length p) where
   two_patterns : (a b : List Bool) → leaf.coding ≡ Flag (Some a) (Some b) → (begins p a || begins p b) ≡ true → Begun p leaf
   two_patterns a b e h = either {F = Begun p leaf} (begins p a) (begins p b) h
-      (λ q. (pos 1, a, flag_code leaf fine plain p (Some a) (Some b) e (pos 1) a (omega (arith, ints)) (omega (arith, ints)) (inl (refl, refl)), begins_is p a q))
-      (λ q. (pos 0, b, flag_code leaf fine plain p (Some a) (Some b) e (pos 0) b (omega (arith, ints)) (omega (arith, ints)) (inr (refl, refl)), begins_is p b q))
+      (λ q. begun leaf p (pos 1) a (flag_code leaf fine plain p (Some a) (Some b) e (pos 1) a (omega (arith, ints)) (omega (arith, ints)) (inl (refl, refl))) (begins_is p a q))
+      (λ q. begun leaf p (pos 0) b (flag_code leaf fine plain p (Some a) (Some b) e (pos 0) b (omega (arith, ints)) (omega (arith, ints)) (inr (refl, refl))) (begins_is p b q))
 
   -- with one pattern every other one of its length is a code, so one of them begins so
   one_pattern : (a : List Bool) → leaf.coding ≡ Flag (Some a) None → length p ≤ length a → Begun p leaf
@@ -389,8 +392,8 @@ module _ (leaf : NumLeaf) (fine : IsTrue (num_fine leaf)) (plain : leaf.table �
       c = filled_to p (length a)
 
       by : (t : Bool) → same_bits c a ≡ t → Begun p leaf
-      by true h = (pos 1, c, flag_code leaf fine plain p (Some a) None e (pos 1) c (omega (arith, ints)) (omega (arith, ints)) (inl (refl, same_bits-is c a h)), take-append_seam p (replicate (length a - length p) false))
-      by false h = (pos 0, c, flag_code leaf fine plain p (Some a) None e (pos 0) c (omega (arith, ints)) (omega (arith, ints)) (inr (refl, (filled-length p (length a) w, patterns_differ c a h))), take-append_seam p (replicate (length a - length p) false))
+      by true h = begun leaf p (pos 1) c (flag_code leaf fine plain p (Some a) None e (pos 1) c (omega (arith, ints)) (omega (arith, ints)) (inl (refl, same_bits-is c a h))) (take-append_seam p (replicate (length a - length p) false))
+      by false h = begun leaf p (pos 0) c (flag_code leaf fine plain p (Some a) None e (pos 0) c (omega (arith, ints)) (omega (arith, ints)) (inr (refl, (filled-length p (length a) w, patterns_differ c a h)))) (take-append_seam p (replicate (length a - length p) false))
 
   other_pattern : (b : List Bool) → leaf.coding ≡ Flag None (Some b) → length p ≤ length b → Begun p leaf
   other_pattern b e w = by (same_bits c b) refl
@@ -399,13 +402,13 @@ module _ (leaf : NumLeaf) (fine : IsTrue (num_fine leaf)) (plain : leaf.table �
       c = filled_to p (length b)
 
       by : (t : Bool) → same_bits c b ≡ t → Begun p leaf
-      by true h = (pos 0, c, flag_code leaf fine plain p None (Some b) e (pos 0) c (omega (arith, ints)) (omega (arith, ints)) (inl (refl, same_bits-is c b h)), take-append_seam p (replicate (length b - length p) false))
-      by false h = (pos 1, c, flag_code leaf fine plain p None (Some b) e (pos 1) c (omega (arith, ints)) (omega (arith, ints)) (inr (refl, (filled-length p (length b) w, patterns_differ c b h))), take-append_seam p (replicate (length b - length p) false))
+      by true h = begun leaf p (pos 0) c (flag_code leaf fine plain p None (Some b) e (pos 0) c (omega (arith, ints)) (omega (arith, ints)) (inl (refl, same_bits-is c b h))) (take-append_seam p (replicate (length b - length p) false))
+      by false h = begun leaf p (pos 1) c (flag_code leaf fine plain p None (Some b) e (pos 1) c (omega (arith, ints)) (omega (arith, ints)) (inr (refl, (filled-length p (length b) w, patterns_differ c b h)))) (take-append_seam p (replicate (length b - length p) false))
 
   one_bit : leaf.coding ≡ Flag None None → (q : List Bool) → q ≡ p → length q ≤ 1 → Begun p leaf
   one_bit e [] is w = absurd (let l = ap length is in omega arith)
-  one_bit e (true ∷ []) is w = (pos 1, true ∷ [], flag_code leaf fine plain p None None e (pos 1) (true ∷ []) (omega (arith, ints)) (omega (arith, ints)) (1, refl, record { width = refl; value = refl }), subst (λ (z : List Bool). take (length z) (true ∷ []) ≡ z) is refl)
-  one_bit e (false ∷ []) is w = (pos 0, false ∷ [], flag_code leaf fine plain p None None e (pos 0) (false ∷ []) (omega (arith, ints)) (omega (arith, ints)) (0, refl, record { width = refl; value = refl }), subst (λ (z : List Bool). take (length z) (false ∷ []) ≡ z) is refl)
+  one_bit e (true ∷ []) is w = begun leaf p (pos 1) (true ∷ []) (flag_code leaf fine plain p None None e (pos 1) (true ∷ []) (omega (arith, ints)) (omega (arith, ints)) (1, refl, record { width = refl; value = refl })) (subst (λ (z : List Bool). take (length z) (true ∷ []) ≡ z) is refl)
+  one_bit e (false ∷ []) is w = begun leaf p (pos 0) (false ∷ []) (flag_code leaf fine plain p None None e (pos 0) (false ∷ []) (omega (arith, ints)) (omega (arith, ints)) (0, refl, record { width = refl; value = refl })) (subst (λ (z : List Bool). take (length z) (false ∷ []) ≡ z) is refl)
   one_bit e (x ∷ y ∷ q) is w = absurd (omega arith)
 
   long_enough : (z : List Bool) → take (length p) z ≡ p → length p ≤ length z

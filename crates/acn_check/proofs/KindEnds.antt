@@ -228,13 +228,13 @@ module _ (root : Grammar) (tree : IsTree root) where
   take_end : (k : ℕ) (at : Stand) (f : CheckFault) → NodeAt root k at → ambiguous_at k (seen at) ≡ Some f → (number_of_fault f ≡ 13) × Evidence root f k 0
   take_end k at f is e =
       let t = form_take at.path at.form f (formed_at k at is) e in
-      (ap number_of_fault (sym t.0), subst (λ x. Evidence root x k 0) t.0 (at, is, refl, t.1))
+      (ap number_of_fault (sym t.0), subst (λ x. Evidence root x k 0) t.0 (record { at = at; is_at = is; path_is = refl; ambiguous = t.1 }))
 
   give_end : (f : CheckFault) (k u : ℕ) → number_of_fault f ≡ 13 → Evidence root f k u → (at : Stand) × NodeAt root k at × (ambiguous_at k (seen at) ≡ None → ⊥)
   give_end f k u is e =
       let o = only_terminator_ambiguous f is in
       let e' : Evidence root (terminator_ambiguous o.0) k u = subst (λ x. Evidence root x k u) o.1 e in
-      (e'.0, e'.1, λ none. form_give e'.0.path e'.0.form (formed_at k e'.0 e'.1) e'.3 none)
+      (e'.at, e'.is_at, λ none. form_give e'.at.path e'.at.form (formed_at k e'.at e'.is_at) e'.ambiguous none)
 
   pub ambiguous_law : PlainLaw root 13 ambiguous_at
   ambiguous_law = record {

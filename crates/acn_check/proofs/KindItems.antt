@@ -91,14 +91,14 @@ module _ (root : Grammar) (tree : IsTree root) where
   -- an alternative without an item is found
   missing : (k u i : ℕ) (at : Stand) (cases : Alternatives) (s : ℕ) (path : List ℕ) → NodeAt root k at → at.form ≡ choice cases (Item s) → Evidence root (no_item path i) k u → ((c : List ℕ × List Test) → slice_get (conditions_of cases) i ≡ Some c → one at.path s i c ≡ None) → ⊥
   missing k u i at cases s path is form e all =
-      let at' = e.4.at in
-      let same = same_node root k at' at e.4.is_at is in
-      let form' : at'.form ≡ choice e.0 (Item e.1) = choice_is root at'.form e.0 (Item e.1) e.4.form_is in
-      let both = same_item e.0 cases e.1 s (sym form' ∙ (ap (λ (x : Stand). x.form) same ∙ form)) in
-      let here : slice_get (conditions_of cases) i ≡ Some (e.2, e.3) = ap (λ cs. slice_get (conditions_of cs) i) (sym both.0) ∙ e.5 in
-      let items : items_of root e.1 ≡ items_at s = items_are e.1 ∙ ap items_at both.1 in
-      let none = not_false (is_item (items_at s) e.2) (λ has. e.6 (subst (λ (l : Items). Contains (map (λ x. x.0) l) e.2) (sym items) (item_contains (items_at s) e.2 has))) in
-      only_none (not (is_item (items_at s) e.2)) (no_item at.path i) none (all (e.2, e.3) here)
+      let at' = e.choice_is.at in
+      let same = same_node root k at' at e.choice_is.is_at is in
+      let form' : at'.form ≡ choice e.cases (Item e.slot) = choice_is root at'.form e.cases (Item e.slot) e.choice_is.form_is in
+      let both = same_item e.cases cases e.slot s (sym form' ∙ (ap (λ (x : Stand). x.form) same ∙ form)) in
+      let here : slice_get (conditions_of cases) i ≡ Some (e.name, e.tests) = ap (λ cs. slice_get (conditions_of cs) i) (sym both.0) ∙ e.is_alternative in
+      let items : items_of root e.slot ≡ items_at s = items_are e.slot ∙ ap items_at both.1 in
+      let none = not_false (is_item (items_at s) e.name) (λ has. e.no_item (subst (λ (l : Items). Contains (map (λ x. x.0) l) e.name) (sym items) (item_contains (items_at s) e.name has))) in
+      only_none (not (is_item (items_at s) e.name)) (no_item at.path i) none (all (e.name, e.tests) here)
 
   lower : (i j : ℕ) → Before root (0 ∷ i ∷ 0 ∷ []) (0 ∷ j ∷ 0 ∷ []) → i < j
   lower i j (inl h) = absurd (omega arith)
@@ -114,15 +114,15 @@ module _ (root : Grammar) (tree : IsTree root) where
       record {
         use_here = 0;
         kind = ap number_of_fault (sym what);
-        holds = subst (λ x. Evidence root x k 0) what (
-          b.cases,
-          b.slot,
-          r.item.0,
-          r.item.1,
-          record { at = at; is_at = is; path_is = refl; form_is = is_choice root at.form b.cases (Item b.slot) b.form_is },
-          r.is_item,
-          λ c. not_both (is_item (items_at b.slot) r.item.0) o.0 (contains_item (items_at b.slot) r.item.0 (subst (λ (l : Items). Contains (map (λ x. x.0) l) r.item.0) (items_are b.slot) c)),
-        );
+        holds = subst (λ x. Evidence root x k 0) what (record {
+          cases = b.cases;
+          slot = b.slot;
+          choice_is = record { at = at; is_at = is; path_is = refl; form_is = is_choice root at.form b.cases (Item b.slot) b.form_is };
+          name = r.item.0;
+          tests = r.item.1;
+          is_alternative = r.is_item;
+          no_item = λ c. not_both (is_item (items_at b.slot) r.item.0) o.0 (contains_item (items_at b.slot) r.item.0 (subst (λ (l : Items). Contains (map (λ x. x.0) l) r.item.0) (items_are b.slot) c));
+        });
         first = λ g u is' e before.
             let g' = only_no_item g is' in
             let less = lower g'.1 r.place (subst (λ x. Before root (tail x u) (0 ∷ r.place ∷ 0 ∷ [])) g'.2 (subst (λ x. Before root (tail g u) (tail x 0)) (sym what) before)) in
@@ -131,15 +131,15 @@ module _ (root : Grammar) (tree : IsTree root) where
 
   pub item_law : NodeLaw root 7 (no_item_at table)
   item_law = record {
-    stands = λ f k u is e. (let g = only_no_item f is in let e' : Evidence root (no_item g.0 g.1) k u = subst (λ x. Evidence root x k u) g.2 e in (e'.4.at, e'.4.is_at));
+    stands = λ f k u is e. (let g = only_no_item f is in let e' : Evidence root (no_item g.0 g.1) k u = subst (λ x. Evidence root x k u) g.2 e in (e'.choice_is.at, e'.choice_is.is_at));
     found = λ k at f is e.
         let b = by_item_of table at.path at.form f e in
         found_item k at f b is (first_some (one at.path b.slot) 0 (conditions_of b.cases) f (ap (without_item table at.path) (sym b.form_is) ∙ e));
     none = λ k at is e f u is' evidence.
         let g = only_no_item f is' in
         let e' : Evidence root (no_item g.0 g.1) k u = subst (λ x. Evidence root x k u) g.2 evidence in
-        let at' = e'.4.at in
-        let same = same_node root k at' at e'.4.is_at is in
-        let form : at.form ≡ choice e'.0 (Item e'.1) = sym (ap (λ (x : Stand). x.form) same) ∙ choice_is root at'.form e'.0 (Item e'.1) e'.4.form_is in
-        missing k u g.1 at e'.0 e'.1 g.0 is form e' (λ c h. first_none (one at.path e'.1) 0 (conditions_of e'.0) (ap (without_item table at.path) (sym form) ∙ e) g.1 g.1 c (omega arith) h);
+        let at' = e'.choice_is.at in
+        let same = same_node root k at' at e'.choice_is.is_at is in
+        let form : at.form ≡ choice e'.cases (Item e'.slot) = sym (ap (λ (x : Stand). x.form) same) ∙ choice_is root at'.form e'.cases (Item e'.slot) e'.choice_is.form_is in
+        missing k u g.1 at e'.cases e'.slot g.0 is form e' (λ c h. first_none (one at.path e'.slot) 0 (conditions_of e'.cases) (ap (without_item table at.path) (sym form) ∙ e) g.1 g.1 c (omega arith) h);
   }

@@ -154,13 +154,13 @@ module _ (root : Grammar) (tree : IsTree root) where
   missing : (k u i j : ℕ) (values : Env) (at : Stand) (cases : Alternatives) (path : List ℕ) → NodeAt root k at → at.form ≡ choice cases Tests → Evidence root (overlap path i j values) k u
       → ((c d : Case) → slice_get (conditions_of cases) i ≡ Some c → slice_get (conditions_of cases) j ≡ Some d → i < j → overlapping table at.path i c.1 j d.1 ≡ None) → ⊥
   missing k u i j values at cases path is form e all =
-      let at' = e.1.at in
-      let v = e.2 in
-      let same = same_node root k at' at e.1.is_at is in
-      let both : e.0 ≡ cases = same_cases e.0 cases Tests Tests (sym (choice_is root at'.form e.0 Tests e.1.form_is) ∙ (ap (λ (x : Stand). x.form) same ∙ form)) in
+      let at' = e.choice_is.at in
+      let v = e.overlaps in
+      let same = same_node root k at' at e.choice_is.is_at is in
+      let both : e.cases ≡ cases = same_cases e.cases cases Tests Tests (sym (choice_is root at'.form e.cases Tests e.choice_is.form_is) ∙ (ap (λ (x : Stand). x.form) same ∙ form)) in
       let one = ap (λ cs. slice_get (conditions_of cs) i) (sym both) ∙ v.is_one in
       let other = ap (λ cs. slice_get (conditions_of cs) j) (sym both) ∙ v.is_other in
-      is_held e.0 i j values v (none_mapped at.path i j (both_hold table v.one.1 v.other.1) (all v.one v.other one other v.in_order))
+      is_held e.cases i j values v (none_mapped at.path i j (both_hold table v.one.1 v.other.1) (all v.one v.other one other v.in_order))
 
   lower : (a b i j : ℕ) → Before root (0 ∷ a ∷ b ∷ []) (0 ∷ i ∷ j ∷ []) → (a < i) ⊎ ((a ≡ i) × (b < j))
   lower a b i j (inl h) = absurd (omega arith)
@@ -177,11 +177,11 @@ module _ (root : Grammar) (tree : IsTree root) where
       record {
         use_here = 0;
         kind = ap number_of_fault (sym o.2);
-        holds = subst (λ x. Evidence root x k 0) o.2 (
-          b.cases,
-          record { at = at; is_at = is; path_is = refl; form_is = is_choice root at.form b.cases Tests b.form_is },
-          overlap_of b.cases r.one r.other r.c r.d o.0 r.in_order r.is_one r.is_other (both_are_held r.c.1 r.d.1 o.0 o.1),
-        );
+        holds = subst (λ x. Evidence root x k 0) o.2 (record {
+          cases = b.cases;
+          choice_is = record { at = at; is_at = is; path_is = refl; form_is = is_choice root at.form b.cases Tests b.form_is };
+          overlaps = overlap_of b.cases r.one r.other r.c r.d o.0 r.in_order r.is_one r.is_other (both_are_held r.c.1 r.d.1 o.0 o.1);
+        });
         first = λ h u is' e before.
             let w = only_overlap h is' in
             let less = lower w.1 w.2 r.one r.other (subst (λ x. Before root (tail x u) (0 ∷ r.one ∷ r.other ∷ [])) w.4 (subst (λ x. Before root (tail h u) (tail x 0)) (sym o.2) before)) in
@@ -190,15 +190,15 @@ module _ (root : Grammar) (tree : IsTree root) where
 
   pub pair_law : NodeLaw root 4 (overlap_at table)
   pair_law = record {
-    stands = λ f k u is e. (let w = only_overlap f is in let e' : Evidence root (overlap w.0 w.1 w.2 w.3) k u = subst (λ x. Evidence root x k u) w.4 e in (e'.1.at, e'.1.is_at));
+    stands = λ f k u is e. (let w = only_overlap f is in let e' : Evidence root (overlap w.0 w.1 w.2 w.3) k u = subst (λ x. Evidence root x k u) w.4 e in (e'.choice_is.at, e'.choice_is.is_at));
     found = λ k at f is e.
         let b = by_tests_of table at.path at.form f e in
         found_pair k at f b is (pairs_some table at.path 0 (conditions_of b.cases) f (ap (overlap_in table at.path) (sym b.form_is) ∙ e));
     none = λ k at is e f u is' evidence.
         let w = only_overlap f is' in
         let e' : Evidence root (overlap w.0 w.1 w.2 w.3) k u = subst (λ x. Evidence root x k u) w.4 evidence in
-        let at' = e'.1.at in
-        let same = same_node root k at' at e'.1.is_at is in
-        let form : at.form ≡ choice e'.0 Tests = sym (ap (λ (x : Stand). x.form) same) ∙ choice_is root at'.form e'.0 Tests e'.1.form_is in
-        missing k u w.1 w.2 w.3 at e'.0 w.0 is form e' (λ c d p q l. pairs_none table at.path 0 (conditions_of e'.0) (ap (overlap_in table at.path) (sym form) ∙ e) w.1 w.2 w.1 w.2 c d (omega arith) (omega arith) p q l);
+        let at' = e'.choice_is.at in
+        let same = same_node root k at' at e'.choice_is.is_at is in
+        let form : at.form ≡ choice e'.cases Tests = sym (ap (λ (x : Stand). x.form) same) ∙ choice_is root at'.form e'.cases Tests e'.choice_is.form_is in
+        missing k u w.1 w.2 w.3 at e'.cases w.0 is form e' (λ c d p q l. pairs_none table at.path 0 (conditions_of e'.cases) (ap (overlap_in table at.path) (sym form) ∙ e) w.1 w.2 w.1 w.2 c d (omega arith) (omega arith) p q l);
   }

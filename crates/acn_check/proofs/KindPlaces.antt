@@ -1,9 +1,9 @@
 -- Faults of nodes by themselves: several conditions on a component, mixed alternatives, too many open slots.
-use Rattle.std.proofs.Common.{◌≡◌, ◌⊎◌, inl, inr, ℕ, zero, suc, ◌<◌, true, not, ◌&&◌, ◌||◌, List, [], ◌∷◌, length, Some, None, refl, sym, ap, ◌∙◌, subst, arith, nat_lt}
+use Rattle.std.proofs.Common.{◌≡◌, ℕ, zero, suc, ◌<◌, true, not, ◌&&◌, ◌||◌, List, [], ◌∷◌, length, Some, None, refl, sym, ap, ◌∙◌, subst, arith, nat_lt}
 use Rattle.std.specs.Prelude.{slice_get}
 use Rattle.std.specs.List.{list_any}
 use Rattle.std.proofs.lemmas.Bool.Decides.{nat_tests}
-use Rattle.acn_grammar.specs.Check.{CheckFault, absent_unclear, mixed_choice, too_many_open, Evidence, NodeAt, IsChoice, open_at, number_of_fault}
+use Rattle.acn_grammar.specs.Check.{CheckFault, absent_unclear, mixed_choice, too_many_open, a_determinant, one_without, Evidence, IsMixedWith, HasMoreConditions, NodeAt, IsChoice, open_at, number_of_fault}
 use Rattle.acn_grammar.specs.Grammar.{Grammar, Form, Alternatives, num, octets, bits, text, seq, list, choice, contained}
 use Rattle.acn_grammar.specs.Tree.{has_tests}
 use Rattle.acn_grammar.specs.Walk.{Stand, Role, root_node, a_component, an_inserted, an_alternative, an_element, a_content, presence_tests, conditions_of}
@@ -89,12 +89,7 @@ mixed_choice_of path (seq _ home) f e = cc
 mixed_choice_of path (list sizing g) f e = cc
 mixed_choice_of path (contained sizing g) f e = cc
 
--- a component with more than one condition
-abbrev More : Role → Type 0
-More (a_component one) = 1 < length (presence_tests one.presence)
-More _ = ⊥
-
-true_more : (role : Role) → (is_component role && nat_lt 1 (length (tag_of role).tests)) ≡ true → More role
+true_more : (role : Role) → (is_component role && nat_lt 1 (length (tag_of role).tests)) ≡ true → HasMoreConditions role
 true_more (a_component one) h = ltb-true 1 (length (presence_tests one.presence)) h
 true_more root_node h = cc
 true_more (an_inserted name slot) h = cc
@@ -102,7 +97,7 @@ true_more (an_alternative one) h = cc
 true_more an_element h = cc
 true_more a_content h = cc
 
-more_true : (role : Role) → More role → (is_component role && nat_lt 1 (length (tag_of role).tests)) ≡ true
+more_true : (role : Role) → HasMoreConditions role → (is_component role && nat_lt 1 (length (tag_of role).tests)) ≡ true
 more_true (a_component one) h = lt-ltb 1 (length (presence_tests one.presence)) h
 more_true root_node h = absurd h
 more_true (an_inserted name slot) h = absurd h
@@ -116,13 +111,13 @@ module _ (root : Grammar) where
   take_unclear : (k : ℕ) (at : Stand) (f : CheckFault) → NodeAt root k at → unclear k (seen at) ≡ Some f → (number_of_fault f ≡ 5) × Evidence root f k 0
   take_unclear k at f is e =
       let o = only_true (is_component at.role && nat_lt 1 (length (tag_of at.role).tests)) (absent_unclear at.path) f e in
-      (ap number_of_fault (sym o.1), subst (λ x. Evidence root x k 0) o.1 (at, is, refl, true_more at.role o.0))
+      (ap number_of_fault (sym o.1), subst (λ x. Evidence root x k 0) o.1 (record { at = at; is_at = is; path_is = refl; more = true_more at.role o.0 }))
 
   give_unclear : (f : CheckFault) (k u : ℕ) → number_of_fault f ≡ 5 → Evidence root f k u → (at : Stand) × NodeAt root k at × (unclear k (seen at) ≡ None → ⊥)
   give_unclear f k u is e =
       let o = only_absent_unclear f is in
       let e' : Evidence root (absent_unclear o.0) k u = subst (λ x. Evidence root x k u) o.1 e in
-      (e'.0, e'.1, λ none. only_none (is_component e'.0.role && nat_lt 1 (length (tag_of e'.0.role).tests)) (absent_unclear e'.0.path) (more_true e'.0.role e'.3) none)
+      (e'.at, e'.is_at, λ none. only_none (is_component e'.at.role && nat_lt 1 (length (tag_of e'.at.role).tests)) (absent_unclear e'.at.path) (more_true e'.at.role e'.more) none)
 
   pub unclear_law : PlainLaw root 5 unclear
   unclear_law = record {
@@ -140,22 +135,33 @@ module _ (root : Grammar) where
       let o = only_true (list_any has_tests cases && (by_item c.rule || list_any (λ x. not (has_tests x)) cases)) (mixed_choice at.path) f (ap (mixed_in at.path) (sym c.form_is) ∙ e) in
       let t = and_parts (list_any has_tests cases) (by_item c.rule || list_any (λ x. not (has_tests x)) cases) o.0 in
       let one = some_with cases t.0 in
-      let why = either {F = ((s : ℕ) × (c.rule ≡ Item s)) ⊎ ((j : ℕ) × (other : Case) × (slice_get cases j ≡ Some other) × (other.1 ≡ []))} (by_item c.rule) (list_any (λ x. not (has_tests x)) cases) t.1 (λ q. inl (item_is c.rule q)) (λ q. inr (some_without cases q)) in
-      (ap number_of_fault (sym o.1), subst (λ x. Evidence root x k 0) o.1 (c.cases, c.rule, record { at = at; is_at = is; path_is = refl; form_is = is_choice root at.form c.cases c.rule c.form_is }, one.0, one.1, one.2, one.3, why))
+      let beside = either {F = IsMixedWith root c.cases c.rule} (by_item c.rule) (list_any (λ x. not (has_tests x)) cases) t.1 (λ q. let i = item_is c.rule q in a_determinant i.0 i.1) (λ q. let w = some_without cases q in one_without w.0 w.1 w.2 w.3) in (
+        ap number_of_fault (sym o.1),
+        subst (λ x. Evidence root x k 0) o.1 (record {
+          cases = c.cases;
+          rule = c.rule;
+          choice_is = record { at = at; is_at = is; path_is = refl; form_is = is_choice root at.form c.cases c.rule c.form_is };
+          first = one.0;
+          one = one.1;
+          is_one = one.2;
+          some_one = one.3;
+          beside = beside;
+        }),
+      )
 
   give_mixed : (f : CheckFault) (k u : ℕ) → number_of_fault f ≡ 8 → Evidence root f k u → (at : Stand) × NodeAt root k at × (mixed_at k (seen at) ≡ None → ⊥)
   give_mixed f k u is e =
       let o = only_mixed_choice f is in
       let e' : Evidence root (mixed_choice o.0) k u = subst (λ x. Evidence root x k u) o.1 e in
-      let at = e'.2.at in
-      let form = choice_is root at.form e'.0 e'.1 e'.2.form_is in
-      let cases = conditions_of e'.0 in
-      let holds = and_from (list_any has_tests cases) (by_item e'.1 || list_any (λ x. not (has_tests x)) cases) (with_some cases e'.3 e'.4 e'.5 e'.6) (why e'.1 cases e'.7) in
-      (at, e'.2.is_at, λ none. only_none (list_any has_tests cases && (by_item e'.1 || list_any (λ x. not (has_tests x)) cases)) (mixed_choice at.path) holds (sym (ap (mixed_in at.path) form) ∙ none))
+      let at = e'.choice_is.at in
+      let form = choice_is root at.form e'.cases e'.rule e'.choice_is.form_is in
+      let cases = conditions_of e'.cases in
+      let holds = and_from (list_any has_tests cases) (by_item e'.rule || list_any (λ x. not (has_tests x)) cases) (with_some cases e'.first e'.one e'.is_one e'.some_one) (why e'.rule e'.cases e'.beside) in
+      (at, e'.choice_is.is_at, λ none. only_none (list_any has_tests cases && (by_item e'.rule || list_any (λ x. not (has_tests x)) cases)) (mixed_choice at.path) holds (sym (ap (mixed_in at.path) form) ∙ none))
     where
-      why : (rule : ChoiceRule) (cases : List Case) → ((s : ℕ) × (rule ≡ Item s)) ⊎ ((j : ℕ) × (other : Case) × (slice_get cases j ≡ Some other) × (other.1 ≡ [])) → (by_item rule || list_any (λ x. not (has_tests x)) cases) ≡ true
-      why rule cases (inl s) = or_left (by_item rule) (list_any (λ x. not (has_tests x)) cases) (ap by_item s.1)
-      why rule cases (inr j) = or_right (by_item rule) (list_any (λ x. not (has_tests x)) cases) (without_some cases j.0 j.1 j.2 j.3)
+      why : (rule : ChoiceRule) (cases : Alternatives) → IsMixedWith root cases rule → (by_item rule || list_any (λ x. not (has_tests x)) (conditions_of cases)) ≡ true
+      why rule cases (a_determinant s is_item) = or_left (by_item rule) (list_any (λ x. not (has_tests x)) (conditions_of cases)) (ap by_item is_item)
+      why rule cases (one_without j other is_other none) = or_right (by_item rule) (list_any (λ x. not (has_tests x)) (conditions_of cases)) (without_some (conditions_of cases) j other is_other none)
 
   pub mixed_law : PlainLaw root 8 mixed_at
   mixed_law = record {
@@ -169,14 +175,14 @@ module _ (root : Grammar) where
   take_open : (k : ℕ) (at : Stand) (f : CheckFault) → NodeAt root k at → much_open k (seen at) ≡ Some f → (number_of_fault f ≡ 10) × Evidence root f k 0
   take_open k at f is e =
       let o = only_true (nat_lt 256 (open_at at)) (too_many_open at.path (open_at at)) f e in
-      (ap number_of_fault (sym o.1), subst (λ x. Evidence root x k 0) o.1 (at, is, refl, refl, ltb-true 256 (open_at at) o.0))
+      (ap number_of_fault (sym o.1), subst (λ x. Evidence root x k 0) o.1 (record { at = at; is_at = is; path_is = refl; count_is = refl; many = ltb-true 256 (open_at at) o.0 }))
 
   give_open : (f : CheckFault) (k u : ℕ) → number_of_fault f ≡ 10 → Evidence root f k u → (at : Stand) × NodeAt root k at × (much_open k (seen at) ≡ None → ⊥)
   give_open f k u is e =
       let o = only_too_many_open f is in
       let e' : Evidence root (too_many_open o.0 o.1) k u = subst (λ x. Evidence root x k u) o.2 e in
-      let many = lt-ltb 256 (open_at e'.0) (let h = e'.3 in let g = e'.4 in omega (arith, h, g)) in
-      (e'.0, e'.1, λ none. only_none (nat_lt 256 (open_at e'.0)) (too_many_open e'.0.path (open_at e'.0)) many none)
+      let many = lt-ltb 256 (open_at e'.at) (let h = e'.count_is in let g = e'.many in omega (arith, h, g)) in
+      (e'.at, e'.is_at, λ none. only_none (nat_lt 256 (open_at e'.at)) (too_many_open e'.at.path (open_at e'.at)) many none)
 
   pub open_law : PlainLaw root 10 much_open
   open_law = record {

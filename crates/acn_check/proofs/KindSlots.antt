@@ -2,7 +2,7 @@
 use Rattle.std.proofs.Common.{◌≡◌, ℕ, ◌≤◌, Bool, true, false, not, List, Option, Some, None, refl, sym, ap, ◌∙◌, subst, arith, nat_lt, map}
 use Rattle.std.specs.Prelude.{option_map, slice_get}
 use Rattle.std.specs.List.{flat_map}
-use Rattle.acn_grammar.specs.Check.{CheckFault, det_width, unused, too_many_conditions, Evidence, NodeAt, HasWidth, equals_on, number_of_fault}
+use Rattle.acn_grammar.specs.Check.{CheckFault, det_width, unused, too_many_conditions, Evidence, NodeAt, HasWidth, HasOneWidth, equals_on, number_of_fault}
 use Rattle.acn_grammar.specs.Grammar.{Grammar}
 use Rattle.acn_grammar.specs.Interval.{width_of}
 use Rattle.acn_packet_laws.specs.Laws.{WidthsAreLengths}
@@ -75,12 +75,12 @@ module _ (root : Grammar) (tree : IsTree root) where
     fits_width : (leaf : NumLeaf) → num_fine leaf ≡ true → (w : ℕ) → HasWidth leaf w → w ≤ 64 → width_fits (width_of leaf) ≡ true
     fits_width leaf fine w h le = ap width_fits ((widths leaf w fine).1 h) ∙ le-leb w 64 le
 
-    pub width_fit : (leaf : NumLeaf) → num_fine leaf ≡ true → width_fits (width_of leaf) ≡ true → (w : ℕ) × HasWidth leaf w × (w ≤ 64)
+    width_fit : (leaf : NumLeaf) → num_fine leaf ≡ true → width_fits (width_of leaf) ≡ true → HasOneWidth leaf
     width_fit leaf fine h = by (width_of leaf) refl h
       where
-        by : (o : Option ℕ) → width_of leaf ≡ o → width_fits o ≡ true → (w : ℕ) × HasWidth leaf w × (w ≤ 64)
+        by : (o : Option ℕ) → width_of leaf ≡ o → width_fits o ≡ true → HasOneWidth leaf
         by None e g = cc
-        by (Some w) e g = (w, (widths leaf w fine).0 e, leb-true w 64 g)
+        by (Some w) e g = record { width = w; all_codes = (widths leaf w fine).0 e; narrow = leb-true w 64 g }
 
     leaf_fine : (s : ℕ) (d : Det) → slice_get table s ≡ Some d → num_fine d.leaf ≡ true
     leaf_fine s d e = all_at (λ (x : Det). num_fine x.leaf) table s d (leaves_fine root tree) e
@@ -93,19 +93,30 @@ module _ (root : Grammar) (tree : IsTree root) where
         let g : wide_here at.path t.det ≡ Some f = ap (λ o. given o (wide_here at.path)) (sym t.is_here) ∙ s.2 in
         let o = only_true (not (width_fits (width_of t.det.leaf))) (det_width at.path) f g in
         let leaf : slot_leaf root s.0 ≡ Some t.det.leaf = leaf_entry root tree s.0 ∙ ap (option_map (λ (x : Det). x.leaf)) t.is_here in
-        let fine = leaf_fine s.0 t.det t.is_here in
-        (ap number_of_fault (sym o.1), subst (λ x. Evidence root x k 0) o.1 (at, s.0, t.det.leaf, is, refl, slot, leaf, λ w. clash (width_fits (width_of t.det.leaf)) (fits_width t.det.leaf fine w.0 w.1 w.2) (not-true (width_fits (width_of t.det.leaf)) o.0)))
+        let fine = leaf_fine s.0 t.det t.is_here in (
+          ap number_of_fault (sym o.1),
+          subst (λ x. Evidence root x k 0) o.1 (record {
+            at = at;
+            is_at = is;
+            path_is = refl;
+            slot = s.0;
+            slot_is = slot;
+            leaf = t.det.leaf;
+            leaf_is = leaf;
+            no_width = λ w. clash (width_fits (width_of t.det.leaf)) (fits_width t.det.leaf fine w.width w.all_codes w.narrow) (not-true (width_fits (width_of t.det.leaf)) o.0);
+          }),
+        )
 
     give_width : (f : CheckFault) (k u : ℕ) → number_of_fault f ≡ 3 → Evidence root f k u → (at : Stand) × NodeAt root k at × (no_width table k (seen at) ≡ None → ⊥)
     give_width f k u is e =
         let o = only_det_width f is in
         let e' : Evidence root (det_width o.0) k u = subst (λ x. Evidence root x k u) o.1 e in
-        let t = field_entry root tree k e'.1 e'.0 e'.3 (inserted_here e'.0.role e'.1 e'.5) in
-        let leaf : Some t.det.leaf ≡ Some e'.2 = sym (leaf_entry root tree e'.1 ∙ ap (option_map (λ (x : Det). x.leaf)) t.is_here) ∙ e'.6 in
-        let same : t.det.leaf ≡ e'.2 = some_inj t.det.leaf e'.2 leaf in
-        let fine = leaf_fine e'.1 t.det t.is_here in
-        let wide = is_not (width_fits (width_of t.det.leaf)) (λ fits. let w = width_fit t.det.leaf fine fits in e'.7 (w.0, subst (λ (l : NumLeaf). HasWidth l w.0) same w.1, w.2)) in
-        (e'.0, e'.3, λ none. only_none (not (width_fits (width_of t.det.leaf))) (det_width e'.0.path) wide (sym (ap (λ o. given o (λ s. given (slice_get table s) (wide_here e'.0.path))) (inserted_is e'.0.role ∙ e'.5) ∙ ap (λ d. given d (wide_here e'.0.path)) t.is_here) ∙ none))
+        let t = field_entry root tree k e'.slot e'.at e'.is_at (inserted_here e'.at.role e'.slot e'.slot_is) in
+        let leaf : Some t.det.leaf ≡ Some e'.leaf = sym (leaf_entry root tree e'.slot ∙ ap (option_map (λ (x : Det). x.leaf)) t.is_here) ∙ e'.leaf_is in
+        let same : t.det.leaf ≡ e'.leaf = some_inj t.det.leaf e'.leaf leaf in
+        let fine = leaf_fine e'.slot t.det t.is_here in
+        let wide = is_not (width_fits (width_of t.det.leaf)) (λ fits. e'.no_width (subst HasOneWidth same (width_fit t.det.leaf fine fits))) in
+        (e'.at, e'.is_at, λ none. only_none (not (width_fits (width_of t.det.leaf))) (det_width e'.at.path) wide (sym (ap (λ o. given o (λ s. given (slice_get table s) (wide_here e'.at.path))) (inserted_is e'.at.role ∙ e'.slot_is) ∙ ap (λ d. given d (wide_here e'.at.path)) t.is_here) ∙ none))
 
     pub width_law : PlainLaw root 3 (no_width table)
     width_law = record {
@@ -127,16 +138,16 @@ module _ (root : Grammar) (tree : IsTree root) where
       let g : idle_here at.path t.tally ≡ Some f = ap (λ o. given o (idle_here at.path)) (sym t.is_here) ∙ s.2 in
       let o = only_true (not t.tally.used) (unused at.path) f g in
       let idle = not-true t.tally.used o.0 in
-      (ap number_of_fault (sym o.1), subst (λ x. Evidence root x k 0) o.1 (at, s.0, is, refl, s.1, λ c. clash t.tally.used (t.used ∙ contains_holds (map slot_of (flat_map uses (nodes_of root))) s.0 c) idle))
+      (ap number_of_fault (sym o.1), subst (λ x. Evidence root x k 0) o.1 (record { at = at; is_at = is; path_is = refl; slot = s.0; slot_is = s.1; no_use = λ c. clash t.tally.used (t.used ∙ contains_holds (map slot_of (flat_map uses (nodes_of root))) s.0 c) idle }))
 
   give_unused : (f : CheckFault) (k u : ℕ) → number_of_fault f ≡ 6 → Evidence root f k u → (at : Stand) × NodeAt root k at × (no_use tallies k (seen at) ≡ None → ⊥)
   give_unused f k u is e =
       let o = only_unused f is in
       let e' : Evidence root (unused o.0) k u = subst (λ x. Evidence root x k u) o.1 e in
-      let d = field_entry root tree k e'.1 e'.0 e'.2 e'.4 in
-      let t = tallied_law root e'.1 d.det d.is_here in
-      let idle = is_not t.tally.used (λ used. e'.5 (holds_contains (map slot_of (flat_map uses (nodes_of root))) e'.1 (sym t.used ∙ used))) in
-      (e'.0, e'.2, λ none. only_none (not t.tally.used) (unused e'.0.path) idle (sym (given_slot k e'.1 e'.0 (λ s. given (slice_get tallies s) (idle_here e'.0.path)) e'.4 ∙ ap (λ x. given x (idle_here e'.0.path)) t.is_here) ∙ none))
+      let d = field_entry root tree k e'.slot e'.at e'.is_at e'.slot_is in
+      let t = tallied_law root e'.slot d.det d.is_here in
+      let idle = is_not t.tally.used (λ used. e'.no_use (holds_contains (map slot_of (flat_map uses (nodes_of root))) e'.slot (sym t.used ∙ used))) in
+      (e'.at, e'.is_at, λ none. only_none (not t.tally.used) (unused e'.at.path) idle (sym (given_slot k e'.slot e'.at (λ s. given (slice_get tallies s) (idle_here e'.at.path)) e'.slot_is ∙ ap (λ x. given x (idle_here e'.at.path)) t.is_here) ∙ none))
 
   pub unused_law : PlainLaw root 6 (no_use tallies)
   unused_law = record {
@@ -154,14 +165,14 @@ module _ (root : Grammar) (tree : IsTree root) where
   take_equals k at f is e =
       let s = some_slot (slot_here at.role) (equals_here at.path) f e in
       let o = only_true (nat_lt 64 (equals_on root s.0)) (too_many_conditions at.path (equals_on root s.0)) f s.2 in
-      (ap number_of_fault (sym o.1), subst (λ x. Evidence root x k 0) o.1 (at, s.0, is, refl, s.1, refl, ltb-true 64 (equals_on root s.0) o.0))
+      (ap number_of_fault (sym o.1), subst (λ x. Evidence root x k 0) o.1 (record { at = at; is_at = is; path_is = refl; slot = s.0; slot_is = s.1; count_is = refl; many = ltb-true 64 (equals_on root s.0) o.0 }))
 
   give_equals : (f : CheckFault) (k u : ℕ) → number_of_fault f ≡ 11 → Evidence root f k u → (at : Stand) × NodeAt root k at × (many_equals root k (seen at) ≡ None → ⊥)
   give_equals f k u is e =
       let o = only_too_many_conditions f is in
       let e' : Evidence root (too_many_conditions o.0 o.1) k u = subst (λ x. Evidence root x k u) o.2 e in
-      let many = lt-ltb 64 (equals_on root e'.1) (let h = e'.5 in let g = e'.6 in omega (arith, h, g)) in
-      (e'.0, e'.2, λ none. only_none (nat_lt 64 (equals_on root e'.1)) (too_many_conditions e'.0.path (equals_on root e'.1)) many (sym (given_slot k e'.1 e'.0 (equals_here e'.0.path) e'.4) ∙ none))
+      let many = lt-ltb 64 (equals_on root e'.slot) (let h = e'.count_is in let g = e'.many in omega (arith, h, g)) in
+      (e'.at, e'.is_at, λ none. only_none (nat_lt 64 (equals_on root e'.slot)) (too_many_conditions e'.at.path (equals_on root e'.slot)) many (sym (given_slot k e'.slot e'.at (equals_here e'.at.path) e'.slot_is) ∙ none))
 
   pub equals_law : PlainLaw root 11 (many_equals root)
   equals_law = record {

@@ -91,16 +91,16 @@ module _ (root : Grammar) (tree : IsTree root) where
       by None g e' = cc
       by (Some d) g e' =
           let t = only_true (nat_lt k d.at) (forward at.path d.path) f e' in
-          (ap number_of_fault (sym t.1), subst (λ x. Evidence root x k u) t.1 (named, d.at, use_of k u at named d is h g, ltb-true k d.at t.0))
+          (ap number_of_fault (sym t.1), subst (λ x. Evidence root x k u) t.1 (record { named = named; field_at = d.at; use_is = use_of k u at named d is h g; behind = ltb-true k d.at t.0 }))
 
   give_behind : (f : CheckFault) (k u : ℕ) → number_of_fault f ≡ 1 → Evidence root f k u → (at : Stand) × (named : Use) × NodeAt root k at × (slice_get (uses at) u ≡ Some named) × (behind table k (seen at) named ≡ None → ⊥)
   give_behind f k u is e =
       let o = only_forward f is in
       let e' : Evidence root (forward o.0 o.1) k u = subst (λ x. Evidence root x k u) o.2 e in
-      let used = e'.2 in
-      let t = field_entry root tree e'.1 (slot_of e'.0) used.field used.is_field used.slot in
-      let less : k < t.det.at = (let n = t.node in let l = e'.3 in omega (arith, n, l)) in
-      (used.at, e'.0, used.is_at, used.is_use, λ none. only_none (nat_lt k t.det.at) (forward used.at.path t.det.path) (lt-ltb k t.det.at less) (sym (ap (λ d. given d (behind_here k used.at.path)) t.is_here) ∙ none))
+      let used = e'.use_is in
+      let t = field_entry root tree e'.field_at (slot_of e'.named) used.field used.is_field used.slot in
+      let less : k < t.det.at = (let n = t.node in let l = e'.behind in omega (arith, n, l)) in
+      (used.at, e'.named, used.is_at, used.is_use, λ none. only_none (nat_lt k t.det.at) (forward used.at.path t.det.path) (lt-ltb k t.det.at less) (sym (ap (λ d. given d (behind_here k used.at.path)) t.is_here) ∙ none))
 
   pub behind_law : UseLaw root 1 (behind table)
   behind_law = record {
@@ -119,18 +119,18 @@ module _ (root : Grammar) (tree : IsTree root) where
       by (Some d) g e' =
           let t = only_true (not (fits_kind named d.leaf.kind)) (det_kind at.path d.path) f e' in
           let leaf : slot_leaf root (slot_of named) ≡ Some d.leaf = leaf_entry root tree (slot_of named) ∙ ap (option_map (λ (x : Det). x.leaf)) g in
-          (ap number_of_fault (sym t.1), subst (λ x. Evidence root x k u) t.1 (named, d.at, d.leaf, use_of k u at named d is h g, leaf, λ asks. not_true (fits_kind named d.leaf.kind) t.0 (asked_fits named d.leaf.kind asks)))
+          (ap number_of_fault (sym t.1), subst (λ x. Evidence root x k u) t.1 (record { named = named; field_at = d.at; leaf = d.leaf; use_is = use_of k u at named d is h g; leaf_is = leaf; another = λ asks. not_true (fits_kind named d.leaf.kind) t.0 (asked_fits named d.leaf.kind asks) }))
 
   give_kind : (f : CheckFault) (k u : ℕ) → number_of_fault f ≡ 2 → Evidence root f k u → (at : Stand) × (named : Use) × NodeAt root k at × (slice_get (uses at) u ≡ Some named) × (wrong_kind table (seen at) named ≡ None → ⊥)
   give_kind f k u is e =
       let o = only_det_kind f is in
       let e' : Evidence root (det_kind o.0 o.1) k u = subst (λ x. Evidence root x k u) o.2 e in
-      let used = e'.3 in
-      let t = field_entry root tree e'.1 (slot_of e'.0) used.field used.is_field used.slot in
-      let leaf : Some t.det.leaf ≡ Some e'.2 = sym (leaf_entry root tree (slot_of e'.0) ∙ ap (option_map (λ (x : Det). x.leaf)) t.is_here) ∙ e'.4 in
-      let same : t.det.leaf ≡ e'.2 = some_inj t.det.leaf e'.2 leaf in
-      let wrong = true_not (fits_kind e'.0 t.det.leaf.kind) (λ fits. e'.5 (fits_asked e'.0 e'.2.kind (ap (λ (l : NumLeaf). fits_kind e'.0 l.kind) (sym same) ∙ fits))) in
-      (used.at, e'.0, used.is_at, used.is_use, λ none. only_none (not (fits_kind e'.0 t.det.leaf.kind)) (det_kind used.at.path t.det.path) wrong (sym (ap (λ d. given d (wrong_kind_here e'.0 used.at.path)) t.is_here) ∙ none))
+      let used = e'.use_is in
+      let t = field_entry root tree e'.field_at (slot_of e'.named) used.field used.is_field used.slot in
+      let leaf : Some t.det.leaf ≡ Some e'.leaf = sym (leaf_entry root tree (slot_of e'.named) ∙ ap (option_map (λ (x : Det). x.leaf)) t.is_here) ∙ e'.leaf_is in
+      let same : t.det.leaf ≡ e'.leaf = some_inj t.det.leaf e'.leaf leaf in
+      let wrong = true_not (fits_kind e'.named t.det.leaf.kind) (λ fits. e'.another (fits_asked e'.named e'.leaf.kind (ap (λ (l : NumLeaf). fits_kind e'.named l.kind) (sym same) ∙ fits))) in
+      (used.at, e'.named, used.is_at, used.is_use, λ none. only_none (not (fits_kind e'.named t.det.leaf.kind)) (det_kind used.at.path t.det.path) wrong (sym (ap (λ d. given d (wrong_kind_here e'.named used.at.path)) t.is_here) ∙ none))
 
   pub kind_law : UseLaw root 2 (λ k f named. wrong_kind table f named)
   kind_law = record {

@@ -42,31 +42,31 @@ module _ (root : Grammar) where
       by g k u is z (inr (same, inr (z', b))) = (let l = by_tails root n plain g f u 0 is kind b in absurd (omega (arith, l)))
 
   long_zero : (g : CheckFault) (k u : ℕ) → number_of_fault g ≡ 9 → Evidence root g k u → k ≡ 0
-  long_zero g k u is e = (let o = only_too_long g is in let e' : Evidence root (too_long o.0) k u = subst (λ x. Evidence root x k u) o.1 e in e'.0)
+  long_zero g k u is e = (let o = only_too_long g is in let e' : Evidence root (too_long o.0) k u = subst (λ x. Evidence root x k u) o.1 e in e'.at_root)
 
   long_law : KindLaw root 9 (long root)
   long_law = record {
     some = λ f e.
         let o = only_true (nat_lt 524336 (span root).greatest) (too_long (span root).greatest) f e in
-        at_root 9 (λ g u is. plain_tail g u (λ four. absurd (omega arith)) (λ seven. absurd (omega arith))) long_zero f (ap number_of_fault (sym o.1)) (subst (λ x. Evidence root x 0 0) o.1 (refl, refl, ltb-true 524336 (span root).greatest o.0));
+        at_root 9 (λ g u is. plain_tail g u (λ four. absurd (omega arith)) (λ seven. absurd (omega arith))) long_zero f (ap number_of_fault (sym o.1)) (subst (λ x. Evidence root x 0 0) o.1 (record { at_root = refl; bits_are = refl; many = ltb-true 524336 (span root).greatest o.0 }));
     none = λ e f k u is evidence.
         let o = only_too_long f is in
         let e' : Evidence root (too_long o.0) k u = subst (λ x. Evidence root x k u) o.1 evidence in
-        only_none (nat_lt 524336 (span root).greatest) (too_long (span root).greatest) (lt-ltb 524336 (span root).greatest (let a = e'.1 in let b = e'.2 in omega (arith, a, b))) e;
+        only_none (nat_lt 524336 (span root).greatest) (too_long (span root).greatest) (lt-ltb 524336 (span root).greatest (let a = e'.bits_are in let b = e'.many in omega (arith, a, b))) e;
   }
 
   values_zero : (g : CheckFault) (k u : ℕ) → number_of_fault g ≡ 12 → Evidence root g k u → k ≡ 0
-  values_zero g k u is e = (let o = only_too_many_values g is in let e' : Evidence root (too_many_values o.0) k u = subst (λ x. Evidence root x k u) o.1 e in e'.0)
+  values_zero g k u is e = (let o = only_too_many_values g is in let e' : Evidence root (too_many_values o.0) k u = subst (λ x. Evidence root x k u) o.1 e in e'.at_root)
 
   values_law : KindLaw root 12 (many_values root)
   values_law = record {
     some = λ f e.
         let o = only_true (nat_lt 1048576 (value_count root)) (too_many_values (value_count root)) f e in
-        at_root 12 (λ g u is. plain_tail g u (λ four. absurd (omega arith)) (λ seven. absurd (omega arith))) values_zero f (ap number_of_fault (sym o.1)) (subst (λ x. Evidence root x 0 0) o.1 (refl, refl, ltb-true 1048576 (value_count root) o.0));
+        at_root 12 (λ g u is. plain_tail g u (λ four. absurd (omega arith)) (λ seven. absurd (omega arith))) values_zero f (ap number_of_fault (sym o.1)) (subst (λ x. Evidence root x 0 0) o.1 (record { at_root = refl; count_is = refl; many = ltb-true 1048576 (value_count root) o.0 }));
     none = λ e f k u is evidence.
         let o = only_too_many_values f is in
         let e' : Evidence root (too_many_values o.0) k u = subst (λ x. Evidence root x k u) o.1 evidence in
-        only_none (nat_lt 1048576 (value_count root)) (too_many_values (value_count root)) (lt-ltb 1048576 (value_count root) (let a = e'.1 in let b = e'.2 in omega (arith, a, b))) e;
+        only_none (nat_lt 1048576 (value_count root)) (too_many_values (value_count root)) (lt-ltb 1048576 (value_count root) (let a = e'.count_is in let b = e'.many in omega (arith, a, b))) e;
   }
 
 -- All kinds.

@@ -4,7 +4,7 @@ ghost use Rattle.acn_packet_laws.specs.Laws.{IsAccepted};
 ghost use Rattle.acn_grammar.specs.Leaves.{num_fine};
 ghost use Rattle.acn_grammar.specs.Tree.{IsTree};
 ghost use Rattle.acn_grammar.specs.View.{grammar_of};
-ghost use Rattle.acn_check.specs.Checked.{HasNoFault, IsFirstFault, PacketsTellTheirValue, PacketsLieWithinBounds, NodesAreSound, UsesAreKnown, SlotsHaveOneWidth};
+ghost use Rattle.acn_check.specs.Checked.{HasNoFault, IsFirstFault, PacketsTellTheirValue, PacketsLieWithinBounds, NodesAreSound};
 ghost use Rattle.acn_check.specs.Facts.{facts_of, Fit};
 ghost use Rattle.acn_check.specs.First as spec;
 ghost use Rattle.acn_check.specs.First.{Told, first_of};
@@ -25,8 +25,8 @@ use crate::tallies::{Tally, count_uses};
 use acn_grammar::{MOST_PACKET_BITS, MOST_VALUES};
 use acn_num::{NoMemory, Path};
 use acn_packet_laws::{
-    accepted_is_scoped, accepted_is_sound, bounds_hold, no_fault_without_a_first,
-    packets_are_prefix_free, widths_are_lengths,
+    accepted_is_sound, bounds_hold, no_fault_without_a_first, packets_are_prefix_free,
+    widths_are_lengths,
 };
 use acn_tree::{CheckFault, Tree, interval, value_count};
 use std::alloc::Global;
@@ -160,15 +160,12 @@ pub fn check(alloc: Global, tree: Tree) -> Result<Checked, (Tree, CheckFault)>
     ensures prefix { IfOk result (λ checked. PacketsTellTheirValue (grammar_of tree.root)) }
     ensures lengths { IfOk result (λ checked. PacketsLieWithinBounds (grammar_of tree.root)) }
     ensures nodes { IfOk result (λ checked. NodesAreSound (grammar_of tree.root)) }
-    ensures known { IfOk result (λ checked. UsesAreKnown (grammar_of tree.root)) }
-    ensures widths { IfOk result (λ checked. SlotsHaveOneWidth (grammar_of tree.root)) }
     ensures back { IfErr result (λ pair. pair.0 ≡ tree) }
     ensures fault { IfErr result (λ pair. IsFirstFault (grammar_of tree.root) pair.1) }
 {
     no_fault_without_a_first();
     packets_are_prefix_free();
     bounds_hold();
-    accepted_is_scoped();
     accepted_is_sound();
     widths_are_lengths();
     match find_fault(alloc, &tree) {

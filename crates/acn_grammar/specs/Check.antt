@@ -66,6 +66,17 @@ AsksFor _ _ = ⊥
 abbrev pub HasWidth : NumLeaf → ℕ → Type 0
 HasWidth leaf w = (x : ℤ) (bs : List Bool) → Code Any leaf x bs → length bs ≡ w
 
+-- all codes of the leaf have one length, that of a determinant at most
+pub record HasOneWidth (leaf : NumLeaf) : Type 0 where
+  pub width : ℕ
+  pub all_codes : HasWidth leaf width
+  pub narrow : width ≤ MOST_DETERMINANT_BITS
+
+-- a component with more than one condition
+abbrev pub HasMoreConditions : Role → Type 0
+HasMoreConditions (a_component one) = 1 < length (presence_tests one.presence)
+HasMoreConditions _ = ⊥
+
 abbrev pub test_slot : Test → ℕ
 test_slot (Flag s) = s
 test_slot (Equals s k) = s
@@ -120,10 +131,17 @@ abbrev mutual
   fields_lead n (inserted name g slot fs) = lead n g
   fields_lead n _ = None
 
--- there is none, or a permitted number of it has a code that begins with the pattern
+-- a permitted number has a code that begins with the pattern
+pub record BeginsLike (p : List Bool) (leaf : NumLeaf) : Type 0 where
+  pub number : ℤ
+  pub code : List Bool
+  pub codes : Code Any leaf number code
+  pub begins : take (length p) code ≡ p
+
+-- there is none, or it may begin like the pattern
 abbrev pub LeadAmbiguous : List Bool → Option NumLeaf → Type 0
 LeadAmbiguous p None = Unit {0}
-LeadAmbiguous p (Some leaf) = (x : ℤ) × (bs : List Bool) × Code Any leaf x bs × (take (length p) bs ≡ p)
+LeadAmbiguous p (Some leaf) = BeginsLike p leaf
 
 abbrev pub EndAmbiguous : Option (List Bool) → Grammar → Type 0
 EndAmbiguous None g = ⊥
@@ -177,29 +195,141 @@ module _ (root : Grammar) where
   abbrev pub equals_on : ℕ → ℕ
   equals_on s = count_by (is_equals_on s) (flat_map uses (nodes_of root))
 
+  -- What shows a fault, at node k and its use u.
+
+  -- a use stands before the field of its slot
+  pub record UsedTooEarly (user det : List ℕ) (k u : ℕ) : Type 0 where
+    pub named : Use
+    pub field_at : ℕ
+    pub use_is : UseOf k u user det named field_at
+    pub behind : k < field_at
+
+  -- a use asks for another kind of number than that of its slot
+  pub record AsksForAnotherKind (user det : List ℕ) (k u : ℕ) : Type 0 where
+    pub named : Use
+    pub field_at : ℕ
+    pub leaf : NumLeaf
+    pub use_is : UseOf k u user det named field_at
+    pub leaf_is : slot_leaf root (slot_of named) ≡ Some leaf
+    pub another : AsksFor named leaf.kind → ⊥
+
+  -- the codes of an inserted slot don't all have one length, or too great a one
+  pub record HasNoWidth (det : List ℕ) (k : ℕ) : Type 0 where
+    pub at : Stand
+    pub is_at : NodeAt k at
+    pub path_is : at.path ≡ det
+    pub slot : ℕ
+    pub slot_is : inserted_slot at.role ≡ Some slot
+    pub leaf : NumLeaf
+    pub leaf_is : slot_leaf root slot ≡ Some leaf
+    pub no_width : HasOneWidth leaf → ⊥
+
+  -- two alternatives of a CHOICE by conditions overlap
+  pub record HasOverlap (path : List ℕ) (i j : ℕ) (values : List (ℕ × ℤ)) (k : ℕ) : Type 0 where
+    pub cases : Alternatives
+    pub choice_is : ChoiceAt k path cases Tests
+    pub overlaps : Overlaps cases i j values
+
+  -- a component has more than one condition
+  pub record IsUnclear (path : List ℕ) (k : ℕ) : Type 0 where
+    pub at : Stand
+    pub is_at : NodeAt k at
+    pub path_is : at.path ≡ path
+    pub more : HasMoreConditions at.role
+
+  -- no use names the slot of a field
+  pub record HasNoUse (det : List ℕ) (k : ℕ) : Type 0 where
+    pub at : Stand
+    pub is_at : NodeAt k at
+    pub path_is : at.path ≡ det
+    pub slot : ℕ
+    pub slot_is : slot_here at.role ≡ Some slot
+    pub no_use : Contains (map slot_of (flat_map uses (nodes_of root))) slot → ⊥
+
+  -- the determinant has no item for an alternative
+  pub record HasNoItem (path : List ℕ) (i : ℕ) (k : ℕ) : Type 0 where
+    pub cases : Alternatives
+    pub slot : ℕ
+    pub choice_is : ChoiceAt k path cases (Item slot)
+    pub name : List ℕ
+    pub tests : List Test
+    pub is_alternative : slice_get (conditions_of cases) i ≡ Some (name, tests)
+    pub no_item : Contains (map (λ e. e.0) (items_of root slot)) name → ⊥
+
+  -- what conditions don't stand beside: a determinant, and an alternative without conditions
+  pub data IsMixedWith (cases : Alternatives) (rule : ChoiceRule) : Type 0 where
+    a_determinant : (s : ℕ) → rule ≡ Item s → IsMixedWith cases rule
+    one_without : (j : ℕ) (other : List ℕ × List Test) → slice_get (conditions_of cases) j ≡ Some other → other.1 ≡ [] → IsMixedWith cases rule
+
+  -- an alternative has conditions beside one of these
+  pub record IsMixed (path : List ℕ) (k : ℕ) : Type 0 where
+    pub cases : Alternatives
+    pub rule : ChoiceRule
+    pub choice_is : ChoiceAt k path cases rule
+    pub first : ℕ
+    pub one : List ℕ × List Test
+    pub is_one : slice_get (conditions_of cases) first ≡ Some one
+    pub some_one : 0 < length one.1
+    pub beside : IsMixedWith cases rule
+
+  -- the whole tree: too many bits
+  pub record IsTooLong (n k : ℕ) : Type 0 where
+    pub at_root : k ≡ 0
+    pub bits_are : n ≡ (span root).greatest
+    pub many : MOST_PACKET_BITS < n
+
+  -- too many slots are at home on the path to a node
+  pub record HasManyOpen (path : List ℕ) (n k : ℕ) : Type 0 where
+    pub at : Stand
+    pub is_at : NodeAt k at
+    pub path_is : at.path ≡ path
+    pub count_is : n ≡ open_at at
+    pub many : MOST_OPEN_SLOTS < n
+
+  -- too many conditions with == on the slot of a field
+  pub record HasManyConditions (det : List ℕ) (n k : ℕ) : Type 0 where
+    pub at : Stand
+    pub is_at : NodeAt k at
+    pub path_is : at.path ≡ det
+    pub slot : ℕ
+    pub slot_is : slot_here at.role ≡ Some slot
+    pub count_is : n ≡ equals_on slot
+    pub many : MOST_CONDITIONS < n
+
+  -- the whole tree: too many values
+  pub record HasManyValues (n k : ℕ) : Type 0 where
+    pub at_root : k ≡ 0
+    pub count_is : n ≡ value_count root
+    pub many : MOST_VALUES < n
+
+  -- the elements of a list don't tell the pattern that ends it
+  pub record HasNoEnd (path : List ℕ) (k : ℕ) : Type 0 where
+    pub at : Stand
+    pub is_at : NodeAt k at
+    pub path_is : at.path ≡ path
+    pub ambiguous : ListAmbiguous at.form
+
   -- the fault holds at node k and its use u
   abbrev pub Evidence : CheckFault → (k u : ℕ) → Type 0
-  Evidence (forward user det) k u = (use' : Use) × (j : ℕ) × UseOf k u user det use' j × (k < j)
-  Evidence (det_kind user det) k u = (use' : Use) × (j : ℕ) × (leaf : NumLeaf) × UseOf k u user det use' j × (slot_leaf root (slot_of use') ≡ Some leaf) × (AsksFor use' leaf.kind → ⊥)
-  Evidence (det_width det) k u = (at : Stand) × (s : ℕ) × (leaf : NumLeaf) × NodeAt k at × (at.path ≡ det) × (inserted_slot at.role ≡ Some s) × (slot_leaf root s ≡ Some leaf) × (((w : ℕ) × HasWidth leaf w × (w ≤ MOST_DETERMINANT_BITS)) → ⊥)
-  Evidence (overlap path i j values) k u = (cases : Alternatives) × ChoiceAt k path cases Tests × Overlaps cases i j values
-  Evidence (absent_unclear path) k u = (at : Stand) × NodeAt k at × (at.path ≡ path) × MoreThanOne at.role
-    where
-      MoreThanOne : Role → Type 0
-      MoreThanOne (a_component one) = 1 < length (presence_tests one.presence)
-      MoreThanOne _ = ⊥
-  Evidence (unused det) k u = (at : Stand) × (s : ℕ) × NodeAt k at × (at.path ≡ det) × (slot_here at.role ≡ Some s) × (Contains (map slot_of (flat_map uses (nodes_of root))) s → ⊥)
-  Evidence (no_item path i) k u = (cases : Alternatives) × (s : ℕ) × (name : List ℕ) × (ts : List Test) × ChoiceAt k path cases (Item s) × (slice_get (conditions_of cases) i ≡ Some (name, ts)) × (Contains (map (λ e. e.0) (items_of root s)) name → ⊥)
-  Evidence (mixed_choice path) k u = (cases : Alternatives) × (rule : ChoiceRule) × ChoiceAt k path cases rule × (i : ℕ) × (one : List ℕ × List Test) × (slice_get (conditions_of cases) i ≡ Some one) × (0 < length one.1)
-      × (((s : ℕ) × (rule ≡ Item s)) ⊎ ((j : ℕ) × (other : List ℕ × List Test) × (slice_get (conditions_of cases) j ≡ Some other) × (other.1 ≡ [])))
-  Evidence (too_long n) k u = (k ≡ 0) × (n ≡ (span root).greatest) × (MOST_PACKET_BITS < n)
-  Evidence (too_many_open path n) k u = (at : Stand) × NodeAt k at × (at.path ≡ path) × (n ≡ open_at at) × (MOST_OPEN_SLOTS < n)
-  Evidence (too_many_conditions det n) k u = (at : Stand) × (s : ℕ) × NodeAt k at × (at.path ≡ det) × (slot_here at.role ≡ Some s) × (n ≡ equals_on s) × (MOST_CONDITIONS < n)
-  Evidence (too_many_values n) k u = (k ≡ 0) × (n ≡ value_count root) × (MOST_VALUES < n)
-  Evidence (terminator_ambiguous path) k u = (at : Stand) × NodeAt k at × (at.path ≡ path) × ListAmbiguous at.form
+  Evidence (forward user det) k u = UsedTooEarly user det k u
+  Evidence (det_kind user det) k u = AsksForAnotherKind user det k u
+  Evidence (det_width det) k u = HasNoWidth det k
+  Evidence (overlap path i j values) k u = HasOverlap path i j values k
+  Evidence (absent_unclear path) k u = IsUnclear path k
+  Evidence (unused det) k u = HasNoUse det k
+  Evidence (no_item path i) k u = HasNoItem path i k
+  Evidence (mixed_choice path) k u = IsMixed path k
+  Evidence (too_long n) k u = IsTooLong n k
+  Evidence (too_many_open path n) k u = HasManyOpen path n k
+  Evidence (too_many_conditions det n) k u = HasManyConditions det n k
+  Evidence (too_many_values n) k u = HasManyValues n k
+  Evidence (terminator_ambiguous path) k u = HasNoEnd path k
 
-  abbrev pub Undecodable : CheckFault → Type 0
-  Undecodable f = (k u : ℕ) × Evidence f k u
+  -- it holds at some node and use
+  pub record Undecodable (f : CheckFault) : Type 0 where
+    pub node : ℕ
+    pub use_here : ℕ
+    pub holds : Evidence f node use_here
 
   -- the order of faults: number, node, use, alternatives
   abbrev pub rank : CheckFault → (k u : ℕ) → List ℕ

@@ -95,12 +95,20 @@ CharactersFail here leaf n at rest fault reach =
 abbrev pub found_end : List ℕ → List ℕ → Option ℕ
 found_end end os = find (λ i. same_name (take (length end) (drop i os)) end) (range_with_len 0 (length os))
 
-abbrev pub FoundFails : Here → TextLeaf → (ending : ℕ) → (most : ℕ) → (available : ℕ) → List Bool → Option ℕ → Fault → (reach : ℕ) → Type 0
-FoundFails here leaf ending most available rest None fault reach =
-    ((available < most) × Says here short fault × (reach ≡ length rest)) ⊎ ((most ≤ available) × Says here too_long fault × (reach ≡ 8 * most))
-FoundFails here leaf ending most available rest (Some i) fault reach =
-    ((In leaf.sized.sizes (pos i) → ⊥) × Says here (size_out_of_range i) fault × (reach ≡ 8 * i + ending))
-    ⊎ (In leaf.sized.sizes (pos i) × NoText leaf (take (8 * i) rest) × Says here bad_character fault × (reach ≡ 8 * i + ending))
+-- it stands in none of as many octets as a text and it have at most
+pub data NoneFound (here : Here) (most available : ℕ) (rest : List Bool) (fault : Fault) (reach : ℕ) : Type 0 where
+  -- the input ends first
+  input_ended : (available < most) × Says here short fault × (reach ≡ length rest) → NoneFound here most available rest fault reach
+  end_too_late : (most ≤ available) × Says here too_long fault × (reach ≡ 8 * most) → NoneFound here most available rest fault reach
+
+-- it stands behind i octets, which are no text of the leaf
+pub data FoundBehind (here : Here) (leaf : TextLeaf) (ending i : ℕ) (rest : List Bool) (fault : Fault) (reach : ℕ) : Type 0 where
+  length_not_permitted : (In leaf.sized.sizes (pos i) → ⊥) × Says here (size_out_of_range i) fault × (reach ≡ 8 * i + ending) → FoundBehind here leaf ending i rest fault reach
+  character_not_permitted : In leaf.sized.sizes (pos i) × NoText leaf (take (8 * i) rest) × Says here bad_character fault × (reach ≡ 8 * i + ending) → FoundBehind here leaf ending i rest fault reach
+
+abbrev pub FoundFails : Here → TextLeaf → (ending most available : ℕ) → List Bool → Option ℕ → Fault → (reach : ℕ) → Type 0
+FoundFails here leaf ending most available rest None fault reach = NoneFound here most available rest fault reach
+FoundFails here leaf ending most available rest (Some i) fault reach = FoundBehind here leaf ending i rest fault reach
 
 abbrev pub TextFails : Here → Option (List Bool) → TextLeaf → Env → Failing
 TextFails here None leaf env at rest fault reach = SizeFails here leaf.sized env at rest fault reach ⊎ Sized leaf.sized env (CharactersFail here leaf) at rest fault reach

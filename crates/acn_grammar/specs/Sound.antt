@@ -3,7 +3,7 @@
 use Rattle.std.specs.Prelude.{◌≡◌, ℕ, zero, suc, ◌+◌, ◌≤◌, nat_eq, ℤ, true, false, List, ◌++◌, length, map, Contains, Option, Some, None, IsTrue}
 use Rattle.acn_num.specs.Ranges.{In}
 use Rattle.acn_grammar.specs.Asks.{same_name}
-use Rattle.acn_grammar.specs.Check.{HasWidth}
+use Rattle.acn_grammar.specs.Check.{HasOneWidth}
 use Rattle.acn_grammar.specs.Fails.{count_of}
 use Rattle.acn_grammar.specs.Walk.{conditions_of}
 use Rattle.acn_grammar.specs.Grammar.{Grammar, Form, Fields, Alternatives, node, num, octets, bits, text, seq, list, choice, contained, no_fields, component, inserted, no_alternatives, alternative}
@@ -17,7 +17,7 @@ use Rattle.acn_grammar.specs.declared.node.Presence.{Presence}
 use Rattle.acn_grammar.specs.declared.node.Presence.TheVariants.{Always, Bit, When}
 use Rattle.acn_grammar.specs.declared.node.ChoiceRule.{ChoiceRule}
 use Rattle.acn_grammar.specs.declared.node.ChoiceRule.TheVariants.{Index, Tests, Item}
-use Rattle.acn_grammar.specs.declared.limits.TheConstants.{MOST_DETERMINANT_BITS, MOST_NODES, MOST_OPEN_SLOTS}
+use Rattle.acn_grammar.specs.declared.limits.TheConstants.{MOST_NODES, MOST_OPEN_SLOTS}
 use Rattle.acn_num.specs.declared.limits.TheConstants.{MOST_STEPS}
 
 abbrev pub field_count : Fields → ℕ
@@ -43,7 +43,7 @@ NothingLeavesIt (When ts) ks g = NothingLeaves ks g
 
 -- all codes of the number have one length, that of a determinant at most
 abbrev pub OneWidth : Grammar → Type 0
-OneWidth (node align (num leaf)) = (w : ℕ) × HasWidth leaf w × (w ≤ MOST_DETERMINANT_BITS)
+OneWidth (node align (num leaf)) = HasOneWidth leaf
 OneWidth _ = ⊥
 
 -- the node is a NULL, whose number is no slot's

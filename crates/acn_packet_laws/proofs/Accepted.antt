@@ -40,11 +40,16 @@ module _ (root : Grammar) (tree : IsTree root) (sound : (f : CheckFault) → Und
       let fine = (place_fine (nodes_of root) (numbers root tree sound) (rules root tree sound) pre role path around align (list sizing g) post p).form in
       record {
         fine = (and_parts (sizes_fine sizing.sizes) (list_rule_fine (ending sizing.rule) sizing) fine).0;
-        told = λ ambiguous. sound (terminator_ambiguous path) (
-          length pre,
-          0,
-          (here, ap (λ l. slice_get l (length pre)) p.whole ∙ get_here pre here (form_nodes path around (list sizing g) ++ post), refl, subst (λ (o : Option (List Bool)). EndAmbiguous o g) (sym e) ambiguous),
-        );
+        told = λ ambiguous. sound (terminator_ambiguous path) (record {
+          node = length pre;
+          use_here = 0;
+          holds = record {
+            at = here;
+            is_at = ap (λ l. slice_get l (length pre)) p.whole ∙ get_here pre here (form_nodes path around (list sizing g) ++ post);
+            path_is = refl;
+            ambiguous = subst (λ (o : Option (List Bool)). EndAmbiguous o g) (sym e) ambiguous;
+          };
+        });
       }
 
   mutual

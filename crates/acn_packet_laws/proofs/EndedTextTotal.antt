@@ -6,7 +6,7 @@ use Rattle.acn_num.specs.Bits.{bits}
 use Rattle.acn_num.specs.Ranges.{In, are_ranges, all_within, greatest}
 use Rattle.acn_grammar.specs.Asks.{same_name}
 use Rattle.acn_grammar.specs.Env.{Env}
-use Rattle.acn_grammar.specs.Fails.{Here, Fault, NoText, found_end, FoundFails, TextFails}
+use Rattle.acn_grammar.specs.Fails.{Here, Fault, NoText, found_end, input_ended, end_too_late, length_not_permitted, character_not_permitted, FoundFails, TextFails}
 use Rattle.acn_grammar.specs.Interval.{size_of}
 use Rattle.acn_grammar.specs.LeafFails.{short, too_long, bad_character, size_out_of_range, octet_values}
 use Rattle.acn_grammar.specs.Leaves.{sizes_fine, end_fine, width_fine, rule_fine, no_size, is_terminator, is_pattern}
@@ -130,10 +130,10 @@ module _ (here : Here) (leaf : TextLeaf) (end : List Bool) (eight : leaf.width �
   chars : (most i : ℕ) → Found (λ j. same_name (take (length (octet_numbers end)) (drop j (take most (octet_values rest)))) (octet_numbers end)) 0 (length (take most (octet_values rest))) i → In leaf.sized.sizes (pos i)
       → ((cs : List ℕ) × (length cs ≡ i) × ((at' : ℕ) → CharactersPart leaf cs at' (take (8 * i) rest))) ⊎ NoText leaf (take (8 * i) rest) → Goal most (Some i)
   chars most i found p (inl c) = inl (found_text most i found p c.0 c.1 (c.2 at))
-  chars most i found p (inr n) = inr (says here bad_character, 8 * i + length end, inr (p, n, refl, refl))
+  chars most i found p (inr n) = inr (says here bad_character, 8 * i + length end, character_not_permitted (p, n, refl, refl))
 
   sized : (most i : ℕ) → Found (λ j. same_name (take (length (octet_numbers end)) (drop j (take most (octet_values rest)))) (octet_numbers end)) 0 (length (take most (octet_values rest))) i → In leaf.sized.sizes (pos i) ⊎ (In leaf.sized.sizes (pos i) → ⊥) → Goal most (Some i)
-  sized most i found (inr p) = inr (says here (size_out_of_range i), 8 * i + length end, inl (p, refl, refl))
+  sized most i found (inr p) = inr (says here (size_out_of_range i), 8 * i + length end, length_not_permitted (p, refl, refl))
   sized most i found (inl p) =
       chars most i found p (chars_total leaf within (λ z. absurd (omega (arith, eight, z))) i (take (8 * i) rest) (length-take-le (8 * i) rest (left most i found) ∙ ap (λ (w : ℕ). w * i) (sym eight)))
 
@@ -142,8 +142,8 @@ module _ (here : Here) (leaf : TextLeaf) (end : List Bool) (eight : leaf.width �
   by_found most None e = by (less_or_not (length (octet_values rest)) most)
     where
       by : (length (octet_values rest) < most) ⊎ (most ≤ length (octet_values rest)) → Goal most None
-      by (inl h) = inr (says here short, length rest, inl (h, refl, refl))
-      by (inr h) = inr (says here too_long, 8 * most, inr (h, refl, refl))
+      by (inl h) = inr (says here short, length rest, input_ended (h, refl, refl))
+      by (inr h) = inr (says here too_long, 8 * most, end_too_late (h, refl, refl))
 
   pub ended_total : Result here (Some end) leaf env at rest
   ended_total = by_found (size_of (greatest leaf.sized.sizes) + length (octet_numbers end)) (found_end (octet_numbers end) (take (size_of (greatest leaf.sized.sizes) + length (octet_numbers end)) (octet_values rest))) refl

@@ -3,7 +3,7 @@ use Rattle.std.proofs.Common.{◌≡◌, ℕ, zero, suc, ◌+◌, ◌*◌, ◌�
 use Rattle.acn_num.specs.Ranges.{greatest}
 use Rattle.acn_grammar.specs.Code.{Any}
 use Rattle.acn_grammar.specs.Env.{Env}
-use Rattle.acn_grammar.specs.Fails.{Fault, Failing, Behind, Here, Says, Short, After, RuleFails, SizeFails, Sized, PartsFail, CharactersFail, FoundFails, TextFails, found_end, RunFails, EndFails, NoEnd, EndedFails, ListFails, Fails, FormFails, FieldsFail, AlternativeFails, IndexFails, Overlong, presence_count, flags_behind}
+use Rattle.acn_grammar.specs.Fails.{Fault, Failing, Behind, Here, Says, Short, After, RuleFails, SizeFails, Sized, PartsFail, CharactersFail, input_ended, end_too_late, length_not_permitted, character_not_permitted, FoundFails, TextFails, found_end, RunFails, EndFails, NoEnd, EndedFails, ListFails, Fails, FormFails, FieldsFail, AlternativeFails, IndexFails, Overlong, presence_count, flags_behind}
 use Rattle.acn_grammar.specs.Grammar.{Grammar, Form, Fields, Alternatives, Data, node, num, octets, bits, text, seq, list, choice, contained, no_fields, component, inserted, no_alternatives, alternative, null}
 use Rattle.acn_grammar.specs.Interval.{size_of}
 use Rattle.acn_grammar.specs.LeafFails.{Reason, short, octet_values}
@@ -91,10 +91,10 @@ module _ (root : Grammar) where
   characters_named here leaf n l at rest fault reach (inr t) = says_named here _ fault l t.2
 
   found_named : (here : Here) (leaf : TextLeaf) (end most available : ℕ) (rest : List Bool) (found : Option ℕ) (fault : Fault) (reach : ℕ) → Leads here.path → FoundFails here leaf end most available rest found fault reach → Leads fault.path
-  found_named here leaf end most available rest None fault reach l (inl t) = says_named here _ fault l t.1
-  found_named here leaf end most available rest None fault reach l (inr t) = says_named here _ fault l t.1
-  found_named here leaf end most available rest (Some i) fault reach l (inl t) = says_named here _ fault l t.1
-  found_named here leaf end most available rest (Some i) fault reach l (inr t) = says_named here _ fault l t.2
+  found_named here leaf end most available rest None fault reach l (input_ended t) = says_named here _ fault l t.1
+  found_named here leaf end most available rest None fault reach l (end_too_late t) = says_named here _ fault l t.1
+  found_named here leaf end most available rest (Some i) fault reach l (length_not_permitted t) = says_named here _ fault l t.1
+  found_named here leaf end most available rest (Some i) fault reach l (character_not_permitted t) = says_named here _ fault l t.2
 
   text_named : (end : Option (List Bool)) (here : Here) (leaf : TextLeaf) (env : Env) → Leads here.path → Named (TextFails here end leaf env)
   text_named None here leaf env l at rest fault reach t =

@@ -56,4 +56,4 @@ module _ (root : Grammar) where
   }))
 
 pub none_without_first : NoFaultWithoutAFirst
-none_without_first root no_first f e = none_at root no_first (rank root f e.0 e.1) (five root f e.0 e.1) f e.0 e.1 refl e.2
+none_without_first root no_first f e = none_at root no_first (rank root f e.node e.use_here) (five root f e.node e.use_here) f e.node e.use_here refl e.holds

@@ -193,7 +193,11 @@ module _ (root : Grammar) (tree : IsTree root) (sound : (f : CheckFault) → Und
       (λ e. home_of root [] root_node [] [] [] (root_place root (numbers root tree sound) (rules root tree sound)) s e)
       (λ e.
       let f = find_field (nodes_of root) s h in
-      absurd (sound (unused f.1.path) (f.0, 0, (f.1, s, f.2, refl, f.3, λ c. let n = uses_named (nodes_of root) s (contains_holds (map slot_of (flat_map uses (nodes_of root))) s c) in cc))))
+      absurd (sound (unused f.1.path) (record {
+        node = f.0;
+        use_here = 0;
+        holds = record { at = f.1; is_at = f.2; path_is = refl; slot = s; slot_is = f.3; no_use = λ c. let n = uses_named (nodes_of root) s (contains_holds (map slot_of (flat_map uses (nodes_of root))) s c) in cc };
+      })))
 
   -- into a SEQUENCE
   pub in_fields : (pre : List Stand) (role : Role) (path around : List ℕ) (align : ℕ) (fields : Fields) (home : List ℕ) (post : List Stand) → At root tree sound pre role path around (node align (seq fields home)) post

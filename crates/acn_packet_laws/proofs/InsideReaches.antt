@@ -6,7 +6,7 @@ use Rattle.acn_grammar.specs.Asks.{same_name}
 use Rattle.acn_grammar.specs.Check.{lead, LeadAmbiguous}
 use Rattle.acn_grammar.specs.Code.{Any}
 use Rattle.acn_grammar.specs.Env.{Env}
-use Rattle.acn_grammar.specs.Fails.{Fault, Failing, Behind, Here, Short, After, RuleFails, SizeFails, Sized, PartsFail, CharactersFail, FoundFails, TextFails, found_end, RunFails, EndFails, NoEnd, EndedFails, ListFails, Fails, FormFails, FieldsFail, AlternativeFails, IndexFails, Overlong, flags_behind, presence_count}
+use Rattle.acn_grammar.specs.Fails.{Fault, Failing, Behind, Here, Short, After, RuleFails, SizeFails, Sized, PartsFail, CharactersFail, input_ended, end_too_late, length_not_permitted, character_not_permitted, FoundFails, TextFails, found_end, RunFails, EndFails, NoEnd, EndedFails, ListFails, Fails, FormFails, FieldsFail, AlternativeFails, IndexFails, Overlong, flags_behind, presence_count}
 use Rattle.acn_grammar.specs.Grammar.{Grammar, Form, Fields, Alternatives, Data, node, num, octets, bits, text, seq, list, choice, contained, no_fields, component, inserted, no_alternatives, alternative, null}
 use Rattle.acn_grammar.specs.Interval.{size_of}
 use Rattle.acn_grammar.specs.LeafFails.{short, octet_values}
@@ -104,8 +104,8 @@ characters_inside path place leaf n at rest fault reach (inr t) r = let a = t.0 
 
 found_inside : (path : List ℕ) (place : ℕ) (leaf : TextLeaf) (end : List Bool) → length end ≡ 8 * length (octet_numbers end) → (most : ℕ) (rest : List Bool) (found : Option ℕ) → found_end (octet_numbers end) (take most (octet_values rest)) ≡ found → (fault : Fault) (reach : ℕ)
     → FoundFails (out path place) leaf (length end) most (length (octet_values rest)) rest found fault reach → (fault.reason ≡ short → ⊥) → reach ≤ length rest
-found_inside path place leaf end whole most rest None is fault reach (inl t) r = absurd (r (ap (λ f. f.reason) t.1))
-found_inside path place leaf end whole most rest None is fault reach (inr t) r = let a = t.0 in let b = t.2 in let l = octets_few rest in omega arith
+found_inside path place leaf end whole most rest None is fault reach (input_ended t) r = absurd (r (ap (λ f. f.reason) t.1))
+found_inside path place leaf end whole most rest None is fault reach (end_too_late t) r = let a = t.0 in let b = t.2 in let l = octets_few rest in omega arith
 found_inside path place leaf end whole most rest (Some i) is fault reach t r =
     let front = take most (octet_values rest) in
     let f = find_back (λ j. same_name (take (length (octet_numbers end)) (drop j (take most (octet_values rest)))) (octet_numbers end)) 0 (length (take most (octet_values rest))) i is in
@@ -119,8 +119,8 @@ found_inside path place leaf end whole most rest (Some i) is fault reach t r =
     omega arith
   where
     reach_is : FoundFails (out path place) leaf (length end) most (length (octet_values rest)) rest (Some i) fault reach → reach ≡ 8 * i + length end
-    reach_is (inl t) = t.2
-    reach_is (inr t) = t.3
+    reach_is (length_not_permitted t) = t.2
+    reach_is (character_not_permitted t) = t.3
 
 text_by : (end : Option (List Bool)) (leaf : TextLeaf) → end_fine end leaf ≡ true → (path : List ℕ) (place : ℕ) (env : Env) → Inside (TextFails (out path place) end leaf env)
 text_by None leaf f path place env at rest fault reach t r =

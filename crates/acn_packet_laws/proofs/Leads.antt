@@ -147,4 +147,4 @@ not_begun root p g ks fine told env d at bs r t e = by (lead (length p) g) refl 
     by (Some leaf) is h =
         let l = node_leads root (length p) leaf g ks fine is env d at bs t in
         let far = take_less (length p) l.code (l.rest ++ r) l.long in
-        h (l.number, l.code, l.codes, sym far ∙ (ap (take (length p)) (sym (append_assoc l.code l.rest r) ∙ ap (λ x. x ++ r) (sym l.whole)) ∙ e))
+        h (record { number = l.number; code = l.code; codes = l.codes; begins = sym far ∙ (ap (take (length p)) (sym (append_assoc l.code l.rest r) ∙ ap (λ x. x ++ r) (sym l.whole)) ∙ e) })

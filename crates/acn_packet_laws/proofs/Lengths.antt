@@ -56,7 +56,7 @@ null_width leaf fine k x p =
 
 module _ (root : Grammar) where
   slot_steady : (k : ℕ) (around : List ℕ) (ks : Known) (g : Grammar) → Sound root k around ks g → SlotWidth g → SteadyLeaf g
-  slot_steady k around ks (node align (num leaf)) h w = (last_three h, one_width leaf (last_three h) w.0 w.1)
+  slot_steady k around ks (node align (num leaf)) h w = (last_three h, one_width leaf (last_three h) w.width w.all_codes)
   slot_steady k around ks (node align _) h w = absurd w
 
   null_steady : (k : ℕ) (around : List ℕ) (ks : Known) (g : Grammar) → Sound root k around ks g → IsNull g → SteadyLeaf g

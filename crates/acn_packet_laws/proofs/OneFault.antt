@@ -297,34 +297,34 @@ module _ (root : Grammar) where
         ∙ (det_is (nodes_of root) (slot_of use') (λ a b e p q. twice (nodes_of root) (tree_numbered root tree) (tree_rules root tree) a b e (slot_of use') p q) j r.field r.is_field r.slot ∙ r.det_path)
 
     told : (f : CheckFault) (k u : ℕ) → Evidence root f k u → rebuilt (values_of f) (rank root f k u) ≡ Some f
-    told (forward user det) k u e = ap (λ x. Some (forward x (det_of (use_slot (here k) u) (nodes_of root)))) (place_is k e.2.at user e.2.is_at e.2.user_path) ∙ ap (λ y. Some (forward user y)) (det_here k u user det e.0 e.1 e.2)
-    told (det_kind user det) k u e = ap (λ x. Some (det_kind x (det_of (use_slot (here k) u) (nodes_of root)))) (place_is k e.3.at user e.3.is_at e.3.user_path) ∙ ap (λ y. Some (det_kind user y)) (det_here k u user det e.0 e.1 e.3)
-    told (det_width det) k u e = ap (λ x. Some (det_width x)) (place_is k e.0 det e.3 e.4)
-    told (overlap path i j values) k u e = ap (λ x. Some (overlap x i j values)) (place_is k e.1.at path e.1.is_at e.1.path_is)
-    told (absent_unclear path) k u e = ap (λ x. Some (absent_unclear x)) (place_is k e.0 path e.1 e.2)
-    told (unused det) k u e = ap (λ x. Some (unused x)) (place_is k e.0 det e.2 e.3)
-    told (no_item path i) k u e = ap (λ x. Some (no_item x i)) (place_is k e.4.at path e.4.is_at e.4.path_is)
-    told (mixed_choice path) k u e = ap (λ x. Some (mixed_choice x)) (place_is k e.2.at path e.2.is_at e.2.path_is)
-    told (too_long n) k u e = ap (λ x. Some (too_long x)) (sym e.1)
-    told (too_many_open path n) k u e = ap (λ x. Some (too_many_open x (open_of (here k)))) (place_is k e.0 path e.1 e.2) ∙ ap (λ y. Some (too_many_open path y)) (ap open_of e.1 ∙ sym e.3)
+    told (forward user det) k u e = ap (λ x. Some (forward x (det_of (use_slot (here k) u) (nodes_of root)))) (place_is k e.use_is.at user e.use_is.is_at e.use_is.user_path) ∙ ap (λ y. Some (forward user y)) (det_here k u user det e.named e.field_at e.use_is)
+    told (det_kind user det) k u e = ap (λ x. Some (det_kind x (det_of (use_slot (here k) u) (nodes_of root)))) (place_is k e.use_is.at user e.use_is.is_at e.use_is.user_path) ∙ ap (λ y. Some (det_kind user y)) (det_here k u user det e.named e.field_at e.use_is)
+    told (det_width det) k u e = ap (λ x. Some (det_width x)) (place_is k e.at det e.is_at e.path_is)
+    told (overlap path i j values) k u e = ap (λ x. Some (overlap x i j values)) (place_is k e.choice_is.at path e.choice_is.is_at e.choice_is.path_is)
+    told (absent_unclear path) k u e = ap (λ x. Some (absent_unclear x)) (place_is k e.at path e.is_at e.path_is)
+    told (unused det) k u e = ap (λ x. Some (unused x)) (place_is k e.at det e.is_at e.path_is)
+    told (no_item path i) k u e = ap (λ x. Some (no_item x i)) (place_is k e.choice_is.at path e.choice_is.is_at e.choice_is.path_is)
+    told (mixed_choice path) k u e = ap (λ x. Some (mixed_choice x)) (place_is k e.choice_is.at path e.choice_is.is_at e.choice_is.path_is)
+    told (too_long n) k u e = ap (λ x. Some (too_long x)) (sym e.bits_are)
+    told (too_many_open path n) k u e = ap (λ x. Some (too_many_open x (open_of (here k)))) (place_is k e.at path e.is_at e.path_is) ∙ ap (λ y. Some (too_many_open path y)) (ap open_of e.is_at ∙ sym e.count_is)
     told (too_many_conditions det n) k u e =
-        ap (λ x. Some (too_many_conditions x (equals_on root (own_slot (here k))))) (place_is k e.0 det e.2 e.3)
-        ∙ ap (λ y. Some (too_many_conditions det y)) (ap (equals_on root) (ap own_slot e.2 ∙ ap slot_or e.4) ∙ sym e.5)
-    told (too_many_values n) k u e = ap (λ x. Some (too_many_values x)) (sym e.1)
-    told (terminator_ambiguous path) k u e = ap (λ x. Some (terminator_ambiguous x)) (place_is k e.0 path e.1 e.2)
+        ap (λ x. Some (too_many_conditions x (equals_on root (own_slot (here k))))) (place_is k e.at det e.is_at e.path_is)
+        ∙ ap (λ y. Some (too_many_conditions det y)) (ap (equals_on root) (ap own_slot e.is_at ∙ ap slot_or e.slot_is) ∙ sym e.count_is)
+    told (too_many_values n) k u e = ap (λ x. Some (too_many_values x)) (sym e.count_is)
+    told (terminator_ambiguous path) k u e = ap (λ x. Some (terminator_ambiguous x)) (place_is k e.at path e.is_at e.path_is)
 
   -- the numbers of two overlaps of one rank
   overlap_values : (path path' : List ℕ) (i j i' j' : ℕ) (vs vs' : Env) (k u k' u' : ℕ) → Evidence root (overlap path i j vs) k u → Evidence root (overlap path' i' j' vs') k' u' → (k ≡ k') × (i ≡ i') × (j ≡ j') → vs ≡ vs'
   overlap_values path path' i j i' j' vs vs' k u k' u' e e' same =
-      let at : e.1.at ≡ e'.1.at = some_same e.1.at e'.1.at (sym e.1.is_at ∙ (ap here same.0 ∙ e'.1.is_at)) in
-      let cases : e.0 ≡ e'.0 = same_cases e.0 e'.0 (sym (choice_is root e.1.at.form e.0 Tests e.1.form_is) ∙ (ap (λ (x : Stand). x.form) at ∙ choice_is root e'.1.at.form e'.0 Tests e'.1.form_is)) in
-      let one : e.2.one ≡ e'.2.one = some_same e.2.one e'.2.one (sym e.2.is_one ∙ (ap (λ c. slice_get (conditions_of c) i) cases ∙ (ap (λ n. slice_get (conditions_of e'.0) n) same.1 ∙ e'.2.is_one))) in
-      let other : e.2.other ≡ e'.2.other = some_same e.2.other e'.2.other (sym e.2.is_other ∙ (ap (λ c. slice_get (conditions_of c) j) cases ∙ (ap (λ n. slice_get (conditions_of e'.0) n) same.2 ∙ e'.2.is_other))) in
-      let ts : e.2.one.1 ++ e.2.other.1 ≡ e'.2.one.1 ++ e'.2.other.1 = ap (λ c. c.1 ++ e.2.other.1) one ∙ ap (λ c. e'.2.one.1 ++ c.1) other in
-      let mine : (s : ℕ) → holds (map (λ x. x.0) vs) s ≡ holds (map test_slot (e.2.one.1 ++ e.2.other.1)) s = λ s. same_holds (map (λ x. x.0) vs) (map test_slot (e.2.one.1 ++ e.2.other.1)) s (e.2.slots s) (e.2.all_slots s) in
-      let theirs : (s : ℕ) → holds (map (λ x. x.0) vs') s ≡ holds (map test_slot (e'.2.one.1 ++ e'.2.other.1)) s = λ s. same_holds (map (λ x. x.0) vs') (map test_slot (e'.2.one.1 ++ e'.2.other.1)) s (e'.2.slots s) (e'.2.all_slots s) in
-      let keys = same_keys (map (λ x. x.0) vs) (map (λ x. x.0) vs') e.2.ascending e'.2.ascending (λ s. mine s ∙ (ap (λ l. holds (map test_slot l) s) ts ∙ sym (theirs s))) in
-      same_values vs vs' keys e.2.ascending (λ s q. forced vs vs' (e.2.one.1 ++ e.2.other.1) e.2.holds (subst (λ l. AllHold vs' l) (sym ts) e'.2.holds) s (sym (mine s) ∙ q))
+      let at : e.choice_is.at ≡ e'.choice_is.at = some_same e.choice_is.at e'.choice_is.at (sym e.choice_is.is_at ∙ (ap here same.0 ∙ e'.choice_is.is_at)) in
+      let cases : e.cases ≡ e'.cases = same_cases e.cases e'.cases (sym (choice_is root e.choice_is.at.form e.cases Tests e.choice_is.form_is) ∙ (ap (λ (x : Stand). x.form) at ∙ choice_is root e'.choice_is.at.form e'.cases Tests e'.choice_is.form_is)) in
+      let one : e.overlaps.one ≡ e'.overlaps.one = some_same e.overlaps.one e'.overlaps.one (sym e.overlaps.is_one ∙ (ap (λ c. slice_get (conditions_of c) i) cases ∙ (ap (λ n. slice_get (conditions_of e'.cases) n) same.1 ∙ e'.overlaps.is_one))) in
+      let other : e.overlaps.other ≡ e'.overlaps.other = some_same e.overlaps.other e'.overlaps.other (sym e.overlaps.is_other ∙ (ap (λ c. slice_get (conditions_of c) j) cases ∙ (ap (λ n. slice_get (conditions_of e'.cases) n) same.2 ∙ e'.overlaps.is_other))) in
+      let ts : e.overlaps.one.1 ++ e.overlaps.other.1 ≡ e'.overlaps.one.1 ++ e'.overlaps.other.1 = ap (λ c. c.1 ++ e.overlaps.other.1) one ∙ ap (λ c. e'.overlaps.one.1 ++ c.1) other in
+      let mine : (s : ℕ) → holds (map (λ x. x.0) vs) s ≡ holds (map test_slot (e.overlaps.one.1 ++ e.overlaps.other.1)) s = λ s. same_holds (map (λ x. x.0) vs) (map test_slot (e.overlaps.one.1 ++ e.overlaps.other.1)) s (e.overlaps.slots s) (e.overlaps.all_slots s) in
+      let theirs : (s : ℕ) → holds (map (λ x. x.0) vs') s ≡ holds (map test_slot (e'.overlaps.one.1 ++ e'.overlaps.other.1)) s = λ s. same_holds (map (λ x. x.0) vs') (map test_slot (e'.overlaps.one.1 ++ e'.overlaps.other.1)) s (e'.overlaps.slots s) (e'.overlaps.all_slots s) in
+      let keys = same_keys (map (λ x. x.0) vs) (map (λ x. x.0) vs') e.overlaps.ascending e'.overlaps.ascending (λ s. mine s ∙ (ap (λ l. holds (map test_slot l) s) ts ∙ sym (theirs s))) in
+      same_values vs vs' keys e.overlaps.ascending (λ s q. forced vs vs' (e.overlaps.one.1 ++ e.overlaps.other.1) e.overlaps.holds (subst (λ l. AllHold vs' l) (sym ts) e'.overlaps.holds) s (sym (mine s) ∙ q))
 
   both_overlap : (f g : CheckFault) (k u k' u' : ℕ) → Evidence root f k u → Evidence root g k' u' → rank root f k u ≡ rank root g k' u' → IsOverlap f → IsOverlap g → values_of f ≡ values_of g
   both_overlap f g k u k' u' e e' r p q =

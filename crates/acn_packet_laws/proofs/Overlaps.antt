@@ -1,12 +1,12 @@
 -- Without an overlap and a mixed choice no permitted numbers choose two alternatives.
-use Rattle.std.proofs.Common.{◌≡◌, ℕ, zero, suc, ◌<◌, ◌≤◌, ℤ, pos, Bool, true, false, List, [], ◌∷◌, ◌++◌, length, map, Option, Some, refl, sym, ap, ◌∙◌, arith, nat_eq, ◌||◌, inr}
+use Rattle.std.proofs.Common.{◌≡◌, ℕ, zero, suc, ◌<◌, ◌≤◌, ℤ, pos, Bool, true, false, List, [], ◌∷◌, ◌++◌, length, map, Option, Some, refl, sym, ap, ◌∙◌, arith, nat_eq, ◌||◌}
 use Rattle.std.proofs.lemmas.Bool.{or_left, or_right, ltb-true, eqb-false, eqb-true}
 use Rattle.std.specs.Prelude.{slice_get, nat_lt, if◌then◌else◌, unwrap_or}
 use Rattle.std.specs.List.{AllByRecursion, list_any}
 use Rattle.std.proofs.lemmas.Bool.Decides.{nat_tests}
 use native.Mathlib.Decide.{dec_lt}
 use Rattle.acn_num.specs.Ranges.{In}
-use Rattle.acn_grammar.specs.Check.{CheckFault, overlap, mixed_choice, Undecodable, test_slot, IsStrictly, NodeAt, IsChoice}
+use Rattle.acn_grammar.specs.Check.{CheckFault, overlap, mixed_choice, one_without, Undecodable, test_slot, IsStrictly, NodeAt, IsChoice}
 use Rattle.acn_grammar.specs.Env.{Env, at_slot, AllHold}
 use Rattle.acn_grammar.specs.Fails.{count_of}
 use Rattle.acn_grammar.specs.Grammar.{Grammar, Alternatives, no_alternatives, alternative}
@@ -156,7 +156,11 @@ module _ (root : Grammar) where
         by : (ts : List Test) → (name : List ℕ) × (slice_get (conditions_of cases) i ≡ Some (name, ts)) → 0 < length ts
         by [] c =
             let m = some_tests (conditions_of cases) some in
-            absurd (sound (mixed_choice at.path) (k, 0, (cases, Tests, record { at = at; is_at = is_at; path_is = refl; form_is = is_choice }, m.0, m.1, m.2, m.3, inr (i, (c.0, []), c.1, refl))))
+            absurd (sound (mixed_choice at.path) (record {
+              node = k;
+              use_here = 0;
+              holds = record { cases = cases; rule = Tests; choice_is = record { at = at; is_at = is_at; path_is = refl; form_is = is_choice }; first = m.0; one = m.1; is_one = m.2; some_one = m.3; beside = one_without i (c.0, []) c.1 refl };
+            }))
         by (t ∷ ts) c = omega arith
 
     in_turn : (env : Env) → Permitted root env → (i j : ℕ) → i < j → j < count_of cases → AllHold env (tests_at cases i) → AllHold env (tests_at cases j) → ⊥
@@ -167,13 +171,13 @@ module _ (root : Grammar) where
         let ts = tests_at cases i ++ tests_at cases j in
         let xs = in_order (map test_slot (tests_at cases i ++ tests_at cases j)) in
         let both = all_hold-append env (tests_at cases i) (tests_at cases j) one two in
-        sound (overlap at.path i j (numbers_in env xs)) (
-          k,
-          0,
-          (
-            cases,
-            record { at = at; is_at = is_at; path_is = refl; form_is = is_choice },
-            record {
+        sound (overlap at.path i j (numbers_in env xs)) (record {
+          node = k;
+          use_here = 0;
+          holds = record {
+            cases = cases;
+            choice_is = record { at = at; is_at = is_at; path_is = refl; form_is = is_choice };
+            overlaps = record {
               in_order = less;
               one = (a.0, tests_at cases i);
               other = (b.0, tests_at cases j);
@@ -186,9 +190,9 @@ module _ (root : Grammar) where
               ascending = rw (slots-are env xs) (order_strict (map test_slot ts));
               permitted = all_permitted env ts xs p both (λ s q. sym (order-holds (map test_slot ts) s) ∙ q);
               holds = hold_in env xs ts (λ s q. order-holds (map test_slot ts) s ∙ q) both;
-            },
-          ),
-        )
+            };
+          };
+        })
 
     pub no_overlap : NoOverlap root cases
     no_overlap env p i j a b one two = elim (dec_lt i j) [

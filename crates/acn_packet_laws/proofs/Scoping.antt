@@ -342,13 +342,13 @@ module _ (root : Grammar) (tree : IsTree root) (sound : (f : CheckFault) → Und
       let field = find_field c s r in
       let named_use = find_use (uses here) s u in
       let later = get_later a here field.1 c field.0 field.2 in
-      absurd (sound (forward here.path field.1.path) (
-        length a,
-        named_use.0,
-        (
-          named_use.1,
-          later.0,
-          record {
+      absurd (sound (forward here.path field.1.path) (record {
+        node = length a;
+        use_here = named_use.0;
+        holds = record {
+          named = named_use.1;
+          field_at = later.0;
+          use_is = record {
             at = here;
             field = field.1;
             is_at = ap (λ l. slice_get l (length a)) e ∙ get_here a here c;
@@ -357,10 +357,10 @@ module _ (root : Grammar) (tree : IsTree root) (sound : (f : CheckFault) → Und
             slot = field.3 ∙ ap Some (sym named_use.3);
             user_path = refl;
             det_path = refl;
-          },
-          later.1,
-        ),
-      ))))
+          };
+          behind = later.1;
+        };
+      }))))
 
   -- so the slot of a use is known
   pub use_known : (pre : List Stand) (role : Role) (path around : List ℕ) (align : ℕ) (form : Form) (post : List Stand) → At pre role path around (node align form) post → (ks : Known) → Knows ks pre around (nodes role path around (node align form)) → (s : ℕ) → used s (here_at role path around align form) ≡ true → ks s ≡ true

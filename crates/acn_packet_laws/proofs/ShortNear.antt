@@ -6,7 +6,7 @@ use Rattle.acn_num.specs.Ranges.{In, greatest}
 use Rattle.acn_grammar.specs.Check.{too_long as too_long_tree}
 use Rattle.acn_grammar.specs.Code.{Any}
 use Rattle.acn_grammar.specs.Env.{Env}
-use Rattle.acn_grammar.specs.Fails.{Fault, Failing, Behind, Here, Short, Says, seen, RuleFails, SizeFails, Sized, PartsFail, CharactersFail, FoundFails, TextFails, RunFails, EndedFails, ListFails, Fails, FormFails, FieldsFail, AlternativeFails, IndexFails, Overlong, flags_behind, presence_count}
+use Rattle.acn_grammar.specs.Fails.{Fault, Failing, Behind, Here, Short, Says, seen, RuleFails, SizeFails, Sized, PartsFail, CharactersFail, input_ended, end_too_late, length_not_permitted, character_not_permitted, FoundFails, TextFails, RunFails, EndedFails, ListFails, Fails, FormFails, FieldsFail, AlternativeFails, IndexFails, Overlong, flags_behind, presence_count}
 use Rattle.acn_grammar.specs.Grammar.{Grammar, Form, Fields, Alternatives, Data, node, num, octets, bits, text, seq, list, choice, contained, no_fields, component, inserted, no_alternatives, alternative, null}
 use Rattle.acn_grammar.specs.Interval.{held, exactly, plus, times, in_octets, span, form_span, fields_span, alternatives_span, num_span, sizes_of, size_of, end_width, list_around, component_span}
 use Rattle.acn_grammar.specs.LeafFails.{Reason, short, out_of_range, not_minimal, bad_digit, bad_character, bad_pattern, too_long, size_out_of_range, no_alternative, content_size, past_content, octet_values}
@@ -199,10 +199,10 @@ text_near (Some end) here leaf env s f at rest fault reach t e = by _ t
 
     by : (found : Option ℕ) → FoundFails here leaf (length end) (size_of (greatest leaf.sized.sizes) + length (octet_numbers end)) (length (octet_values rest)) rest found fault reach
         → (here.inside ≡ false) × ((plus (exactly (rule_width leaf.sized.rule + length end)) (times (sizes_of leaf.sized.sizes) (exactly leaf.width))).greatest < 2 ^ 40 → length rest < (plus (exactly (rule_width leaf.sized.rule + length end)) (times (sizes_of leaf.sized.sizes) (exactly leaf.width))).greatest + 524288)
-    by None (inl u) = ((says_short here short fault u.1 e).0, bound u.0)
-    by None (inr u) = never here too_long fault (λ q. cc) u.1 e
-    by (Some i) (inl u) = never here (size_out_of_range i) fault (λ q. cc) u.1 e
-    by (Some i) (inr u) = never here bad_character fault (λ q. cc) u.2 e
+    by None (input_ended u) = ((says_short here short fault u.1 e).0, bound u.0)
+    by None (end_too_late u) = never here too_long fault (λ q. cc) u.1 e
+    by (Some i) (length_not_permitted u) = never here (size_out_of_range i) fault (λ q. cc) u.1 e
+    by (Some i) (character_not_permitted u) = never here bad_character fault (λ q. cc) u.2 e
 
 -- Fields.
 
@@ -363,7 +363,7 @@ module _ (root : Grammar) where
 -- the greatest bound of an accepted tree is within a packet's limit
 not_long : (root : Grammar) → IsAccepted root → (span root).greatest < 2 ^ 40
 not_long root a =
-    let m = at_most (span root).greatest 524336 (λ h. accepted_sound root a (too_long_tree (span root).greatest) (0, 0, (refl, refl, h))) in
+    let m = at_most (span root).greatest 524336 (λ h. accepted_sound root a (too_long_tree (span root).greatest) (record { node = 0; use_here = 0; holds = record { at_root = refl; bits_are = refl; many = h } })) in
     omega arith
 
 pub short_is_near : ShortIsNear

@@ -25,7 +25,7 @@ pub known_behind : KnownBehind
 known_behind root k around ks g h = sound_after root g k around ks h
 
 pub few_are_open : FewAreOpen
-few_are_open root k here a is = at_most (open_at here) 256 (λ h. accepted_sound root a (too_many_open here.path (open_at here)) (k, 0, (here, is, refl, refl, h)))
+few_are_open root k here a is = at_most (open_at here) 256 (λ h. accepted_sound root a (too_many_open here.path (open_at here)) (record { node = k; use_here = 0; holds = record { at = here; is_at = is; path_is = refl; count_is = refl; many = h } }))
 
 -- What is sound is scoped.
 

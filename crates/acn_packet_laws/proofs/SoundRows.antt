@@ -43,7 +43,7 @@ shared_is = (
     shared_home,
     (
       (refl, refl, refl),
-      (8, width_holds (record { kind = Integer; set = (pos 0, pos 255) ∷ []; coding = PosInt 8; little = false; table = None; items = record { items = []; values = false } }) 8 refl refl, (omega arith)),
+      record { width = 8; all_codes = width_holds (record { kind = Integer; set = (pos 0, pos 255) ∷ []; coding = PosInt 8; little = false; table = None; items = record { items = []; values = false } }) 8 refl refl; narrow = omega arith },
       (refl, (omega arith), refl),
       (tt, tt, tt, (refl, (omega arith), (refl, refl)), (tt, tt, tt, (refl, (omega arith), (refl, refl)), tt)),
     ),

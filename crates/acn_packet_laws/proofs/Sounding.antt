@@ -5,7 +5,7 @@ use Rattle.std.specs.Prelude.{slice_get, Contains, cond, filter}
 use Rattle.std.specs.List.{list_any, list_all, range_with_len}
 use Rattle.std.proofs.lemmas.Bool.Decides.{nat_tests}
 use Rattle.acn_grammar.specs.Asks.{same_name}
-use Rattle.acn_grammar.specs.Check.{CheckFault, absent_unclear, det_width, no_item, too_many_open, Undecodable, HasWidth}
+use Rattle.acn_grammar.specs.Check.{CheckFault, absent_unclear, det_width, no_item, too_many_open, Undecodable, HasOneWidth}
 use Rattle.acn_grammar.specs.Fails.{count_of}
 use Rattle.acn_grammar.specs.Grammar.{Grammar, Form, Fields, Alternatives, node, num, octets, bits, text, seq, list, choice, contained, no_fields, component, inserted, no_alternatives, alternative}
 use Rattle.acn_grammar.specs.Interval.{width_of}
@@ -222,7 +222,7 @@ module _ (root : Grammar) (tree : IsTree root) (sound : (f : CheckFault) → Und
   one_condition pre name (When ts) default own path around align form post p ks knows =
       let fine = place_fine all (numbers root tree sound) (rules root tree sound) pre (component_role name (When ts) default own) path around align form post p in
       let some = ltb-true 0 (length ts) (and_parts (presence_fine (When ts)) (own_fine own (When ts) form) fine.role).0 in
-      let few = at_most (length ts) 1 (λ h. sound (absent_unclear path) (length pre, 0, (here_at (component_role name (When ts) default own) path around align form, is_here pre (component_role name (When ts) default own) path around align form post p, refl, h))) in
+      let few = at_most (length ts) 1 (λ h. sound (absent_unclear path) (record { node = length pre; use_here = 0; holds = record { at = here_at (component_role name (When ts) default own) path around align form; is_at = is_here pre (component_role name (When ts) default own) path around align form post p; path_is = refl; more = h } })) in
       ((omega arith), tests_in ks ts (own_known root tree sound pre (component_role name (When ts) default own) path around (node align form) post p ks knows))
 
   -- a slot whose field stands here isn't known yet
@@ -257,12 +257,29 @@ module _ (root : Grammar) (tree : IsTree root) (sound : (f : CheckFault) → Und
       fine : num_fine leaf ≡ true
       fine = (place_fine all (numbers root tree sound) (rules root tree sound) pre (an_inserted name (Some s)) path around align (num leaf) post p).form
 
-      bad : (((w : ℕ) × HasWidth leaf w × (w ≤ 64)) → ⊥) → ⊥
-      bad f = sound (det_width path) (length pre, 0, (here_at (an_inserted name (Some s)) path around align (num leaf), s, leaf, is_here pre (an_inserted name (Some s)) path around align (num leaf) post p, refl, refl, e, f))
+      bad : (HasOneWidth leaf → ⊥) → ⊥
+      bad f = sound (det_width path) (record {
+        node = length pre;
+        use_here = 0;
+        holds = record {
+          at = here_at (an_inserted name (Some s)) path around align (num leaf);
+          is_at = is_here pre (an_inserted name (Some s)) path around align (num leaf) post p;
+          path_is = refl;
+          slot = s;
+          slot_is = refl;
+          leaf = leaf;
+          leaf_is = e;
+          no_width = f;
+        };
+      })
 
-      by : (o : Option ℕ) → width_of leaf ≡ o → (w : ℕ) × HasWidth leaf w × (w ≤ 64)
-      by None k = absurd (bad (λ t. let is = width_is leaf t.0 fine t.1 in cc))
-      by (Some w) k = (w, width_holds leaf w fine k, at_most w 64 (λ h. bad (λ t. let is = width_is leaf t.0 fine t.1 in let same : w ≡ t.0 = cc in let low = t.2 in absurd (omega (arith, low, same, h)))))
+      by : (o : Option ℕ) → width_of leaf ≡ o → HasOneWidth leaf
+      by None k = absurd (bad (λ t. let is = width_is leaf t.width fine t.all_codes in cc))
+      by (Some w) k = record {
+        width = w;
+        all_codes = width_holds leaf w fine k;
+        narrow = at_most w 64 (λ h. bad (λ t. let is = width_is leaf t.width fine t.all_codes in let same : w ≡ t.width = cc in let low = t.narrow in absurd (omega (arith, low, same, h))));
+      }
   width pre name path around s align (octets sizing) post p n e = cc
   width pre name path around s align (bits sizing) post p n e = cc
   width pre name path around s align (text leaf) post p n e = cc
@@ -279,23 +296,23 @@ module _ (root : Grammar) (tree : IsTree root) (sound : (f : CheckFault) → Und
       (λ h. names_contain (map (λ e. e.0) (items_of root s)) name h)
       (λ h.
       let f = find_name (conditions_of cases) name c.0 c.1 c.2 in
-      absurd (sound (no_item path c.0) (
-        length pre,
-        0,
-        (
-          cases,
-          s,
-          name,
-          f.0,
-          record { at = here_at role path around align (choice cases (Item s)); is_at = is_here pre role path around align (choice cases (Item s)) post p; path_is = refl; form_is = (refl, refl) },
-          f.1,
-          λ d. let got = got_name (map (λ e. e.0) (items_of root s)) name d.0 d.1 d.2 in cc,
-        ),
-      )))
+      absurd (sound (no_item path c.0) (record {
+        node = length pre;
+        use_here = 0;
+        holds = record {
+          cases = cases;
+          slot = s;
+          choice_is = record { at = here_at role path around align (choice cases (Item s)); is_at = is_here pre role path around align (choice cases (Item s)) post p; path_is = refl; form_is = (refl, refl) };
+          name = name;
+          tests = f.0;
+          is_alternative = f.1;
+          no_item = λ d. let got = got_name (map (λ e. e.0) (items_of root s)) name d.0 d.1 d.2 in cc;
+        };
+      })))
 
   few_open : (pre : List Stand) (role : Role) (path around : List ℕ) (align : ℕ) (fields : Fields) (home : List ℕ) (post : List Stand) → At root tree sound pre role path around (node align (seq fields home)) post → length home + length around ≤ 256
   few_open pre role path around align fields home post p =
-      at_most (length home + length around) 256 (λ h. sound (too_many_open path (length home + length around)) (length pre, 0, (here_at role path around align (seq fields home), is_here pre role path around align (seq fields home) post p, refl, refl, h)))
+      at_most (length home + length around) 256 (λ h. sound (too_many_open path (length home + length around)) (record { node = length pre; use_here = 0; holds = record { at = here_at role path around align (seq fields home); is_at = is_here pre role path around align (seq fields home) post p; path_is = refl; count_is = refl; many = h } }))
 
   few_fields : (pre : List Stand) (role : Role) (path around : List ℕ) (align : ℕ) (fields : Fields) (home : List ℕ) (post : List Stand) → At root tree sound pre role path around (node align (seq fields home)) post → field_count fields ≤ 65536
   few_fields pre role path around align fields home post p =

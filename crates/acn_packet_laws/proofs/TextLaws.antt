@@ -1,12 +1,12 @@
 -- An ended text and a failure exclude each other, and two failures are one.
-use Rattle.std.proofs.Common.{◌≡◌, ℕ, zero, suc, ◌+◌, ◌-◌, ◌*◌, ◌/◌, ◌<◌, ◌≤◌, pos, Bool, false, List, [], ◌∷◌, ◌++◌, length, take, drop, Option, Some, None, refl, sym, ap, ◌∙◌, arith, append_assoc, length-append, inl, inr, subst}
+use Rattle.std.proofs.Common.{◌≡◌, ℕ, zero, suc, ◌+◌, ◌-◌, ◌*◌, ◌/◌, ◌<◌, ◌≤◌, pos, Bool, false, List, [], ◌∷◌, ◌++◌, length, take, drop, Option, Some, None, refl, sym, ap, ◌∙◌, arith, append_assoc, length-append, subst}
 use Rattle.std.proofs.lemmas.Bool.{false_from_ne_true}
 use Rattle.std.proofs.lemmas.List.{take-append-le, drop-append-le, length-drop}
 use Rattle.std.proofs.Math.Seq.{take-append_seam, take-append-add, drop-append_seam}
 use Rattle.acn_num.specs.Bits.{number}
 use Rattle.acn_num.specs.Ranges.{In, greatest}
 use Rattle.acn_grammar.specs.Asks.{same_name}
-use Rattle.acn_grammar.specs.Fails.{Fault, Here, NoText, found_end, FoundFails}
+use Rattle.acn_grammar.specs.Fails.{Fault, Here, NoText, found_end, input_ended, end_too_late, length_not_permitted, character_not_permitted, FoundFails}
 use Rattle.acn_grammar.specs.Interval.{size_of}
 use Rattle.acn_grammar.specs.LeafFails.{octet_values}
 use Rattle.acn_grammar.specs.Leaves.{end_fine}
@@ -21,14 +21,14 @@ use Rattle.acn_grammar.proofs.FirstPlaces.{find_first}
 use Rattle.acn_grammar.proofs.TextRules.{text_rules, end_rules}
 
 found_same : (here : Here) (leaf : TextLeaf) (ending most available : ℕ) (rest : List Bool) (o : Option ℕ) (f g : Fault) (m n : ℕ) → FoundFails here leaf ending most available rest o f m → FoundFails here leaf ending most available rest o g n → (f ≡ g) × (m ≡ n)
-found_same here leaf ending most available rest None f g m n (inl p) (inl q) = (p.1 ∙ sym q.1, p.2 ∙ sym q.2)
-found_same here leaf ending most available rest None f g m n (inl p) (inr q) = let a = p.0 in let b = q.0 in absurd (omega arith)
-found_same here leaf ending most available rest None f g m n (inr p) (inl q) = let a = p.0 in let b = q.0 in absurd (omega arith)
-found_same here leaf ending most available rest None f g m n (inr p) (inr q) = (p.1 ∙ sym q.1, p.2 ∙ sym q.2)
-found_same here leaf ending most available rest (Some i) f g m n (inl p) (inl q) = (p.1 ∙ sym q.1, p.2 ∙ sym q.2)
-found_same here leaf ending most available rest (Some i) f g m n (inl p) (inr q) = absurd (p.0 q.0)
-found_same here leaf ending most available rest (Some i) f g m n (inr p) (inl q) = absurd (q.0 p.0)
-found_same here leaf ending most available rest (Some i) f g m n (inr p) (inr q) = (p.2 ∙ sym q.2, p.3 ∙ sym q.3)
+found_same here leaf ending most available rest None f g m n (input_ended p) (input_ended q) = (p.1 ∙ sym q.1, p.2 ∙ sym q.2)
+found_same here leaf ending most available rest None f g m n (input_ended p) (end_too_late q) = let a = p.0 in let b = q.0 in absurd (omega arith)
+found_same here leaf ending most available rest None f g m n (end_too_late p) (input_ended q) = let a = p.0 in let b = q.0 in absurd (omega arith)
+found_same here leaf ending most available rest None f g m n (end_too_late p) (end_too_late q) = (p.1 ∙ sym q.1, p.2 ∙ sym q.2)
+found_same here leaf ending most available rest (Some i) f g m n (length_not_permitted p) (length_not_permitted q) = (p.1 ∙ sym q.1, p.2 ∙ sym q.2)
+found_same here leaf ending most available rest (Some i) f g m n (length_not_permitted p) (character_not_permitted q) = absurd (p.0 q.0)
+found_same here leaf ending most available rest (Some i) f g m n (character_not_permitted p) (length_not_permitted q) = absurd (q.0 p.0)
+found_same here leaf ending most available rest (Some i) f g m n (character_not_permitted p) (character_not_permitted q) = (p.2 ∙ sym q.2, p.3 ∙ sym q.3)
 
 pub text_same : TextSame
 text_same here leaf end env env' at rest f g m n p q =
@@ -77,8 +77,8 @@ none_chosen : (here : Here) (leaf : TextLeaf) (ending most available : ℕ) (res
 none_chosen here leaf ending most available rest i o fault reach e p t f = by (subst (λ (z : Option ℕ). FoundFails here leaf ending most available rest z fault reach) e f)
   where
     by : FoundFails here leaf ending most available rest (Some i) fault reach → ⊥
-    by (inl h) = h.0 p
-    by (inr h) = t h.1
+    by (length_not_permitted h) = h.0 p
+    by (character_not_permitted h) = t h.1
 
 -- as many octets as the greatest size and the terminator have
 taken : (cs end more : List ℕ) (n : ℕ) → length cs ≤ n → (k : ℕ) × (take (n + length end) (cs ++ (end ++ more)) ≡ cs ++ (end ++ take k more))

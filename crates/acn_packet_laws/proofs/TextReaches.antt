@@ -6,7 +6,7 @@ use Rattle.std.proofs.lemmas.List.{take-take, length-take, length-drop, drop-tak
 use Rattle.acn_num.specs.Ranges.{greatest}
 use Rattle.acn_grammar.specs.Asks.{same_name}
 use Rattle.acn_grammar.specs.Env.{Env}
-use Rattle.acn_grammar.specs.Fails.{Fault, SizeFails, Sized, CharactersFail, FoundFails, TextFails, found_end}
+use Rattle.acn_grammar.specs.Fails.{Fault, SizeFails, Sized, CharactersFail, input_ended, end_too_late, length_not_permitted, character_not_permitted, FoundFails, TextFails, found_end}
 use Rattle.acn_grammar.specs.Interval.{size_of}
 use Rattle.acn_grammar.specs.LeafFails.{short, octet_values}
 use Rattle.acn_grammar.specs.Leaves.{text_fine, end_fine}
@@ -55,8 +55,8 @@ module _ (path : List ℕ) (place : ℕ) (leaf : TextLeaf) (end : List Bool) (wh
 
   found_steady : (rest : List Bool) (fault : Fault) (reach : ℕ) (found : Option ℕ) → found_end (octet_numbers end) (front rest) ≡ found → FoundIn rest rest found fault reach → (fault.reason ≡ short → ⊥)
       → (other : List Bool) → take reach other ≡ take reach rest → FoundIn other other (found_end (octet_numbers end) (front other)) fault reach
-  found_steady rest fault reach None is (inl t) r = absurd (r (ap (λ f. f.reason) t.1))
-  found_steady rest fault reach None is (inr t) r =
+  found_steady rest fault reach None is (input_ended t) r = absurd (r (ap (λ f. f.reason) t.1))
+  found_steady rest fault reach None is (end_too_late t) r =
       let all = t.0 in
       let n = t.2 in
       let l = octets_few rest in
@@ -66,7 +66,7 @@ module _ (path : List ℕ) (place : ℕ) (leaf : TextLeaf) (end : List Bool) (wh
       let far = long_enough (8 * most) other rest (omega arith) bits in
       let long = octets_most other in
       let none : found_end (octet_numbers end) (front other) ≡ None = ap (found_end (octet_numbers end)) same ∙ is in
-      rw none (inr (omega arith, t.1, t.2))
+      rw none (end_too_late (omega arith, t.1, t.2))
   found_steady rest fault reach (Some i) is t r =
       let f = find_back (λ j. same_name (take (length (octet_numbers end)) (drop j (front rest))) (octet_numbers end)) 0 (length (front rest)) i is in
       let stands = ap length (same_name-is (take (length (octet_numbers end)) (drop i (front rest))) (octet_numbers end) f.passes) in
@@ -91,12 +91,12 @@ module _ (path : List ℕ) (place : ℕ) (leaf : TextLeaf) (end : List Bool) (wh
       rw found (moved other t text)
     where
       reach_is : FoundIn rest rest (Some i) fault reach → reach ≡ 8 * i + length end
-      reach_is (inl t) = t.2
-      reach_is (inr t) = t.3
+      reach_is (length_not_permitted t) = t.2
+      reach_is (character_not_permitted t) = t.3
 
       moved : (other : List Bool) → FoundIn rest rest (Some i) fault reach → take (8 * i) other ≡ take (8 * i) rest → FoundIn other other (Some i) fault reach
-      moved other (inl t) e = inl t
-      moved other (inr t) e = inr (t.0, rw e t.1, t.2, t.3)
+      moved other (length_not_permitted t) e = length_not_permitted t
+      moved other (character_not_permitted t) e = character_not_permitted (t.0, rw e t.1, t.2, t.3)
 
 characters_steady : (path : List ℕ) (place : ℕ) (leaf : TextLeaf) (n : ℕ) → Steady (CharactersFail (out path place) leaf n)
 characters_steady path place leaf n at rest fault reach (inl t) r = absurd (r (ap (λ f. f.reason) t.1))

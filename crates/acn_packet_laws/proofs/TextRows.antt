@@ -10,7 +10,7 @@ use Rattle.acn_grammar.proofs.Within.{between}
 use Rattle.acn_grammar.specs.Grammar.{Grammar, node, num, text, list, int, characters, list_of, no_elements, element}
 use Rattle.acn_grammar.specs.Code.{Mode, Written, Any}
 use Rattle.acn_grammar.specs.Spell.{EndsFirst, Padding, place_in}
-use Rattle.acn_grammar.specs.Fails.{NoText, Refusal}
+use Rattle.acn_grammar.specs.Fails.{NoText, end_too_late, Refusal}
 use Rattle.acn_grammar.specs.LeafFails.{bad_character, size_out_of_range, too_long}
 use Rattle.acn_grammar.specs.Front.{IsWritten}
 use Rattle.acn_grammar.specs.Meets.{breach, bad_character as wrong_character, terminator_inside}
@@ -90,7 +90,7 @@ zero_inside = refl
 
 -- 61 62 63 64 00: no end among the first four octets
 pub no_end : Refusal ended (bits_of (97 ∷ 98 ∷ 99 ∷ 100 ∷ 0 ∷ [])) (record { path = []; reason = too_long; at = 0 }) 32
-no_end = inr (record { front = []; back = _; whole = refl; spelled = no_padding Any 0; more = 32; reaches = refl; fails = inr (omega arith, refl, refl) })
+no_end = inr (record { front = []; back = _; whole = refl; spelled = no_padding Any 0; more = 32; reaches = refl; fails = end_too_late (omega arith, refl, refl) })
 
 -- SEQUENCE (SIZE (0..5)) OF INTEGER (0..15)
 abbrev small_leaf : NumLeaf

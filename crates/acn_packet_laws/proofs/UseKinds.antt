@@ -35,9 +35,16 @@ uses_fit root k here u use' leaf a is is_use is_leaf =
     truth {F = AsksFor use' leaf.kind} (has_field (slot_of use') (nodes_of root))
     (λ h.
     let f = find_field (nodes_of root) (slot_of use') h in
-    out {F = AsksFor use' leaf.kind} (asks use' leaf.kind) (λ yes'. yes') (λ no'. absurd (accepted_sound root a (det_kind here.path f.1.path) (
-      k,
-      u,
-      (use', f.0, leaf, record { at = here; field = f.1; is_at = is; is_use = is_use; is_field = f.2; slot = f.3; user_path = refl; det_path = refl }, is_leaf, no'),
-    ))))
+    out {F = AsksFor use' leaf.kind} (asks use' leaf.kind) (λ yes'. yes') (λ no'. absurd (accepted_sound root a (det_kind here.path f.1.path) (record {
+      node = k;
+      use_here = u;
+      holds = record {
+        named = use';
+        field_at = f.0;
+        leaf = leaf;
+        use_is = record { at = here; field = f.1; is_at = is; is_use = is_use; is_field = f.2; slot = f.3; user_path = refl; det_path = refl };
+        leaf_is = is_leaf;
+        another = no';
+      };
+    }))))
     (λ h. let none = no_node_leaf root root_node [] [] (slot_of use') h in cc)

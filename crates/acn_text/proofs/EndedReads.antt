@@ -8,7 +8,7 @@ use Rattle.acn_num.specs.Bits.{number}
 use Rattle.acn_num.specs.Ranges.{In, has, greatest}
 use Rattle.acn_bits.specs.Reading.{Reading, passed, Stays}
 use Rattle.acn_num.proofs.BitLists.{number_same, number_below}
-use Rattle.acn_grammar.specs.Fails.{Here, NoText, TextFails, FoundFails, found_end}
+use Rattle.acn_grammar.specs.Fails.{Here, NoText, TextFails, input_ended, end_too_late, length_not_permitted, character_not_permitted, FoundFails, found_end}
 use Rattle.acn_grammar.specs.Interval.{size_of}
 use Rattle.acn_grammar.specs.LeafFails.{Reason, short, too_long, size_out_of_range, bad_character, octet_values}
 use Rattle.acn_grammar.specs.Spell.{CharactersPart, EndedPart, octet_numbers, character_number}
@@ -226,8 +226,8 @@ module _ (leaf : TextLeaf) (end : List Bool) (f : EndRules leaf end) (Gives : Li
   }
     where
       by : (it : Here) → ((In leaf.sized.sizes (pos n) → ⊥) × (r ≡ size_out_of_range n)) ⊎ (In leaf.sized.sizes (pos n) × (fine ≡ false) × (r ≡ bad_character)) → FoundFails it leaf (length end) most (length (octet_values old.rest)) old.rest (Some n) (fault_here it r) (8 * n + length end)
-      by it (inl w) = inl (w.0, ap (fault_here it) w.1, refl)
-      by it (inr w) = inr (w.0, no_octets leaf f.width f.plain n old.rest (sym u.permitted ∙ w.1), ap (fault_here it) w.2, refl)
+      by it (inl w) = length_not_permitted (w.0, ap (fault_here it) w.1, refl)
+      by it (inr w) = character_not_permitted (w.0, no_octets leaf f.width f.plain n old.rest (sym u.permitted ∙ w.1), ap (fault_here it) w.2, refl)
 
   -- the text that was found
   pub text_found : leaf.ended ≡ Some end → seen ≡ number end → In leaf.sized.sizes (pos n) → fine ≡ true → PassedText leaf None Gives old now n
@@ -263,7 +263,7 @@ module _ (leaf : TextLeaf) (end : List Bool) (f : EndRules leaf end) (Gives : Li
   ran_short is other h l = record {
     reach = length old.rest;
     fails = λ it env at says. subst (λ (o : Option (List Bool)). TextFails it o leaf env at old.rest (fault_here it short) (length old.rest)) (sym is)
-        (subst (λ (o : Option ℕ). FoundFails it leaf (length end) most (length (octet_values old.rest)) old.rest o (fault_here it short) (length old.rest)) (sym none) (inl (below, refl, refl)));
+        (subst (λ (o : Option ℕ). FoundFails it leaf (length end) most (length (octet_values old.rest)) old.rest o (fault_here it short) (length old.rest)) (sym none) (input_ended (below, refl, refl)));
   }
     where
       exactly : length (octet_values old.rest) ≤ n + length end / 8
@@ -279,7 +279,7 @@ module _ (leaf : TextLeaf) (end : List Bool) (f : EndRules leaf end) (Gives : Li
   ran_long is other h = record {
     reach = 8 * most;
     fails = λ it env at says. subst (λ (o : Option (List Bool)). TextFails it o leaf env at old.rest (fault_here it too_long) (8 * most)) (sym is)
-        (subst (λ (o : Option ℕ). FoundFails it leaf (length end) most (length (octet_values old.rest)) old.rest o (fault_here it too_long) (8 * most)) (sym none) (inr (enough, refl, refl)));
+        (subst (λ (o : Option ℕ). FoundFails it leaf (length end) most (length (octet_values old.rest)) old.rest o (fault_here it too_long) (8 * most)) (sym none) (end_too_late (enough, refl, refl)));
   }
     where
       none : found_end (octet_numbers end) (take most (octet_values old.rest)) ≡ None
@@ -293,7 +293,7 @@ pub no_room : (leaf : TextLeaf) (end : List Bool) (rest : List Bool) → EndRule
 no_room leaf end rest f is l = record {
   reach = length rest;
   fails = λ it env at says. subst (λ (o : Option (List Bool)). TextFails it o leaf env at rest (fault_here it short) (length rest)) (sym is)
-      (subst (λ (o : Option ℕ). FoundFails it leaf (length end) most (length (octet_values rest)) rest o (fault_here it short) (length rest)) (sym none) (inl (below, refl, refl)));
+      (subst (λ (o : Option ℕ). FoundFails it leaf (length end) most (length (octet_values rest)) rest o (fault_here it short) (length rest)) (sym none) (input_ended (below, refl, refl)));
 }
   where
     most : ℕ

@@ -1,5 +1,5 @@
 use Rattle.acn_grammar.specs.View.{grammar_of}
-use Rattle.acn_check.proofs.Promises.{sound, first_told, accepted, lengths, one_width}
+use Rattle.acn_check.proofs.Promises.{sound, first_told, accepted, lengths}
 use Rattle.acn_check.proofs.checking.check.Goals as goal
 
 pub of-requires : goal.of-requires
@@ -18,14 +18,6 @@ returns-in-Ok-clause-lengths c =
 
 pub returns-in-Ok-clause-nodes : goal.returns-in-Ok-clause-nodes
 returns-in-Ok-clause-nodes c = c.accepted_is_sound.ensures (grammar_of c.args.tree.root) (accepted (grammar_of c.args.tree.root) c.args.tree.formed c.widths_are_lengths.ensures c.in-Ok.ensures)
-
-pub returns-in-Ok-clause-known : goal.returns-in-Ok-clause-known
-returns-in-Ok-clause-known c = c.accepted_is_scoped.ensures (grammar_of c.args.tree.root) (accepted (grammar_of c.args.tree.root) c.args.tree.formed c.widths_are_lengths.ensures c.in-Ok.ensures)
-
-pub returns-in-Ok-clause-widths : goal.returns-in-Ok-clause-widths
-returns-in-Ok-clause-widths c =
-    let root = grammar_of c.args.tree.root in
-    one_width root c.args.tree.formed c.widths_are_lengths.ensures c.no_fault_without_a_first.ensures (sound root c.args.tree.formed c.widths_are_lengths.ensures c.in-Ok.ensures)
 
 pub returns-in-Err-clause-fault : goal.returns-in-Err-clause-fault
 returns-in-Err-clause-fault c = first_told (grammar_of c.args.tree.root) c.args.tree.formed c.widths_are_lengths.ensures c.in-Err.fault c.in-Err.ensures
