@@ -431,13 +431,13 @@ module _ (leaf : NumLeaf) (fine : IsTrue (num_fine leaf)) (plain : leaf.table �
       let long = leb-true (length p) width w in
       let r = reads_twos leaf fine plain p width e l long (omega arith) in
       (hit_begins leaf fine plain p (neg_ℤ (pos (2 ^ (width - 1)))) width turned r, begins_hit leaf fine plain p (neg_ℤ (pos (2 ^ (width - 1)))) width turned r)
-  begins_law (Flag (Some a) (Some b)) e l w = (two_patterns a b e, λ t. either_pattern a b t.2.image t.1 (code_as leaf fine plain p (Flag (Some a) (Some b)) e l t.0 t.1 t.2) t.3)
+  begins_law (Flag (Some a) (Some b)) e l w = (two_patterns a b e, λ t. either_pattern a b t.codes.image t.code (code_as leaf fine plain p (Flag (Some a) (Some b)) e l t.number t.code t.codes) t.begins)
   begins_law (Flag (Some a) None) e l w = ((λ h. one_pattern a e (leb-true (length p) (length a) w)), λ t. refl)
   begins_law (Flag None (Some b)) e l w = ((λ h. other_pattern b e (leb-true (length p) (length b) w)), λ t. refl)
   begins_law (Flag None None) e l w = ((λ h. one_bit e p refl (leb-true (length p) 1 w)), λ t. refl)
   begins_law (Fixed a) e l w = (
-    (λ h. (pos 0, a, fixed_code leaf fine plain p a e, begins_is p a h)),
-    λ t. (let s = code_as leaf fine plain p (Fixed a) e l t.0 t.1 t.2 in is_begins p a (leb-true (length p) (length a) w) (ap (take (length p)) (sym s.1) ∙ t.3)),
+    (λ h. record { number = pos 0; code = a; codes = fixed_code leaf fine plain p a e; begins = begins_is p a h }),
+    λ t. (let s = code_as leaf fine plain p (Fixed a) e l t.number t.code t.codes in is_begins p a (leb-true (length p) (length a) w) (ap (take (length p)) (sym s.1) ∙ t.begins)),
   )
   begins_law (CountedFrom low) e l w = cc
   begins_law CountedSigned e l w = cc
