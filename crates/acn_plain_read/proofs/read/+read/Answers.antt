@@ -61,7 +61,7 @@ read_component-returns-in_ok-note-in-Ok-clause-read t c place name default fs =
     let r = c.requires.ready in
     let yes' : there_now c.args.presence.now c.args.slots.now c.args.flags.now.rest ≡ true = ap (λ x. there_now c.args.presence.now x c.args.flags.now.rest) (sym c.items.ensures) ∙ (sym c.is_there.ensures.there ∙ c.if-is_there.true) in
     subst (λ (x : List (ℕ × ℤ)). Turn (grammar_of c.args.root.now) (record { path = c.args.path.now; place = place; inside = c.args.inside }) c.args.cur.now.origin c.args.k (suc c.args.k) (component name (grammar_of c.args.node.now) c.args.presence.now default c.args.slot fs) fs (Some (data_of c.in-Ok.value) ∷ []) c.args.slots.now x c.args.flags.now.rest c.is_there.new.flags.rest c.args.cur.now c.read_node.new.cur)
-    (sym (c.in_ok-note-in-Ok.ensures ∙ ap (λ (x : ℤ). noted_by c.args.slot x c.read_node.new.slots) (to_z-of_z w128 c.number_of.result (record { sfits = search rules }) ∙ c.number_of.ensures)))
+    (sym (c.in_ok-note-in-Ok.ensures ∙ ap (λ (x : ℤ). noted_by c.args.slot x c.read_node.new.slots) (to_z-of_z w128 c.number.result (record { sfits = search rules }) ∙ c.number.ensures)))
     (component_read (grammar_of c.args.root.now) (record { path = c.args.path.now; place = place; inside = c.args.inside }) c.args.cur.now.origin c.args.k name (grammar_of c.args.node.now) c.args.presence.now default c.args.slot fs r.1 (data_of c.in-Ok.value) c.args.slots.now c.read_node.new.slots c.args.flags.now.rest c.is_there.new.flags.rest c.args.cur.now c.read_node.new.cur (suc (length c.args.path.now)) r.0 r.2 c.requires.named
     c.is_there.ensures.flags (λ env f. (there_told (grammar_of c.args.root.now) r.2.known c.args.slots.now env c.args.presence.now c.args.flags.now.rest r.2.noted.has r.2.is.0 f).0 yes') c.in-Ok.ensures.read)
 
