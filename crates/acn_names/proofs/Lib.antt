@@ -6,3 +6,4 @@ mod Known
 mod Ended
 mod Inside
 mod Based
+mod FirstFound

@@ -4,6 +4,7 @@
 
 mod early;
 mod few;
+mod first;
 mod gathering;
 mod laws;
 mod missing;

@@ -1,4 +1,4 @@
-ghost use Rattle.std.specs.Prelude.{◌≡◌, [], ◌∷◌, ◌++◌, not, is_some, map, flat_map, OnOk, IfOk, ◌+◌, ◌<◌, length};
+ghost use Rattle.std.specs.Prelude.{◌≡◌, [], ◌∷◌, ◌++◌, not, ◌||◌, is_some, map, flat_map, option_map, option_copied, OnOk, IfOk, ◌+◌, ◌<◌, length};
 ghost use Rattle.std.specs.List.{enumerate_from};
 ghost use Rattle.acn_asn_syntax.specs.View.{assign_view, module_view, base_view, type_view};
 ghost use Rattle.acn_index.specs.Views.{index_view};
@@ -6,88 +6,83 @@ ghost use Rattle.acn_mentions.specs.Mentioned.{mention_view, mentions_view, gove
 ghost use Rattle.acn_mentions.specs.Mentions as mentions;
 ghost use Rattle.acn_world.specs.Repeated as repeated;
 ghost use Rattle.acn_world.specs.Unknown as spec;
+ghost use Rattle.acn_world.specs.Faults.{first};
 ghost use Rattle.acn_repeated.specs.Named.{names_view};
-ghost use Rattle.acn_repeated.specs.Blamed.{blames_view};
+ghost use Rattle.acn_repeated.specs.Blamed.{blame_view};
 
-use acn_asn_syntax::{AsnBase, AsnModule, AsnType, AsnValue, Assign, Import, Item, Named};
+use crate::first::{blamed, first_name};
+use acn_asn_syntax::{AsnBase, AsnModule, AsnType, AsnValue, Assign, Import, Named};
+use acn_hints::Hints;
 use acn_index::chain::{base_of, written};
 use acn_index::index::Index;
-use acn_index::lookup::{Sort, found, imports_of, module_named, same};
+use acn_index::lookup::{Sort, found, imports_of, module_named};
 use acn_index::references::{type_named, value_named};
 use acn_mentions::{Mention, push_type};
 use acn_num::{Name, NoMemory, Row};
-use acn_repeated::{Blame, Kind, push_blames};
+use acn_repeated::{Blame, Kind};
 use std::alloc::Global;
 
-// Whether one of the named numbers has this name.
-fn is_named_number(name: &[u8], named: &[Named]) -> bool
-    ensures { result ≡ repeated.is_among name.now (map (λ n. n.name) named.now) }
-{
-    for one in named {
-        if same(name, one.name.bytes()) {
-            return true;
-        }
-    }
-    false
-}
-
-// The same where the list is written.
-fn is_listed_number(name: &[u8], named: &Option<Row<Named>>) -> bool
-    ensures { result ≡ repeated.is_among name.now (repeated.named_names named.now) }
+// Whether one of the named numbers has this name, where some are written.
+fn is_listed_number(
+    hints: &mut Hints,
+    name: &[u8],
+    named: &Option<Row<Named>>,
+) -> Result<bool, NoMemory>
+    ensures { IfOk result (λ found. found ≡ repeated.is_among name.now (repeated.named_names named.now)) }
 {
     match named {
-        None => false,
-        Some(some) => is_named_number(name, some.items()),
+        None => Ok(false),
+        Some(some) => hints.is_among(name, some.items()),
     }
-}
-
-// Whether one of the items has this name.
-fn is_item(name: &[u8], items: &[Item]) -> bool
-    ensures { result ≡ repeated.is_among name.now (map (λ n. n.name) items.now) }
-{
-    for one in items {
-        if same(name, one.name.bytes()) {
-            return true;
-        }
-    }
-    false
 }
 
 // Whether a type gives this name to a number or an item.
 #[tactic(auto, using(acn_asn_syntax::proofs::Views::type_views))]
-fn is_base_name(name: &[u8], base: &AsnBase) -> bool
-    ensures { result ≡ repeated.is_among name.now (spec.base_names (base_view base.now)) }
+fn is_base_name(hints: &mut Hints, name: &[u8], base: &AsnBase) -> Result<bool, NoMemory>
+    ensures { IfOk result (λ found. found ≡ repeated.is_among name.now (spec.base_names (base_view base.now))) }
 {
     match base {
-        AsnBase::Integer(named) => is_listed_number(name, named),
-        AsnBase::Enumerated(items) => is_item(name, items.items()),
-        AsnBase::Ref(_, _) => false,
-        AsnBase::Boolean => false,
-        AsnBase::Null => false,
-        AsnBase::OctetString => false,
-        AsnBase::BitString => false,
-        AsnBase::Ia5String => false,
-        AsnBase::Sequence(_) => false,
-        AsnBase::SequenceOf(_, _) => false,
-        AsnBase::Choice(_) => false,
+        AsnBase::Integer(named) => is_listed_number(hints, name, named),
+        AsnBase::Enumerated(items) => hints.is_among(name, items.items()),
+        AsnBase::Ref(_, _) => Ok(false),
+        AsnBase::Boolean => Ok(false),
+        AsnBase::Null => Ok(false),
+        AsnBase::OctetString => Ok(false),
+        AsnBase::BitString => Ok(false),
+        AsnBase::Ia5String => Ok(false),
+        AsnBase::Sequence(_) => Ok(false),
+        AsnBase::SequenceOf(_, _) => Ok(false),
+        AsnBase::Choice(_) => Ok(false),
     }
 }
 
 // Whether the base of a type gives this name to a number or an item.
 #[tactic(auto, unfolding(acn_world::specs::Unknown::names_of))]
-fn is_name_of(index: &Index, k: u32, of: &AsnType, name: &[u8]) -> bool
-    ensures { result ≡ repeated.is_among name.now (spec.names_of (index_view index.now) k (type_view of.now)) }
+fn is_name_of(
+    index: &Index,
+    hints: &mut Hints,
+    k: u32,
+    of: &AsnType,
+    name: &[u8],
+) -> Result<bool, NoMemory>
+    ensures { IfOk result (λ found. found ≡ repeated.is_among name.now (spec.names_of (index_view index.now) k (type_view of.now))) }
 {
-    is_base_name(name, base_of(index, written(k, of)))
+    is_base_name(hints, name, base_of(index, written(k, of)))
 }
 
 /// Whether the type that a constraint is of gives this name to a number or an item.
-pub fn is_governed(index: &Index, k: u32, governor: Option<&AsnType>, name: &[u8]) -> bool
-    ensures { result ≡ repeated.is_among name.now (spec.governor_names (index_view index.now) k (governor_view governor.entry)) }
+pub fn is_governed(
+    index: &Index,
+    hints: &mut Hints,
+    k: u32,
+    governor: Option<&AsnType>,
+    name: &[u8],
+) -> Result<bool, NoMemory>
+    ensures { IfOk result (λ found. found ≡ repeated.is_among name.now (spec.governor_names (index_view index.now) k (governor_view governor.entry))) }
 {
     match governor {
-        None => false,
-        Some(of) => is_name_of(index, k, of, name),
+        None => Ok(false),
+        Some(of) => is_name_of(index, hints, k, of, name),
     }
 }
 
@@ -98,21 +93,40 @@ fn is_value_named(index: &Index, k: u32, name: &[u8]) -> bool
     value_named(index, k, name).is_some()
 }
 
-// Whether what is mentioned in a module is there. Values are looked up first, since the numbers and items of a type
-// cost a walk to its base.
+// Whether an identifier of a constraint names a value, or a number or an item of the type that the constraint is of. Values
+// are looked up first, since that costs least.
+fn is_known_in(
+    index: &Index,
+    hints: &mut Hints,
+    k: u32,
+    governor: Option<&AsnType>,
+    name: &[u8],
+) -> Result<bool, NoMemory>
+    ensures { IfOk result (λ known. known ≡ (repeated.is_among name.now (spec.governor_names (index_view index.now) k (governor_view governor.entry)) || spec.is_value_named (index_view index.now) k name.now)) }
+{
+    if is_value_named(index, k, name) {
+        return Ok(true);
+    }
+    is_governed(index, hints, k, governor, name)
+}
+
+// Whether what is mentioned in a module is there.
 #[tactic(auto, unfolding(acn_world::specs::Unknown::is_known))]
-fn is_known(index: &Index, k: u32, mention: Mention<'_>) -> bool
-    ensures { result ≡ spec.is_known (index_view index.now) k (mention_view mention.entry) }
+fn is_known(
+    index: &Index,
+    hints: &mut Hints,
+    k: u32,
+    mention: Mention<'_>,
+) -> Result<bool, NoMemory>
+    ensures { IfOk result (λ known. known ≡ spec.is_known (index_view index.now) k (mention_view mention.entry)) }
 {
     match mention {
-        Mention::Type { from, name } => type_named(index, k, from, name.bytes()).is_some(),
+        Mention::Type { from, name } => Ok(type_named(index, k, from, name.bytes()).is_some()),
         Mention::Constraint { governor, name, .. } => {
-            is_value_named(index, k, name.bytes()) || is_governed(index, k, governor, name.bytes())
+            is_known_in(index, hints, k, governor, name.bytes())
         }
-        Mention::Default { of, name } => {
-            is_value_named(index, k, name.bytes()) || is_name_of(index, k, of, name.bytes())
-        }
-        Mention::Assignment { name } => is_value_named(index, k, name.bytes()),
+        Mention::Default { of, name } => is_known_in(index, hints, k, Some(of), name.bytes()),
+        Mention::Assignment { name } => Ok(is_value_named(index, k, name.bytes())),
     }
 }
 
@@ -128,21 +142,22 @@ pub fn mention_name<'t>(mention: Mention<'t>) -> &'t Name
     }
 }
 
-// Adds the names that are mentioned and lead nowhere.
-fn push_mentions<'t>(
+// The first name that is mentioned and leads nowhere.
+fn first_mention<'t>(
     index: &Index,
+    hints: &mut Hints,
     k: u32,
     mentions: &[Mention<'t>],
-    all: &mut Vec<&'t Name>,
-) -> Result<(), NoMemory>
-    ensures { OnOk result (names_view all.new.items ≡ names_view all.old.items ++ spec.unknown_mentions (index_view index.now) k (mentions_view mentions.now)) }
+) -> Result<Option<&'t Name>, NoMemory>
+    ensures { IfOk result (λ found. option_copied found ≡ first (spec.unknown_mentions (index_view index.now) k (mentions_view mentions.now))) }
 {
     for mention in mentions {
-        if !is_known(index, k, *mention) {
-            all.push(mention_name(*mention))?;
+        let known = is_known(index, hints, k, *mention)?;
+        if !known {
+            return Ok(Some(mention_name(*mention)));
         }
     }
-    Ok(())
+    Ok(None)
 }
 
 // Adds the identifier that a value is.
@@ -179,36 +194,39 @@ pub fn push_assign<'t>(item: &'t Assign, all: &mut Vec<Mention<'t>>) -> Result<(
     }
 }
 
-// Adds the names in an assignment that lead nowhere.
-fn push_item<'t>(
+// The first name in an assignment that leads nowhere.
+fn first_in_item<'t>(
     alloc: Global,
     index: &Index,
+    hints: &mut Hints,
     k: u32,
     item: &'t Assign,
-    all: &mut Vec<&'t Name>,
-) -> Result<(), NoMemory>
-    ensures { OnOk result (names_view all.new.items ≡ names_view all.old.items ++ spec.unknown_mentions (index_view index.now) k (mentions.assign_mentions (assign_view item.now))) }
+) -> Result<Option<&'t Name>, NoMemory>
+    ensures { IfOk result (λ found. option_copied found ≡ first (spec.unknown_mentions (index_view index.now) k (mentions.assign_mentions (assign_view item.now)))) }
 {
     let mut mentions = Vec::new(alloc);
     push_assign(item, &mut mentions)?;
-    push_mentions(index, k, mentions.as_slice(), all)?;
-    Ok(())
+    first_mention(index, hints, k, mentions.as_slice())
 }
 
-// Adds those in assignments.
-fn push_items<'t>(
+// The first in assignments.
+#[tactic(auto, using(crate::proofs::FirstFound::first_append, crate::proofs::FirstFound::mapped_some, crate::proofs::FirstFound::mapped_none))]
+fn first_in_items<'t>(
     alloc: Global,
     index: &Index,
+    hints: &mut Hints,
     k: u32,
     items: &'t [Assign],
-    all: &mut Vec<&'t Name>,
-) -> Result<(), NoMemory>
-    ensures { OnOk result (names_view all.new.items ≡ names_view all.old.items ++ flat_map (λ a. spec.unknown_mentions (index_view index.now) k (mentions.assign_mentions a)) (map assign_view items.now)) }
+) -> Result<Option<&'t Name>, NoMemory>
+    ensures { IfOk result (λ found. option_copied found ≡ first (flat_map (λ a. spec.unknown_mentions (index_view index.now) k (mentions.assign_mentions a)) (map assign_view items.now))) }
 {
     for item in items {
-        push_item(alloc, index, k, item, all)?;
+        let found = first_in_item(alloc, index, hints, k, item)?;
+        if found.is_some() {
+            return Ok(found);
+        }
     }
-    Ok(())
+    Ok(None)
 }
 
 // Whether the module from which a name is imported has it.
@@ -252,36 +270,57 @@ fn push_imports<'t>(
     Ok(())
 }
 
-// Adds the faults of a module.
-#[tactic(auto, unfolding(acn_world::specs::Unknown::unknown_in))]
-fn push_module<'t>(
+// The first name in a module that leads nowhere.
+#[tactic(auto, unfolding(acn_world::specs::Unknown::unknown_in), using(crate::proofs::FirstFound::first_append, crate::proofs::FirstFound::mapped_some, crate::proofs::FirstFound::mapped_none))]
+fn first_in_module<'t>(
     alloc: Global,
     index: &Index,
+    hints: &mut Hints,
     k: u32,
     owner: &'t AsnModule,
-    all: &mut Vec<Blame<'t>>,
-) -> Result<(), NoMemory>
-    ensures { OnOk result (blames_view all.new.items ≡ blames_view all.old.items ++ spec.unknown_of owner.now.name (spec.unknown_in (index_view index.now) k (module_view owner.now))) }
+) -> Result<Option<&'t Name>, NoMemory>
+    ensures { IfOk result (λ found. option_copied found ≡ first (spec.unknown_in (index_view index.now) k (module_view owner.now))) }
 {
     let mut names = Vec::new(alloc);
     push_imports(index, imports_of(owner), &mut names)?;
-    push_items(alloc, index, k, owner.items.items(), &mut names)?;
-    push_blames(Kind::Unknown, &owner.name, names.as_slice(), all)?;
-    Ok(())
+    let found = first_name(names.as_slice());
+    if found.is_some() {
+        return Ok(found);
+    }
+    first_in_items(alloc, index, hints, k, owner.items.items())
 }
 
-/// Adds the faults of the modules.
-pub fn push_modules<'t>(
+// The first fault of a module.
+#[tactic(auto, using(crate::proofs::FirstFound::first_mapped))]
+fn first_blame_in<'t>(
     alloc: Global,
     index: &Index,
+    hints: &mut Hints,
+    k: u32,
+    owner: &'t AsnModule,
+) -> Result<Option<Blame<'t>>, NoMemory>
+    ensures { IfOk result (λ found. option_map blame_view found ≡ first (spec.unknown_of owner.now.name (spec.unknown_in (index_view index.now) k (module_view owner.now)))) }
+{
+    let found = first_in_module(alloc, index, hints, k, owner)?;
+    Ok(blamed(Kind::Unknown, &owner.name, found))
+}
+
+/// The first fault of the modules. What stands behind it is not looked at.
+#[tactic(auto, using(crate::proofs::FirstFound::first_append, crate::proofs::FirstFound::mapped_some, crate::proofs::FirstFound::mapped_none))]
+pub fn first_in_modules<'t>(
+    alloc: Global,
+    index: &Index,
+    hints: &mut Hints,
     modules: &'t [AsnModule],
-    all: &mut Vec<Blame<'t>>,
-) -> Result<(), NoMemory>
+) -> Result<Option<Blame<'t>>, NoMemory>
     requires { length modules.now < 4294967296 }
-    ensures { OnOk result (blames_view all.new.items ≡ blames_view all.old.items ++ flat_map (λ m. spec.unknown_of m.1.name (spec.unknown_in (index_view index.now) m.0 m.1)) (enumerate_from 0 (map module_view modules.now))) }
+    ensures { IfOk result (λ found. option_map blame_view found ≡ first (flat_map (λ m. spec.unknown_of m.1.name (spec.unknown_in (index_view index.now) m.0 m.1)) (enumerate_from 0 (map module_view modules.now)))) }
 {
     for (k, owner) in modules.iter().enumerate() {
-        push_module(alloc, index, k as u32, owner, all)?;
+        let found = first_blame_in(alloc, index, hints, k as u32, owner)?;
+        if found.is_some() {
+            return Ok(found);
+        }
     }
-    Ok(())
+    Ok(None)
 }

@@ -1,22 +1,23 @@
-ghost use Rattle.std.specs.Prelude.{◌≡◌, [], ◌∷◌, ◌++◌, not, ◌&&◌, map, flat_map, option_map, OnOk, IfOk, ◌+◌, ◌<◌, length};
+ghost use Rattle.std.specs.Prelude.{◌≡◌, [], ◌∷◌, ◌++◌, not, ◌&&◌, map, flat_map, option_map, option_copied, OnOk, IfOk, ◌+◌, ◌<◌, length};
 ghost use Rattle.std.specs.List.{enumerate_from};
 ghost use Rattle.acn_asn_syntax.specs.View.{assign_view, module_view, base_view, type_view};
 ghost use Rattle.acn_acn_syntax.specs.View.{entry_of, module_of};
 ghost use Rattle.acn_index.specs.Views.{index_view};
 ghost use Rattle.acn_mentions.specs.Mentioned.{mention_view, mentions_view, governor_view};
 ghost use Rattle.acn_mentions.specs.AcnMentioned.{acn_mention_view, acn_mentions_view};
-ghost use Rattle.acn_world.specs.Repeated.{when};
-ghost use Rattle.acn_world.specs.Unknown.{mention_name, acn_mention_name};
+ghost use Rattle.acn_world.specs.Repeated.{is_among, when};
+ghost use Rattle.acn_world.specs.Unknown.{governor_names, mention_name, acn_mention_name};
 ghost use Rattle.acn_world.specs.Cycles as spec;
 ghost use Rattle.acn_world.specs.Faults.{first};
 ghost use Rattle.acn_repeated.specs.Named.{names_view};
-ghost use Rattle.acn_repeated.specs.Blamed.{blames_view};
+ghost use Rattle.acn_repeated.specs.Blamed.{blame_view, blames_view};
 
-use crate::early::first_fault;
+use crate::first::{blamed, fault_where, first_blame};
 use crate::unknown::{is_governed, mention_name, push_assign};
 use crate::unknown_acn::{acn_mention_name, acn_type_named};
 use acn_acn_syntax::{AcnEntry, AcnModule};
 use acn_asn_syntax::{AsnBase, AsnModule, AsnType, Assign};
+use acn_hints::Hints;
 use acn_index::chain::{assigned_link, base_of, written};
 use acn_index::index::Index;
 use acn_index::values::leads_to_number;
@@ -107,113 +108,148 @@ fn is_number_role(index: &Index, k: u32, governor: Option<&AsnType>, role: Role)
     }
 }
 
+// Whether an identifier of a constraint is used as a number, and isn't a name that the type gives to one.
+fn is_number_in(
+    index: &Index,
+    hints: &mut Hints,
+    k: u32,
+    governor: Option<&AsnType>,
+    role: Role,
+    name: &[u8],
+) -> Result<bool, NoMemory>
+    ensures { IfOk result (λ used. used ≡ (spec.is_number_role (index_view index.now) k (governor_view governor.entry) role && not (is_among name.now (governor_names (index_view index.now) k (governor_view governor.entry))))) }
+{
+    if !is_number_role(index, k, governor, role) {
+        return Ok(false);
+    }
+    let governed = is_governed(index, hints, k, governor, name)?;
+    Ok(!governed)
+}
+
 // Whether what is mentioned is used as a number.
 #[tactic(auto, unfolding(acn_world::specs::Cycles::is_as_number))]
-fn is_as_number(index: &Index, k: u32, mention: Mention<'_>) -> bool
-    ensures { result ≡ spec.is_as_number (index_view index.now) k (mention_view mention.entry) }
+fn is_as_number(
+    index: &Index,
+    hints: &mut Hints,
+    k: u32,
+    mention: Mention<'_>,
+) -> Result<bool, NoMemory>
+    ensures { IfOk result (λ used. used ≡ spec.is_as_number (index_view index.now) k (mention_view mention.entry)) }
 {
     match mention {
         Mention::Constraint {
             governor,
             role,
             name,
-        } => {
-            is_number_role(index, k, governor, role)
-                && !is_governed(index, k, governor, name.bytes())
-        }
-        Mention::Type { .. } => false,
-        Mention::Default { .. } => false,
-        Mention::Assignment { .. } => false,
+        } => is_number_in(index, hints, k, governor, role, name.bytes()),
+        Mention::Type { .. } => Ok(false),
+        Mention::Default { .. } => Ok(false),
+        Mention::Assignment { .. } => Ok(false),
     }
 }
 
 // Whether what is mentioned is used as a number and leads to none. Where it leads to a number its type isn't walked
 // to its base.
-fn is_wrong(index: &Index, k: u32, mention: Mention<'_>) -> bool
-    ensures { result ≡ spec.is_wrong (index_view index.now) k (mention_view mention.entry) }
+fn is_wrong(
+    index: &Index,
+    hints: &mut Hints,
+    k: u32,
+    mention: Mention<'_>,
+) -> Result<bool, NoMemory>
+    ensures { IfOk result (λ wrong. wrong ≡ spec.is_wrong (index_view index.now) k (mention_view mention.entry)) }
 {
-    !leads_to_number(index, k, mention_name(mention).bytes()) && is_as_number(index, k, mention)
+    if leads_to_number(index, k, mention_name(mention).bytes()) {
+        return Ok(false);
+    }
+    is_as_number(index, hints, k, mention)
 }
 
-// Adds the names that are mentioned and are of the wrong kind.
-fn push_mentions<'t>(
+// The first name that is mentioned and is of the wrong kind.
+fn first_mention<'t>(
     index: &Index,
+    hints: &mut Hints,
     k: u32,
     mentions: &[Mention<'t>],
-    all: &mut Vec<&'t Name>,
-) -> Result<(), NoMemory>
-    ensures { OnOk result (names_view all.new.items ≡ names_view all.old.items ++ flat_map (λ m. when (spec.is_wrong (index_view index.now) k m) (mention_name m)) (mentions_view mentions.now)) }
+) -> Result<Option<&'t Name>, NoMemory>
+    ensures { IfOk result (λ found. option_copied found ≡ first (flat_map (λ m. when (spec.is_wrong (index_view index.now) k m) (mention_name m)) (mentions_view mentions.now))) }
 {
     for mention in mentions {
-        if is_wrong(index, k, *mention) {
-            all.push(mention_name(*mention))?;
+        let wrong = is_wrong(index, hints, k, *mention)?;
+        if wrong {
+            return Ok(Some(mention_name(*mention)));
         }
     }
-    Ok(())
+    Ok(None)
 }
 
-// Adds those in an assignment.
-fn push_item<'t>(
+// The first in an assignment.
+fn first_in_item<'t>(
     alloc: Global,
     index: &Index,
+    hints: &mut Hints,
     k: u32,
     item: &'t Assign,
-    all: &mut Vec<&'t Name>,
-) -> Result<(), NoMemory>
-    ensures { OnOk result (names_view all.new.items ≡ names_view all.old.items ++ spec.wrong_in (index_view index.now) k (assign_view item.now)) }
+) -> Result<Option<&'t Name>, NoMemory>
+    ensures { IfOk result (λ found. option_copied found ≡ first (spec.wrong_in (index_view index.now) k (assign_view item.now))) }
 {
     let mut mentions = Vec::new(alloc);
     push_assign(item, &mut mentions)?;
-    push_mentions(index, k, mentions.as_slice(), all)?;
-    Ok(())
+    first_mention(index, hints, k, mentions.as_slice())
 }
 
-// Adds those in assignments.
-fn push_items<'t>(
+// The first in assignments.
+#[tactic(auto, using(crate::proofs::FirstFound::first_append, crate::proofs::FirstFound::mapped_some, crate::proofs::FirstFound::mapped_none))]
+fn first_in_items<'t>(
     alloc: Global,
     index: &Index,
+    hints: &mut Hints,
     k: u32,
     items: &'t [Assign],
-    all: &mut Vec<&'t Name>,
-) -> Result<(), NoMemory>
-    ensures { OnOk result (names_view all.new.items ≡ names_view all.old.items ++ flat_map (spec.wrong_in (index_view index.now) k) (map assign_view items.now)) }
+) -> Result<Option<&'t Name>, NoMemory>
+    ensures { IfOk result (λ found. option_copied found ≡ first (flat_map (spec.wrong_in (index_view index.now) k) (map assign_view items.now))) }
 {
     for item in items {
-        push_item(alloc, index, k, item, all)?;
+        let found = first_in_item(alloc, index, hints, k, item)?;
+        if found.is_some() {
+            return Ok(found);
+        }
     }
-    Ok(())
+    Ok(None)
 }
 
-// Adds the faults of a module.
-fn push_module<'t>(
+// The first fault of a module.
+#[tactic(auto, using(crate::proofs::FirstFound::first_mapped))]
+fn first_blame_in<'t>(
     alloc: Global,
     index: &Index,
+    hints: &mut Hints,
     k: u32,
     owner: &'t AsnModule,
-    all: &mut Vec<Blame<'t>>,
-) -> Result<(), NoMemory>
-    ensures { OnOk result (blames_view all.new.items ≡ blames_view all.old.items ++ spec.wrong_of owner.now.name (flat_map (spec.wrong_in (index_view index.now) k) (module_view owner.now).items)) }
+) -> Result<Option<Blame<'t>>, NoMemory>
+    ensures { IfOk result (λ found. option_map blame_view found ≡ first (spec.wrong_of owner.now.name (flat_map (spec.wrong_in (index_view index.now) k) (module_view owner.now).items))) }
 {
-    let mut names = Vec::new(alloc);
-    push_items(alloc, index, k, owner.items.items(), &mut names)?;
-    push_blames(Kind::WrongKind, &owner.name, names.as_slice(), all)?;
-    Ok(())
+    let found = first_in_items(alloc, index, hints, k, owner.items.items())?;
+    Ok(blamed(Kind::WrongKind, &owner.name, found))
 }
 
-// Adds the faults of the modules.
-fn push_modules<'t>(
+// The first fault of the modules. What stands behind it is not looked at.
+#[tactic(auto, using(crate::proofs::FirstFound::first_append, crate::proofs::FirstFound::mapped_some, crate::proofs::FirstFound::mapped_none))]
+fn first_in_modules<'t>(
     alloc: Global,
     index: &Index,
+    hints: &mut Hints,
     modules: &'t [AsnModule],
-    all: &mut Vec<Blame<'t>>,
-) -> Result<(), NoMemory>
+) -> Result<Option<Blame<'t>>, NoMemory>
     requires { length modules.now < 4294967296 }
-    ensures { OnOk result (blames_view all.new.items ≡ blames_view all.old.items ++ flat_map (λ m. spec.wrong_of m.1.name (flat_map (spec.wrong_in (index_view index.now) m.0) m.1.items)) (enumerate_from 0 (map module_view modules.now))) }
+    ensures { IfOk result (λ found. option_map blame_view found ≡ first (flat_map (λ m. spec.wrong_of m.1.name (flat_map (spec.wrong_in (index_view index.now) m.0) m.1.items)) (enumerate_from 0 (map module_view modules.now)))) }
 {
     for (k, owner) in modules.iter().enumerate() {
-        push_module(alloc, index, k as u32, owner, all)?;
+        let found = first_blame_in(alloc, index, hints, k as u32, owner)?;
+        if found.is_some() {
+            return Ok(found);
+        }
     }
-    Ok(())
+    Ok(None)
 }
 
 // Whether the type of a parameter is one that it may have.
@@ -339,13 +375,25 @@ fn push_acn_modules<'t>(
     Ok(())
 }
 
+// The first reference that is of the wrong kind.
+#[tactic(auto, unfolding(acn_world::specs::Cycles::wrong_kinds), using(crate::proofs::FirstFound::first_append, crate::proofs::FirstFound::mapped_some, crate::proofs::FirstFound::mapped_none))]
+fn first_wrong<'w>(alloc: Global, index: &'w Index) -> Result<Option<Blame<'w>>, NoMemory>
+    ensures { IfOk result (λ found. option_map blame_view found ≡ first (spec.wrong_kinds (index_view index.now))) }
+{
+    let mut hints = Hints::new(alloc);
+    let found = first_in_modules(alloc, index, &mut hints, index.modules.items())?;
+    if found.is_some() {
+        return Ok(found);
+    }
+    let mut all = Vec::new(alloc);
+    push_acn_modules(alloc, index, index.acn.items(), &mut all)?;
+    Ok(first_blame(all.as_slice()))
+}
+
 /// The fault behind the cycles: the first reference in the text that is of the wrong kind.
-#[tactic(auto, unfolding(acn_world::specs::Cycles::wrong_kinds))]
 pub fn late_fault(alloc: Global, index: &Index) -> Result<Option<NameFault>, NoMemory>
     ensures { IfOk result (λ f. f ≡ first (spec.wrong_kinds (index_view index.now))) }
 {
-    let mut all = Vec::new(alloc);
-    push_modules(alloc, index, index.modules.items(), &mut all)?;
-    push_acn_modules(alloc, index, index.acn.items(), &mut all)?;
-    first_fault(alloc, all.as_slice())
+    let found = first_wrong(alloc, index)?;
+    fault_where(alloc, found)
 }
