@@ -1,6 +1,6 @@
 mod Sizes
 mod Following
--- for acn_names
+-- for acn_names and acn_value_laws
 pub mod ValueSteps
 -- for acn_names
 pub mod ChainSteps
@@ -12,7 +12,7 @@ mod ImportJumps
 mod LastValues
 mod LastLinks
 mod Numbered
--- for acn_cycles and acn_names
+-- for acn_cycles, acn_names and acn_value_laws
 pub mod Left
 mod ImportWays
 mod Bounded
