@@ -1,0 +1,4 @@
+-- for acn_moments
+pub mod Opens
+-- for acn_moments
+pub mod Steps
