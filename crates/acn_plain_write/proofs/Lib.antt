@@ -1,0 +1,6 @@
+mod Adding
+mod Homes
+mod Packets
+mod Places
+mod ReadyLaw
+mod Walk

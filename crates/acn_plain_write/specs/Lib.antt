@@ -1,0 +1,3 @@
+pub mod Adds
+pub mod Home
+pub mod Ready
