@@ -1,0 +1,15 @@
+mod Ascending
+mod Back
+mod CanReadLaw
+mod DistinctLaw
+mod Escapes
+mod FieldLists
+mod Names
+mod Objects
+mod Plain
+mod RoundTripLaw
+mod Said
+mod ShapedLaw
+mod SizeLaw
+mod Steps
+mod Turns

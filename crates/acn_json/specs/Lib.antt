@@ -1,0 +1,6 @@
+pub mod Answers
+pub mod Few
+pub mod Lines
+pub mod Reads
+pub mod RoundTrip
+pub mod Spots

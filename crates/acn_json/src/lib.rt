@@ -1,0 +1,17 @@
+//! Lines of JSON: the text of a value of a tree, and the value of a text.
+#![tactic(auto)]
+
+mod json_fault;
+mod laws;
+mod members;
+mod read;
+mod spots;
+mod strings;
+mod text;
+mod trouble;
+mod write;
+
+pub use json_fault::JsonFault;
+pub use laws::lines_give_the_value;
+pub use read::{MOST_JSON_BYTES, from_line};
+pub use write::to_line;
