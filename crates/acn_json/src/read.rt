@@ -12,10 +12,10 @@ ghost use Rattle.acn_json.specs.Few.{size, items_size, members_size, CanRead, Fi
 ghost use Rattle.acn_json.specs.Reads as reads;
 ghost use Rattle.acn_json.specs.Reads.{LineFault};
 
+use crate::json_fault::JsonFault;
 use crate::members::{first_missing, first_unknown, member, only_member};
 use crate::strings::{bits_from, characters_from, is_same, number_from, octets_from};
 use crate::trouble::Trouble;
-use crate::json_fault::JsonFault;
 use acn_grammar::{Alternative, Body, Field, Node, Value};
 use acn_num::{Boxed, Path, Row};
 use acn_tree::Tree;

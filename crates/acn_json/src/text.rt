@@ -67,7 +67,14 @@ fn put_escape(octet: u8, out: &mut Vec<u8>) -> Result<(), NoMemory>
         put(&[b'\\', letter], out)
     } else if octet < 0x20 {
         put(
-            &[b'\\', b'u', b'0', b'0', digit(octet / 16), digit(octet % 16)],
+            &[
+                b'\\',
+                b'u',
+                b'0',
+                b'0',
+                digit(octet / 16),
+                digit(octet % 16),
+            ],
             out,
         )
     } else {

@@ -25,8 +25,8 @@ loop-k-preserved c =
                 (note-turn fs ps l.k l.at c.index-fields-k.result w.in-Component.name w.in-Component.node _ _ _ w.index-places-at.result spot w.bytes.result.now l.known.entries _ whole c.loop-k-test.true (omega arith) c.index-fields-k.is w.index-places-at.is w.in-Component.is refl refl w.bytes.ensures (noted.members (json_at fs ps)) l.invariant.same);
           }
       | in-Inserted w ↦ record {
-          room = omega arith;
-          within = rw w.known-is l.invariant.within;
-          same = rw (w.known-is, w.at-is) (fields-skip fs ps l.k l.at c.index-fields-k.result w.in-Inserted.name w.in-Inserted.node w.in-Inserted.slot (members_at (json_at fs ps) l.known.entries) whole c.loop-k-test.true c.index-fields-k.is w.in-Inserted.is l.invariant.same);
-        }
+        room = omega arith;
+        within = rw w.known-is l.invariant.within;
+        same = rw (w.known-is, w.at-is) (fields-skip fs ps l.k l.at c.index-fields-k.result w.in-Inserted.name w.in-Inserted.node w.in-Inserted.slot (members_at (json_at fs ps) l.known.entries) whole c.loop-k-test.true c.index-fields-k.is w.in-Inserted.is l.invariant.same);
+      }
     ]
