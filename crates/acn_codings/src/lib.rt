@@ -11,5 +11,5 @@ mod table;
 pub use coding::{Coding, coding_of, fits, numbers};
 pub use items::numbers_of;
 pub use left::{least_lost, left_of};
-pub use literal::{bit_count, pattern_of};
-pub use table::{keys_to, table_fault};
+pub use literal::{bit_count, count_bits, pattern_of};
+pub use table::{keys_to, line_of, table_fault};

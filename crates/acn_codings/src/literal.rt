@@ -1,4 +1,4 @@
-ghost use Rattle.std.specs.Prelude.{◌≡◌, ◌+◌, ◌≤◌, ◌<◌, ◌++◌, length, IfSome};
+ghost use Rattle.std.specs.Prelude.{◌≡◌, ◌+◌, ◌*◌, ◌≤◌, ◌<◌, ◌++◌, length, IfSome};
 ghost use Rattle.acn_grammar.specs.declared.limits.TheConstants.{MOST_PATTERN_BITS};
 ghost use Rattle.acn_codings.specs.Literals as spec;
 
@@ -66,9 +66,10 @@ fn add_digit(hex: bool, c: u8, bits: &mut ArrayVec<bool, MOST_PATTERN_BITS>)
     }
 }
 
-// How many bits the digits of a text are.
-fn count(hex: bool, text: &[u8]) -> u128
-    ensures { result ≡ length (spec.text_bits hex text.now) }
+/// How many bits the digits of a text are; other characters count for none.
+pub fn count_bits(hex: bool, text: &[u8]) -> u128
+    ensures is { result ≡ length (spec.text_bits hex text.now) }
+    ensures few { result ≤ 4 * length text.now }
 {
     let mut total = 0u128;
     for c in text {
@@ -92,7 +93,7 @@ pub fn bit_count(literal: &Literal) -> u128
     ensures { result ≡ length (spec.bits_in literal.now) }
 {
     let (hex, text) = digits(literal);
-    count(hex, text)
+    count_bits(hex, text)
 }
 
 /// The pattern of a literal; none where it has no bits, or more than `MOST_PATTERN_BITS`.
@@ -100,7 +101,7 @@ pub fn pattern_of(literal: &Literal) -> Option<Pattern>
     ensures { result ≡ spec.fitting (spec.bits_in literal.now) }
 {
     let (hex, text) = digits(literal);
-    let total = count(hex, text);
+    let total = count_bits(hex, text);
     if total == 0 || total > MOST_PATTERN_BITS as u128 {
         return None;
     }

@@ -15,8 +15,8 @@ fn number_of(written: &Signed) -> i128
     signed(written.negative, written.n)
 }
 
-// The first key, the last key and the image of the first.
-fn line_of(line: &MapLine) -> (i128, i128, i128)
+/// The first key, the last key and the image of the first.
+pub fn line_of(line: &MapLine) -> (i128, i128, i128)
     ensures { result ≡ spec.line_of line.now }
 {
     let first = number_of(&line.first);

@@ -4,5 +4,5 @@ use Rattle.std.specs.Int.{w128}
 use Rattle.acn_codings.proofs.Apart.{first_or_above}
 use Rattle.acn_codings.proofs.table.keys_between.Goals as goal
 
-pub some_range-requires-clause-above : goal.some_range-requires-clause-above
-some_range-requires-clause-above c = rw (to_z-of_z w128 c.greater.result.now (record { sfits = search rules })) (first_or_above c.args.line.now _ _ c.requires.fine c.greater.ensures)
+pub between-requires-clause-above : goal.between-requires-clause-above
+between-requires-clause-above c = rw (to_z-of_z w128 c.greater.result.now (record { sfits = search rules })) (first_or_above c.args.line.now _ _ c.requires.fine c.greater.ensures)
