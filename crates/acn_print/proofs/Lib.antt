@@ -1,0 +1,2 @@
+-- for acn_report
+pub mod Joining
