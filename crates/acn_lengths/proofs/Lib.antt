@@ -1,2 +1,3 @@
 mod EndSteps
-mod CanMeasureLaw
+-- for acn_gather_laws
+pub mod CanMeasureLaw
