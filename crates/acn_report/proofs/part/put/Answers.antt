@@ -1,0 +1,4 @@
+use Rattle.acn_report.proofs.part.put.Goals as goal
+
+pub returns-in-Path : goal.returns-in-Path
+returns-in-Path g c = rw c.in-Path.is c.put_path.ensures
