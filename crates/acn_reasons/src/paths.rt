@@ -181,8 +181,8 @@ fn push_size<'w>(size: &'w SizeAttr, all: &mut Vec<&'w AcnPath>) -> Result<(), N
     }
 }
 
-// Adds the paths in an attribute.
-fn push_paths<'w>(attr: &'w Attr, all: &mut Vec<&'w AcnPath>) -> Result<(), NoMemory>
+/// Adds the paths that an attribute gives: that of a size, those of conditions, or that of a determinant.
+pub fn push_paths<'w>(attr: &'w Attr, all: &mut Vec<&'w AcnPath>) -> Result<(), NoMemory>
     ensures { OnOk result (paths_view all.new.items ≡ paths_view all.old.items ++ spec.paths_in attr.now) }
 {
     match attr {

@@ -1,0 +1,4 @@
+pub mod Reasons
+pub mod Walk
+pub mod View
+pub mod Seen
