@@ -1,18 +1,17 @@
 -- A value of a sound tree that meets its constraints can be gathered.
-use Rattle.std.proofs.Common.{◌≡◌, ℕ, zero, suc, ◌+◌, ◌*◌, ◌/◌, ◌%◌, ◌^◌, ◌<◌, ◌≤◌, Bool, true, false, ◌&&◌, ◌||◌, not, List, [], ◌∷◌, ◌++◌, length, Option, Some, None, nat_eq, refl, sym, ap, subst, ◌∙◌, arith, true≢false}
+use Rattle.std.proofs.Common.{◌≡◌, ℕ, zero, suc, ◌+◌, ◌*◌, ◌^◌, ◌≤◌, Bool, true, false, ◌&&◌, ◌||◌, not, List, [], ◌∷◌, ◌++◌, length, Option, Some, None, nat_eq, refl, sym, subst, arith, true≢false}
 use Rattle.std.specs.Prelude.{◌⊎◌, ◌-◌, map, nat_lt}
 use Rattle.std.specs.List.{list_any}
 use Rattle.std.proofs.Common.{inl, inr}
 use Rattle.std.proofs.lemmas.Bool.{eqb-true}
 use Rattle.std.proofs.lemmas.Bool.Decides.{nat_tests}
 use Rattle.acn_num.specs.Bits.{octets as octets_for, is_least_width}
-use Rattle.acn_num.specs.Ranges.{has}
 use Rattle.acn_grammar.specs.Grammar.{Grammar, Form, Fields, Alternatives, Data, Places, Elements, node, num, octets, bits, text, seq, list, choice, contained, no_fields, component, inserted, no_alternatives, alternative, record_of, list_of, alt, no_places, empty, filled, no_elements, element, element_count}
 use Rattle.acn_grammar.specs.Asks.{same_name}
-use Rattle.acn_grammar.specs.Leaves.{sizes_fine, list_fine, all_differ}
+use Rattle.acn_grammar.specs.Leaves.{all_differ}
 use Rattle.acn_grammar.specs.Length.{bit_length, form_length, fields_length, alternative_length, run_length, list_length, inserted_length, padding, presence_bits, index_width, rule_width, ending}
-use Rattle.acn_grammar.specs.Meets.{Why, Unfit, unless, at_path, size_breach, size_out_of_range, Meets, breaches, form_breaches, field_breaches, alternative_breaches, run_breaches}
-use Rattle.acn_grammar.specs.Scoped.{Known, with_slot, with_own, choose_known, after, TestIn, TestsIn, PresenceIn, RuleIn, tests_at}
+use Rattle.acn_grammar.specs.Meets.{Why, Unfit, unless, at_path, size_breach, size_out_of_range, breaches, form_breaches, field_breaches, alternative_breaches, run_breaches}
+use Rattle.acn_grammar.specs.Scoped.{Known, with_slot, with_own, choose_known, after, TestsIn, PresenceIn, RuleIn, tests_at}
 use Rattle.acn_grammar.specs.Sound.{Sound, FormSound, FieldsSound, AlternativesSound, SaysSlot, OwnSound, PresenceSound, RuleSound}
 use Rattle.acn_grammar.specs.Tree.{holds, choice_fine, choice_rule_fine, has_tests}
 use Rattle.acn_grammar.specs.Walk.{conditions_of}
@@ -24,12 +23,12 @@ use Rattle.acn_grammar.specs.declared.node.SizeRule.{SizeRule}
 use Rattle.acn_grammar.specs.declared.node.SizeRule.TheVariants.{Prefix, Slot, Ended}
 use Rattle.acn_grammar.specs.declared.node.Test.{Test}
 use Rattle.acn_grammar.specs.declared.node.Test.TheVariants.{Flag, Equals}
-use Rattle.acn_num.specs.declared.limits.TheConstants.{MOST_SIZE, MOST_STEPS}
+use Rattle.acn_num.specs.declared.limits.TheConstants.{MOST_STEPS}
 use Rattle.acn_grammar.proofs.TextRules.{size_few}
 use Rattle.acn_packet_laws.specs.Laws.{KnownBehind}
 use Rattle.acn_lengths.proofs.CanMeasureLaw.{measured}
 use Rattle.acn_asking.specs.Uses.{OwnIn, CaseIn}
-use Rattle.acn_gather_laws.specs.CanGather.{HasLength, CanGatherEach, CanGather, CanGatherForm, CanGatherFields, CanGatherCase, SoundValuesCanBeGathered}
+use Rattle.acn_gather_laws.specs.CanGather.{CanGatherEach, CanGather, CanGatherForm, CanGatherFields, CanGatherCase, SoundValuesCanBeGathered}
 
 last_three : {A B C : Type 0} → A × B × C → C
 last_three h = h.2

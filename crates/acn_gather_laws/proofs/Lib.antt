@@ -1,1 +1,3 @@
 mod CanGatherLaw
+-- for acn_moments
+pub mod GatherSteps

@@ -1,16 +1,14 @@
 -- What the walk over a value takes for granted: each slot that is used is at home round its use, paths have steps to spare, lists
 -- aren't too long, and contents can be measured. (This profile's own.)
-use Rattle.std.specs.Prelude.{◌≡◌, ℕ, zero, suc, ◌+◌, ◌≤◌, ◌^◌, true, false, List, [], ◌++◌, Option, Some, None}
+use Rattle.std.specs.Prelude.{◌≡◌, ℕ, zero, suc, ◌≤◌, ◌^◌, true, List, ◌++◌, Option, Some, None}
 use Rattle.acn_grammar.specs.Grammar.{Grammar, Form, Fields, Alternatives, Data, Places, Elements, node, octets, bits, text, seq, list, choice, contained, component, inserted, no_alternatives, alternative, record_of, list_of, alt, empty, filled, no_elements, element, element_count}
 use Rattle.acn_grammar.specs.Length.{bit_length}
 use Rattle.acn_grammar.specs.Meets.{Meets}
-use Rattle.acn_grammar.specs.Scoped.{Known, TestsIn, PresenceIn, RuleIn}
+use Rattle.acn_grammar.specs.Scoped.{Known, PresenceIn, RuleIn}
 use Rattle.acn_grammar.specs.Sound.{Sound}
 use Rattle.acn_grammar.specs.Tree.{holds}
 use Rattle.acn_grammar.specs.declared.node.Presence.{Presence}
 use Rattle.acn_grammar.specs.declared.node.ChoiceRule.{ChoiceRule}
-use Rattle.acn_grammar.specs.declared.node.ChoiceRule.TheVariants.{Item}
-use Rattle.acn_grammar.specs.declared.node.Test.{Test}
 use Rattle.acn_num.specs.declared.limits.TheConstants.{MOST_SIZE, MOST_STEPS}
 use Rattle.acn_asking.specs.Uses.{OwnIn, CaseIn}
 use Rattle.acn_determinants.specs.Determinants.{SequenceIn}

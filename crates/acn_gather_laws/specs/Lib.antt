@@ -1,1 +1,2 @@
 pub mod CanGather
+pub mod PlaceMoments
