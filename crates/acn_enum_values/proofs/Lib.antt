@@ -1,0 +1,2 @@
+mod ByNumber
+mod Noted

@@ -1,0 +1,3 @@
+pub mod EnumValues
+pub mod Keyed
+pub mod View

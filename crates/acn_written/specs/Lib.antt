@@ -1,0 +1,9 @@
+pub mod Says
+pub mod Items
+pub mod Mapped
+pub mod Patterns
+pub mod Ends
+pub mod Numbers
+pub mod Sizes
+pub mod Widths
+pub mod View
