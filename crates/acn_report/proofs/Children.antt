@@ -1,5 +1,5 @@
 -- Names and nodes of children, from the rows of fields and alternatives.
-use Rattle.std.proofs.Common.{◌≡◌, ℕ, zero, suc, ◌<◌, ◌≤◌, List, [], ◌∷◌, ◌++◌, length, get_or, Option, Some, None, refl, sym, ap, ◌∙◌, arith, rules}
+use Rattle.std.proofs.Common.{◌≡◌, ℕ, zero, suc, ◌<◌, ◌≤◌, List, [], ◌∷◌, ◌++◌, length, get_or, Some, None, refl, sym, ap, ◌∙◌, arith, rules}
 use Rattle.acn_grammar.specs.Grammar.{Grammar, Fields}
 use Rattle.acn_grammar.specs.View.{OneField, a_component, an_inserted, with_field, grammar_of, field_of, fields_view, alternatives_view}
 use Rattle.acn_grammar.specs.declared.node.Alternative.{Alternative}

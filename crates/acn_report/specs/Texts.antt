@@ -1,7 +1,9 @@
--- The lines of refusals, and of inputs that are too long, one line a case. (This program's own.)
+-- The lines of refusals, of bounds, and of inputs that are too long, one line a case. (This program's own.)
 use Rattle.std.specs.Prelude.{ℕ, List, [], ◌∷◌, ◌++◌, codes}
 use Rattle.std.specs.Fmt.{decimal, signed_decimal}
 use Rattle.std.specs.List.{concat, flat_map}
+use Rattle.acn_grammar.specs.Interval.{span}
+use Rattle.acn_grammar.specs.View.{grammar_of}
 use Rattle.acn_grammar.specs.declared.fault.Fault.{Fault}
 use Rattle.acn_grammar.specs.declared.unfit.Unfit.{Unfit}
 use Rattle.acn_grammar.specs.declared.unfit.UnfitReason.{UnfitReason}
@@ -53,3 +55,7 @@ long_line k = concat (codes "acn: line " ∷ decimal k ∷ codes ": LineTooLong\
 
 abbrev pub long_input_line : List ℕ
 long_input_line = codes "acn: input: InputTooLong\n"
+
+-- the two bounds in bits
+abbrev pub bounds_line : Tree → List ℕ
+bounds_line tree = concat (tree.name ∷ codes " " ∷ decimal (span (grammar_of tree.root)).least ∷ codes " " ∷ decimal (span (grammar_of tree.root)).greatest ∷ codes "\n" ∷ [])

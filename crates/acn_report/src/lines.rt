@@ -1,9 +1,11 @@
-//! Lines on packets, and on inputs that are too long.
+//! Lines on packets, on inputs that are too long, and on bounds.
 
 ghost use Rattle.acn_print.specs.Printing.{Prints};
-ghost use Rattle.acn_report.specs.Texts.{empty_line, fault_text, long_input_line, long_line, packet_line};
+ghost use Rattle.acn_report.specs.Texts.{bounds_line, empty_line, fault_text, long_input_line, long_line, packet_line};
 
 use crate::part::{Part, put_parts};
+use acn_bounds::bounds;
+use acn_check::Checked;
 use acn_outside::{Failed, Sink};
 use acn_tree::{Fault, Tree};
 
@@ -81,4 +83,22 @@ pub fn put_input_too_long<O: Sink>(out: &mut O) -> Result<(), Failed>
     ensures { Prints long_input_line (O.taken out.old, O.faults out.old) (O.taken out.new, O.faults out.new) result }
 {
     put_parts(out, &[Part::Text("acn: input: InputTooLong\n")])
+}
+
+/// Prints the line of a type's two bounds in bits: `TYPE LEAST GREATEST`. It takes no memory.
+pub fn put_bounds<O: Sink>(checked: &Checked, out: &mut O) -> Result<(), Failed>
+    ensures { Prints (bounds_line checked.now.tree) (O.taken out.old, O.faults out.old) (O.taken out.new, O.faults out.new) result }
+{
+    let both = bounds(checked);
+    put_parts(
+        out,
+        &[
+            Part::Name(checked.tree().name().bytes()),
+            Part::Text(" "),
+            Part::Count(both.least),
+            Part::Text(" "),
+            Part::Count(both.greatest),
+            Part::Text("\n"),
+        ],
+    )
 }

@@ -1,4 +1,4 @@
-use Rattle.std.proofs.Common.{rules, FitsSigned, ℤ, List, [], ◌∷◌, subst}
+use Rattle.std.proofs.Common.{rules, FitsSigned, ℤ, [], ◌∷◌, subst}
 use Rattle.std.specs.Prelude.{codes}
 use Rattle.std.proofs.lemmas.Int.{to_z-of_z}
 use Rattle.std.specs.Fmt.{signed_decimal}
