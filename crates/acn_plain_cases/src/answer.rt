@@ -4,7 +4,8 @@ use acn_case_lines::{octets_of, word};
 use acn_case_trees::{Built, Sheet, path_in_words, value_in_words};
 use acn_check::{Checked, check};
 use acn_num::{Boxed, NoMemory};
-use acn_plain::{MOST_PLAIN_BYTES, plain_decode};
+use acn_plain::plain_decode;
+use acn_plain_read::MOST_PLAIN_BYTES;
 use acn_tree::{Fault, Reason, Refuse, Tree, Value, items_named};
 use std::alloc::Global;
 
