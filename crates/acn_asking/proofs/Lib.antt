@@ -1,4 +1,4 @@
--- for acn_moments
+-- for acn_gather_laws
 pub mod Opens
--- for acn_moments
+-- for acn_gather_laws
 pub mod Steps

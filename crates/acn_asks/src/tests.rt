@@ -2,15 +2,11 @@ use crate::{Heard, Unmet};
 use acn_grammar::Ask;
 use acn_num::{NoMemory, RangeSet};
 use std::alloc::Global;
+use std::test::Fail;
 
-// A test ran out of memory.
-#[derive(Debug, Drop)]
-struct OutOfMemory;
-
-impl From<NoMemory> for OutOfMemory {
-    fn from(_: NoMemory) -> Self {
-        OutOfMemory
-    }
+// What was made; fails where memory ran out.
+fn made<T>(result: Result<T, NoMemory>) -> Result<T, Fail> {
+    Ok(result.ok().ok_or("memory ran out")?)
 }
 
 // Whether the ask is added.
@@ -43,9 +39,9 @@ fn earlier_of(
 
 // A field of 0 to 3 that isn't 0, 2 and 1 has the number 3.
 #[test]
-fn the_least_number_that_is_left_is_found(rt: HostRuntime) -> Result<(), OutOfMemory> {
+fn the_least_number_that_is_left_is_found(rt: HostRuntime) -> Result<(), Fail> {
     let alloc = rt.alloc();
-    let set = RangeSet::one(alloc, 0, 3)?;
+    let set = made(RangeSet::one(alloc, 0, 3))?;
     let mut heard = Heard::new(alloc);
     assert_eq!(rt; heard.least(&[4], &set), Some(0));
     assert!(rt; is_heard(alloc, &mut heard, &[4], &set, Ask::Avoid(0)));
@@ -59,9 +55,9 @@ fn the_least_number_that_is_left_is_found(rt: HostRuntime) -> Result<(), OutOfMe
 
 // The second of two strings that share a size of 2 has 3 octets.
 #[test]
-fn a_conflict_names_what_contradicts(rt: HostRuntime) -> Result<(), OutOfMemory> {
+fn a_conflict_names_what_contradicts(rt: HostRuntime) -> Result<(), Fail> {
     let alloc = rt.alloc();
-    let set = RangeSet::one(alloc, 0, 255)?;
+    let set = made(RangeSet::one(alloc, 0, 255))?;
     let mut heard = Heard::new(alloc);
     assert!(rt; is_heard(alloc, &mut heard, &[0], &set, Ask::Equal(2)));
     assert!(rt; is_heard(alloc, &mut heard, &[0], &set, Ask::Equal(2)));

@@ -1,15 +1,11 @@
 use crate::{Homes, Use};
 use acn_num::{NoMemory, Row};
 use std::alloc::Global;
+use std::test::Fail;
 
-// A test ran out of memory.
-#[derive(Debug, Drop)]
-struct OutOfMemory;
-
-impl From<NoMemory> for OutOfMemory {
-    fn from(_: NoMemory) -> Self {
-        OutOfMemory
-    }
+// What was made; fails where memory ran out.
+fn made<T>(result: Result<T, NoMemory>) -> Result<T, Fail> {
+    Ok(result.ok().ok_or("memory ran out")?)
 }
 
 fn path(alloc: Global, steps: &[usize]) -> Result<Row<usize>, NoMemory> {
@@ -122,12 +118,10 @@ fn first_other(
 }
 
 #[test]
-fn slots_are_numbered_and_at_home_round_their_users(rt: HostRuntime) -> Result<(), OutOfMemory> {
-    let inserted = inserted(rt.alloc())?;
-    let uses = uses(rt.alloc())?;
-    assert_eq!(rt;
-        first_other(rt.alloc(), inserted.items(), uses.items(), CASES)?,
-        None
-    );
+fn slots_are_numbered_and_at_home_round_their_users(rt: HostRuntime) -> Result<(), Fail> {
+    let inserted = made(inserted(rt.alloc()))?;
+    let uses = made(uses(rt.alloc()))?;
+    let other = first_other(rt.alloc(), inserted.items(), uses.items(), CASES);
+    assert_eq!(rt; made(other)?, None);
     Ok(())
 }

@@ -1,6 +1,6 @@
 mod Sizes
 mod Following
--- for acn_names and acn_value_laws
+-- for acn_value_laws and acn_names
 pub mod ValueSteps
 -- for acn_names
 pub mod ChainSteps
@@ -12,7 +12,7 @@ mod ImportJumps
 mod LastValues
 mod LastLinks
 mod Numbered
--- for acn_cycles, acn_names and acn_value_laws
+-- for acn_value_laws, acn_cycles and acn_names
 pub mod Left
 mod ImportWays
 mod Bounded

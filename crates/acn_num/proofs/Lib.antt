@@ -1,4 +1,4 @@
--- for acn_grammar, acn_packet_laws, acn_tree, acn_bits, acn_ints, acn_text, acn_plain_read, acn_check and acn_run
+-- for acn_grammar, acn_packet_laws, acn_tree, acn_bits, acn_ints, acn_text, acn_plain_read, acn_plain_write, acn_check and acn_run
 pub mod BitLists
 -- for acn_constraint and acn_run
 pub mod Members
@@ -11,3 +11,4 @@ mod Unions
 pub mod Nth
 mod Halves
 mod Octets
+mod Pushed

@@ -1,4 +1,5 @@
 ghost use Rattle.std.specs.Prelude.{◌≡◌, [], ◌∷◌, ◌++◌, length, slice_get, OnOk, OnErr};
+ghost use Rattle.acn_num.specs.Bits.{bit, low_bits};
 
 use crate::NoMemory;
 use std::alloc::Global;
@@ -37,6 +38,16 @@ impl BitList {
         Ok(())
     }
 
+    /// Adds the lowest bits of a number, the most significant first. What was added stays where memory runs out.
+    pub fn push_number(&mut self, width: u32, v: u64) -> Result<(), NoMemory>
+        ensures { OnOk result (self.new ≡ self.old ++ low_bits width v) }
+    {
+        for i in 0..width {
+            self.push(bit_of(v, width - 1 - i))?;
+        }
+        Ok(())
+    }
+
     /// Adds the bits of another list at the end. A refused growth changes nothing.
     pub fn append(&mut self, other: &BitList) -> Result<(), NoMemory>
         ensures ok { OnOk result (self.new ≡ self.old ++ other.now) }
@@ -59,4 +70,11 @@ impl BitList {
     {
         self.bits.get(at).copied()
     }
+}
+
+// A bit of a number, bit 0 being worth 1.
+fn bit_of(v: u64, k: u32) -> bool
+    ensures { result ≡ bit k v }
+{
+    if k < 64 { (v >> k) % 2 == 1 } else { false }
 }

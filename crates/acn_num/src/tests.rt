@@ -3,25 +3,22 @@ use crate::{
     signed_octets_for,
 };
 use std::alloc::Global;
+use std::test::Fail;
 
-// A test ran out of memory.
-#[derive(Debug, Drop)]
-struct OutOfMemory;
-
-impl From<NoMemory> for OutOfMemory {
-    fn from(_: NoMemory) -> Self {
-        OutOfMemory
-    }
+// What was made; fails where memory ran out.
+fn made<T>(result: Result<T, NoMemory>) -> Result<T, Fail> {
+    Ok(result.ok().ok_or("memory ran out")?)
 }
 
 // The set of `0..10 EXCEPT 3 | 20`.
 #[test]
-fn a_union_of_an_except_has_its_numbers(rt: HostRuntime) -> Result<(), OutOfMemory> {
+fn a_union_of_an_except_has_its_numbers(rt: HostRuntime) -> Result<(), Fail> {
     let alloc = rt.alloc();
-    let to_ten = RangeSet::one(alloc, 0, 10)?;
-    let three = RangeSet::one(alloc, 3, 3)?;
-    let twenty = RangeSet::one(alloc, 20, 20)?;
-    let set = to_ten.except(alloc, &three)?.union(alloc, &twenty)?;
+    let to_ten = made(RangeSet::one(alloc, 0, 10))?;
+    let three = made(RangeSet::one(alloc, 3, 3))?;
+    let twenty = made(RangeSet::one(alloc, 20, 20))?;
+    let but_three = made(to_ten.except(alloc, &three))?;
+    let set = made(but_three.union(alloc, &twenty))?;
     assert_eq!(rt; set.count(), 11);
     assert_eq!(rt; set.nth(3), Some(4));
     assert_eq!(rt; set.nth(10), Some(20));
@@ -35,16 +32,16 @@ fn a_union_of_an_except_has_its_numbers(rt: HostRuntime) -> Result<(), OutOfMemo
 }
 
 #[test]
-fn a_meet_and_a_copy_have_their_numbers(rt: HostRuntime) -> Result<(), OutOfMemory> {
+fn a_meet_and_a_copy_have_their_numbers(rt: HostRuntime) -> Result<(), Fail> {
     let alloc = rt.alloc();
-    let low = RangeSet::one(alloc, -9223372036854775809, 10)?;
-    let high = RangeSet::one(alloc, 0, 18446744073709551616)?;
-    let both = low.meet(alloc, &high)?.copy(alloc)?;
+    let low = made(RangeSet::one(alloc, -9223372036854775809, 10))?;
+    let high = made(RangeSet::one(alloc, 0, 18446744073709551616))?;
+    let both = made(made(low.meet(alloc, &high))?.copy(alloc))?;
     assert_eq!(rt; both.count(), 11);
-    let all = low.union(alloc, &high)?;
+    let all = made(low.union(alloc, &high))?;
     assert_eq!(rt; all.count(), 27670116110564327426);
     assert_eq!(rt; RangeSet::empty(alloc).least(), None);
-    assert_eq!(rt; all.except(alloc, &all)?.greatest(), None);
+    assert_eq!(rt; made(all.except(alloc, &all))?.greatest(), None);
     Ok(())
 }
 
@@ -59,15 +56,16 @@ fn even_numbers(alloc: Global, count: u16) -> Result<Vec<RangeSet>, NoMemory> {
 }
 
 #[test]
-fn a_thousand_sets_are_joined(rt: HostRuntime) -> Result<(), OutOfMemory> {
+fn a_thousand_sets_are_joined(rt: HostRuntime) -> Result<(), Fail> {
     let alloc = rt.alloc();
-    let evens = even_numbers(alloc, 1_000)?;
-    let set = RangeSet::one(alloc, 1, 3)?.union_all(alloc, evens.as_slice())?;
+    let evens = made(even_numbers(alloc, 1_000))?;
+    let first = made(RangeSet::one(alloc, 1, 3))?;
+    let set = made(first.union_all(alloc, evens.as_slice()))?;
     assert_eq!(rt; set.count(), 1_002);
     assert_eq!(rt; set.nth(4), Some(4));
     assert_eq!(rt; set.greatest(), Some(1_998));
     assert!(rt; !set.holds(1_997));
-    assert_eq!(rt; set.union_all(alloc, &[])?.count(), 1_002);
+    assert_eq!(rt; made(set.union_all(alloc, &[]))?.count(), 1_002);
     Ok(())
 }
 
@@ -111,19 +109,22 @@ fn widths_are_the_least_ones(rt: HostRuntime) {
 }
 
 #[test]
-fn lists_keep_their_items(rt: HostRuntime) -> Result<(), OutOfMemory> {
+fn lists_keep_their_items(rt: HostRuntime) -> Result<(), Fail> {
     let alloc = rt.alloc();
     let mut row = Row::new(alloc);
-    row.push(7u32)?;
-    row.push(8)?;
+    made(row.push(7u32))?;
+    made(row.push(8))?;
     assert_eq!(rt; row.items(), [7u32, 8].as_slice());
     assert_eq!(rt; Row::from_vec(row.into_vec()).items(), [7u32, 8].as_slice());
-    assert_eq!(rt; Name::copy(alloc, b"apid")?.bytes(), b"apid".as_slice());
+    assert_eq!(rt;
+        made(Name::copy(alloc, b"apid"))?.bytes(),
+        b"apid".as_slice()
+    );
     let mut bits = BitList::new(alloc);
-    bits.push(true)?;
+    made(bits.push(true))?;
     let mut twice = BitList::new(alloc);
-    twice.append(&bits)?;
-    twice.append(&bits)?;
+    made(twice.append(&bits))?;
+    made(twice.append(&bits))?;
     assert_eq!(rt; twice.len(), 2);
     assert_eq!(rt; twice.get(1), Some(true));
     assert_eq!(rt; twice.get(2), None);

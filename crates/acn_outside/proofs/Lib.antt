@@ -1,4 +1,4 @@
--- for acn_run
+-- for acn_print and acn_run
 pub mod Joined
 mod Named
 mod Counting

@@ -65,7 +65,7 @@ mod PlaceRows
 pub mod Placed
 mod PrefixNodes
 mod Reaches
--- for acn_plain
+-- for acn_plain_read and acn_plain_write
 pub mod ReadParts
 mod RefusalPaths
 mod RefusedUnspelled

@@ -2,15 +2,11 @@ use crate::{ParamFault, Scope, ScopeField};
 use acn_acn_syntax::AcnPath;
 use acn_num::{Name, NoMemory, Row};
 use std::alloc::Global;
+use std::test::Fail;
 
-// A test ran out of memory.
-#[derive(Debug, Drop)]
-struct OutOfMemory;
-
-impl From<NoMemory> for OutOfMemory {
-    fn from(_: NoMemory) -> Self {
-        OutOfMemory
-    }
+// What was made; fails where memory ran out.
+fn made<T>(result: Result<T, NoMemory>) -> Result<T, Fail> {
+    Ok(result.ok().ok_or("memory ran out")?)
 }
 
 fn slot(alloc: Global, name: &[u8], number: u32, optional: bool) -> Result<ScopeField, NoMemory> {
@@ -172,15 +168,15 @@ fn first_other(alloc: Global, scope: &Scope, cases: &[Case]) -> Result<Option<us
 }
 
 #[test]
-fn paths_lead_to_slots_or_are_refused(rt: HostRuntime) -> Result<(), OutOfMemory> {
-    let scope = scope(rt.alloc())?;
-    assert_eq!(rt; first_other(rt.alloc(), &scope, INSIDE)?, None);
+fn paths_lead_to_slots_or_are_refused(rt: HostRuntime) -> Result<(), Fail> {
+    let scope = made(scope(rt.alloc()))?;
+    assert_eq!(rt; made(first_other(rt.alloc(), &scope, INSIDE))?, None);
     Ok(())
 }
 
 #[test]
-fn what_is_left_is_seen_no_more(rt: HostRuntime) -> Result<(), OutOfMemory> {
-    let scope = left(rt.alloc())?;
-    assert_eq!(rt; first_other(rt.alloc(), &scope, OUTSIDE)?, None);
+fn what_is_left_is_seen_no_more(rt: HostRuntime) -> Result<(), Fail> {
+    let scope = made(left(rt.alloc()))?;
+    assert_eq!(rt; made(first_other(rt.alloc(), &scope, OUTSIDE))?, None);
     Ok(())
 }

@@ -16,9 +16,9 @@ use crate::leaves::named;
 use crate::numbers::number_at;
 use crate::presence::all_hold;
 use crate::sizes::kept_number;
-use crate::slot_leaf::slot_leaf;
 use crate::stop::Stop;
 use acn_bits::ReadCursor;
+use acn_determinants::slot_leaf;
 use acn_grammar::{Alternative, ChoiceRule, Node, ReadFault, Reason};
 use acn_num::Name;
 

@@ -10,7 +10,6 @@ mod presence;
 mod read;
 mod sizes;
 mod slot;
-mod slot_leaf;
 mod steps;
 mod stop;
 mod strings;

@@ -1,8 +1,6 @@
 -- Parts that are added one behind another.
 use Rattle.std.proofs.Common.{◌≡◌, ℕ, zero, suc, ◌+◌, ◌-◌, ◌*◌, ◌/◌, ◌%◌, ◌<◌, Bool, false, List, [], ◌++◌, length, replicate, refl, sym, ap, ◌∙◌, subst, arith, append_assoc, append-nil, length-append, IsTrue}
 use Rattle.std.proofs.lemmas.List.{length-replicate}
-use Rattle.std.proofs.lemmas.Nat.{div-add-mod', mod-mul-add}
-use Rattle.std.proofs.Math.Nat.{mod-lt, mod-eq_of_lt}
 use Rattle.acn_num.specs.Bits.{bits as bits_of, octets as octets_for}
 use Rattle.acn_grammar.specs.Code.{Written}
 use Rattle.acn_grammar.specs.Env.{Env}
@@ -16,6 +14,7 @@ use Rattle.acn_grammar.specs.declared.node.SizeRule.{SizeRule}
 use Rattle.acn_grammar.specs.declared.node.SizeRule.TheVariants.{Prefix, Slot, Ended}
 use Rattle.acn_grammar.specs.declared.node.Sizing.{Sizing}
 use Rattle.acn_grammar.proofs.Counts.{number_bits}
+use Rattle.acn_packet_laws.proofs.ReadParts.{pad_is}
 use Rattle.acn_plain_write.specs.Adds.{Adds, Appends, Leads, size_bits, end_bits, index_bits}
 use Rattle.acn_plain_write.specs.Ready.{RuleReady, SizeReady, CountReady, IndexReady}
 
@@ -80,24 +79,6 @@ pub leads_all : {P Q : Part} (base : ℕ) (old new : List Bool) → Leads P Q ba
 leads_all {P} {Q} base old new a h = record { front = a.front; added = a.added; spelled = λ at e. subst (Q at) (append-nil a.front) (a.goes at e [] (h (at + length a.front))) }
 
 -- Padding.
-
-pad_is : (align at : ℕ) → 0 < align → ((at + (align - at % align) % align) % align ≡ 0) × ((align - at % align) % align < align)
-pad_is align at some = by (at % align) refl
-  where
-    whole : at / align * align + at % align ≡ at
-    whole = div-add-mod' at align
-
-    by : (r : ℕ) → at % align ≡ r → ((at + (align - at % align) % align) % align ≡ 0) × ((align - at % align) % align < align)
-    by zero e =
-        let none : (align - at % align) % align ≡ 0 = ap (λ m. m % align) (omega (arith, e)) ∙ mod-mul-add 1 align 0 some in
-        (ap (λ m. m % align) (omega (arith, none)) ∙ e, omega (arith, none, some))
-    by (suc r) e =
-        let low : at % align < align = mod-lt at some in
-        let rest : (align - at % align) % align ≡ align - at % align = mod-eq_of_lt (omega (arith, e, some)) in
-        (ap (λ m. m % align) (omega (arith, rest, low, whole, more (at / align) align)) ∙ mod-mul-add (at / align + 1) align 0 some, omega (arith, rest, e, some))
-      where
-        more : (q a : ℕ) → (q + 1) * a ≡ q * a + a
-        more q a = omega (arith, Rattle.std.proofs.Math.Nat.add-mul q 1 a)
 
 zeros : (n : ℕ) → replicate n false ≡ replicate (length (replicate n false)) false
 zeros n = ap (λ m. replicate m false) (sym (length-replicate n false))

@@ -1,7 +1,7 @@
 //! Bits at the end of a list.
 
 ghost use Rattle.std.specs.Prelude.{◌≡◌, ◌<◌, ◌++◌, Bool, List, OnOk, replicate, false};
-ghost use Rattle.acn_num.specs.Bits.{bit, bits as bits_of, low_bits};
+ghost use Rattle.acn_num.specs.Bits.{bits as bits_of};
 ghost use Rattle.acn_grammar.specs.Code.{Written};
 ghost use Rattle.acn_grammar.specs.Length.{bit_before, presence_bits};
 ghost use Rattle.acn_grammar.specs.Spell.{Fill, Padding};
@@ -40,29 +40,12 @@ pub fn put_fill(bits: &mut BitList, base: usize) -> Result<(), NoMemory>
     put_zeros(bits, (8 - bits.len().saturating_sub(base) % 8) % 8)
 }
 
-// A bit of a number, bit 0 being worth 1.
-fn bit_of(v: u64, k: u32) -> bool
-    ensures { result ≡ bit k v }
-{
-    if k < 64 { (v >> k) % 2 == 1 } else { false }
-}
-
-/// Adds the lowest bits of a number, the most significant first.
-pub fn put_number(bits: &mut BitList, width: u32, v: u64) -> Result<(), NoMemory>
-    ensures { OnOk result (bits.new ≡ bits.old ++ low_bits width v) }
-{
-    for i in 0..width {
-        bits.push(bit_of(v, width - 1 - i))?;
-    }
-    Ok(())
-}
-
 /// Adds octets.
 pub fn put_octets(bits: &mut BitList, octets: &[u8]) -> Result<(), NoMemory>
     ensures { OnOk result (bits.new ≡ bits.old ++ bits_of octets.now) }
 {
     for octet in octets {
-        put_number(bits, 8, u64::from(*octet))?;
+        bits.push_number(8, u64::from(*octet))?;
     }
     Ok(())
 }
@@ -82,11 +65,9 @@ pub fn put_size(bits: &mut BitList, rule: &SizeRule, n: usize) -> Result<(), NoM
     ensures { OnOk result (bits.new ≡ bits.old ++ size_bits rule.now n) }
 {
     match rule {
-        SizeRule::Prefix { low, width } => put_number(
-            bits,
-            *width,
-            (n as u64).saturating_sub(*low),
-        ),
+        SizeRule::Prefix { low, width } => {
+            bits.push_number(*width, (n as u64).saturating_sub(*low))
+        }
         SizeRule::Slot(_) => Ok(()),
         SizeRule::Ended(_) => Ok(()),
     }
@@ -108,7 +89,7 @@ pub fn put_index(bits: &mut BitList, rule: &ChoiceRule, i: u32) -> Result<(), No
     ensures { OnOk result (bits.new ≡ bits.old ++ index_bits rule.now i) }
 {
     match rule {
-        ChoiceRule::Index(width) => put_number(bits, *width, u64::from(i)),
+        ChoiceRule::Index(width) => bits.push_number(*width, u64::from(i)),
         ChoiceRule::Tests => Ok(()),
         ChoiceRule::Item(_) => Ok(()),
     }

@@ -6,17 +6,6 @@ use Rattle.acn_grammar.specs.Spell.{character_number}
 use Rattle.acn_grammar.specs.declared.node.TextLeaf.{TextLeaf}
 use Rattle.acn_text.specs.Steps.{IsFitting, NumbersFit, character_bits}
 
-pub add_bit : (list new whole : List Bool) (w i v : ℕ) → i < w → new ≡ list ++ bit (w - 1 - i) v ∷ [] → list ++ low_bits (w - i) v ≡ whole → new ++ low_bits (w - (i + 1)) v ≡ whole
-add_bit list new whole w i v h grown e =
-    let one : w - i ≡ suc (w - 1 - i) = omega (arith, h) in
-    let two : w - (i + 1) ≡ w - 1 - i = omega (arith, h) in
-    ap (λ (k : ℕ). new ++ low_bits k v) two ∙ (ap (λ (t : List Bool). t ++ low_bits (w - 1 - i) v) grown ∙ (append_assoc list (bit (w - 1 - i) v ∷ []) (low_bits (w - 1 - i) v) ∙ (ap (λ (k : ℕ). list ++ low_bits k v) (sym one) ∙ e)))
-
-pub no_bit_left : (list whole : List Bool) (w i v : ℕ) → w ≤ i → list ++ low_bits (w - i) v ≡ whole → list ≡ whole
-no_bit_left list whole w i v h e =
-    let none : w - i ≡ 0 = omega (arith, h) in
-    sym (append-nil list) ∙ (ap (λ (k : ℕ). list ++ low_bits k v) (sym none) ∙ e)
-
 -- Characters up to a place.
 
 character_bits-append : (leaf : TextLeaf) (cs ds : List ℕ) → character_bits leaf (cs ++ ds) ≡ character_bits leaf cs ++ character_bits leaf ds

@@ -11,24 +11,13 @@ use acn_grammar::{Pattern, SizeRule, TextLeaf};
 use acn_num::{BitList, NoMemory};
 use std::alloc::Global;
 
-/// Adds the lowest bits of a number.
-fn add_number(list: &mut BitList, width: u32, v: u64) -> Result<(), NoMemory>
-    requires { width ≤ WORD_BITS }
-    ensures { OnOk result (list.new ≡ list.old ++ low_bits width v) }
-{
-    for i in 0..width {
-        list.push((v >> (width - 1 - i)) % 2 == 1)?;
-    }
-    Ok(())
-}
-
 /// Adds the size in front.
 fn add_size(list: &mut BitList, rule: &SizeRule, n: u64) -> Result<(), NoMemory>
     requires { SizeFits rule.now n }
     ensures { OnOk result (list.new ≡ list.old ++ size_bits rule.now n) }
 {
     match rule {
-        SizeRule::Prefix { low, width } => add_number(list, *width, n - *low),
+        SizeRule::Prefix { low, width } => list.push_number(*width, n - *low),
         SizeRule::Slot(_) => Ok(()),
         SizeRule::Ended(_) => Ok(()),
     }
@@ -42,7 +31,7 @@ fn add_characters(list: &mut BitList, leaf: &TextLeaf, text: &[u8]) -> Result<()
     ensures { OnOk result (list.new ≡ list.old ++ character_bits leaf.now text.now) }
 {
     for c in text {
-        add_number(list, leaf.width, number_of(leaf, *c))?;
+        list.push_number(leaf.width, number_of(leaf, *c))?;
     }
     Ok(())
 }
