@@ -1,3 +1,3 @@
--- for acn_index
+-- for acn_index and acn_world
 pub mod Leading
 mod Ways

@@ -23,7 +23,7 @@ use Rattle.acn_ends.specs.Laws.{EndlessWaysHaveNoEnd}
 use Rattle.acn_index.proofs.Left.{is_placed}
 use Rattle.acn_index.proofs.Bounded.{fewer_than_all}
 
-some_is_one : {A : Type 0} {o : Option A} {x y : A} → o ≡ Some x → o ≡ Some y → x ≡ y
+pub some_is_one : {A : Type 0} {o : Option A} {x y : A} → o ≡ Some x → o ≡ Some y → x ≡ y
 some_is_one {A} {o} {x} {y} e f = let h : Some x ≡ Some y = sym e ∙ f in cc h
 
 module _ (w : World) where
@@ -56,10 +56,10 @@ module _ (w : World) where
 
   -- ---- one step
 
-  record Step (l : Link) (t : Spot) : Type 0 where
-    next : Link
-    onward : next_link w l ≡ Some next
-    of_it : assigned_link w (place_at t) ≡ Some next
+  pub record Step (l : Link) (t : Spot) : Type 0 where
+    pub next : Link
+    pub onward : next_link w l ≡ Some next
+    pub of_it : assigned_link w (place_at t) ≡ Some next
 
   by_assigned : (l next : Link) (t : Spot) (at : Placed next) → next_link w l ≡ Some next → (o : Option TypeId) → next.assigned ≡ o → option_map spot_of o ≡ Some t → Step l t
   by_assigned l next t at e None f h = absurd (cc h)
@@ -68,7 +68,7 @@ module _ (w : World) where
       let s : spot_of p ≡ t = cc h in
       record { next = next; onward = e; of_it = subst (λ (z : TypeId). assigned_link w z ≡ Some next) (q ∙ ap place_at s) at.of_it }
 
-  by_next : (l : Link) (t : Spot) (o : Option Link) → next_link w l ≡ o → option_and_then link_spot o ≡ Some t → Step l t
+  pub by_next : (l : Link) (t : Spot) (o : Option Link) → next_link w l ≡ o → option_and_then link_spot o ≡ Some t → Step l t
   by_next l t None e h = absurd (cc h)
   by_next l t (Some next) e h = by_assigned l next t (next_placed l next e) e next.assigned refl h
 
@@ -78,7 +78,7 @@ module _ (w : World) where
 
   -- ---- at the end
 
-  by_end : (l : Link) (o : Option Link) → next_link w l ≡ o → option_and_then link_spot o ≡ None → next_link w l ≡ None
+  pub by_end : (l : Link) (o : Option Link) → next_link w l ≡ o → option_and_then link_spot o ≡ None → next_link w l ≡ None
   by_end l None e h = e
   by_end l (Some next) e h = unplaced next.assigned (next_placed l next e).assigned h
     where

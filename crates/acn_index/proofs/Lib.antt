@@ -10,7 +10,8 @@ pub mod KeyedLaws
 pub mod Mapped
 mod ImportJumps
 mod LastValues
-mod LastLinks
+-- for acn_world
+pub mod LastLinks
 mod Numbered
 -- for acn_value_laws, acn_cycles and acn_names
 pub mod Left

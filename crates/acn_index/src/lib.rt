@@ -2,7 +2,7 @@
 #![tactic(auto)]
 
 pub mod chain;
-mod ends;
+pub mod ends;
 pub mod index;
 mod indexing;
 mod jumps;

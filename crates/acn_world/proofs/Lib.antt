@@ -3,6 +3,7 @@ mod Reversed
 mod TypeThere
 mod LawProofs
 mod ParameterSteps
+mod ParameterEnds
 mod Marks
 mod FoundTypes
 mod EntryPlaces

@@ -5,3 +5,4 @@ pub mod Faults
 pub mod Chained
 pub mod Viewed
 pub mod Laws
+pub mod Parameters
