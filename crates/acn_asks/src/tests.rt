@@ -5,8 +5,8 @@ use std::alloc::Global;
 use std::test::Fail;
 
 // What was made; fails where memory ran out.
-fn made<T>(result: Result<T, NoMemory>) -> Result<T, Fail> {
-    Ok(result.ok().ok_or("memory ran out")?)
+fn made<T>(outcome: Result<T, NoMemory>) -> Result<T, Fail> {
+    Ok(outcome.ok().ok_or("memory ran out")?)
 }
 
 // Whether the ask is added.
