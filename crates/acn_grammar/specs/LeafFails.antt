@@ -90,10 +90,11 @@ WireFails leaf (says wire image) r = NoneHas leaf image × (r ≡ out_of_range w
 WireFails leaf (wrong e) r = r ≡ e
 
 -- a leaf of one width, and how many bits the reason rests on
-abbrev pub FixedFails : NumCoding → NumLeaf → (width : ℕ) → List Bool → Reason → (reach : ℕ) → Type 0
-FixedFails coding leaf width input r reach =
-    ((length input < width) × (r ≡ short) × (reach ≡ length input))
-    ⊎ ((width ≤ length input) × ((w : Wire) × FixedWire coding leaf.little (take width input) w × WireFails leaf w r) × (reach ≡ width))
+pub data FixedFails (coding : NumCoding) (leaf : NumLeaf) (width : ℕ) (input : List Bool) (r : Reason) (reach : ℕ) : Type 0 where
+  -- its bits aren't all there
+  code_cut : (length input < width) × (r ≡ short) × (reach ≡ length input) → FixedFails coding leaf width input r reach
+  -- what they say is no permitted number
+  code_not_permitted : (width ≤ length input) × ((w : Wire) × FixedWire coding leaf.little (take width input) w × WireFails leaf w r) × (reach ≡ width) → FixedFails coding leaf width input r reach
 
 -- A count octet c and a value in the c octets behind it, of which least says how many it needs: why they code no permitted number, and
 -- how many bits that rests on.
@@ -159,18 +160,22 @@ Positive k x = x ≡ pos k
 abbrev pub Negative : ℕ → ℤ → Type 0
 Negative k x = (0 < k) × (x ≡ neg_ℤ (pos k))
 
--- a sign octet first
-abbrev pub BehindSign : NumLeaf → (end : List Bool) → (IsValue : ℕ → ℤ → Type 0) → List Bool → Reason → (reach : ℕ) → Type 0
-BehindSign leaf end IsValue rest r reach = (more : ℕ) × EndedFails leaf digit_octets 8 end (most_digits (images_of leaf)) IsValue (drop 8 rest) r more × (reach ≡ 8 + more)
+-- behind a sign octet
+pub record BehindSign (leaf : NumLeaf) (end : List Bool) (IsValue : ℕ → ℤ → Type 0) (rest : List Bool) (r : Reason) (reach : ℕ) : Type 0 where
+  pub more : ℕ
+  pub fails : EndedFails leaf digit_octets 8 end (most_digits (images_of leaf)) IsValue (drop 8 rest) r more
+  pub reaches : reach ≡ 8 + more
+
+-- an octet first, which is to be a sign
+pub data SignFails (leaf : NumLeaf) (end : List Bool) (sign : ℕ) (rest : List Bool) (r : Reason) (reach : ℕ) : Type 0 where
+  sign_cut : (length rest < 8) × (r ≡ short) × (reach ≡ length rest) → SignFails leaf end sign rest r reach
+  fails_behind_plus : (8 ≤ length rest) × (sign ≡ 43) × BehindSign leaf end Positive rest r reach → SignFails leaf end sign rest r reach
+  fails_behind_minus : (8 ≤ length rest) × (sign ≡ 45) × BehindSign leaf end Negative rest r reach → SignFails leaf end sign rest r reach
+  no_sign_octet : (8 ≤ length rest) × ((sign ≡ 43) ⊎ (sign ≡ 45) → ⊥) × (r ≡ bad_digit) × (reach ≡ 8) → SignFails leaf end sign rest r reach
 
 abbrev pub AsciiEndedFails : NumLeaf → (end : List Bool) → (signed : Bool) → List Bool → Reason → (reach : ℕ) → Type 0
 AsciiEndedFails leaf end false rest r reach = EndedFails leaf digit_octets 8 end (most_digits (images_of leaf)) Positive rest r reach
-AsciiEndedFails leaf end true rest r reach =
-    let sign = number (take 8 rest) in
-    ((length rest < 8) × (r ≡ short) × (reach ≡ length rest))
-    ⊎ ((8 ≤ length rest) × (sign ≡ 43) × BehindSign leaf end Positive rest r reach)
-    ⊎ ((8 ≤ length rest) × (sign ≡ 45) × BehindSign leaf end Negative rest r reach)
-    ⊎ ((8 ≤ length rest) × ((sign ≡ 43) ⊎ (sign ≡ 45) → ⊥) × (r ≡ bad_digit) × (reach ≡ 8))
+AsciiEndedFails leaf end true rest r reach = SignFails leaf end (number (take 8 rest)) rest r reach
 
 -- the first reason that holds
 abbrev pub CodingFails : NumCoding → NumLeaf → List Bool → Reason → (reach : ℕ) → Type 0

@@ -4,7 +4,7 @@ use Rattle.std.specs.Prelude.{IfErr, OnErr, Some}
 use Rattle.acn_bits.specs.Reading.{Reading, Reads, Stays}
 use Rattle.acn_num.specs.Ranges.{In}
 use Rattle.acn_grammar.specs.Code.{Code, Any, CodingCode, image_of}
-use Rattle.acn_grammar.specs.LeafFails.{CodingFails, FixedFails, Reason, says, wrong, out_of_range, most_digits}
+use Rattle.acn_grammar.specs.LeafFails.{CodingFails, FixedFails, Reason, says, wrong, out_of_range, most_digits, code_cut, code_not_permitted}
 use Rattle.acn_grammar.specs.Images.{images_of}
 use Rattle.acn_grammar.specs.ReadFaults.{reason_of}
 use Rattle.acn_grammar.specs.declared.read_fault.ReadFault.{ReadFault}
@@ -22,12 +22,12 @@ pub record IsFixed (coding : NumCoding) (leaf : NumLeaf) (n : ℕ) : Type 0 wher
 fixed_is_said : (coding : NumCoding) (leaf : NumLeaf) (n : ℕ) (old new : Reading) (w i : ℤ) → IsFixed coding leaf n → FixedSaid coding leaf.little n old new w i → IsSaid coding leaf old new w i
 fixed_is_said coding leaf n old new w i f s = record {
   read = reads_passed (CodingCode Any coding leaf.little i) n old new s.within s.moved s.spells;
-  refused = λ none. (n, f.same old.rest (out_of_range w) n (inr (s.within, (says w i, s.told, (none, refl)), refl)));
+  refused = λ none. (n, f.same old.rest (out_of_range w) n (code_not_permitted (s.within, (says w i, s.told, (none, refl)), refl)));
 }
 
 fixed_fails : (coding : NumCoding) (leaf : NumLeaf) (n : ℕ) (old new : Reading) (r : Reason) → IsFixed coding leaf n → FixedWrong coding leaf.little n old new r → Refuses coding leaf old.rest r
-fixed_fails coding leaf n old new r f (inl few) = (length old.rest, f.same old.rest r (length old.rest) (inl (few.0.few, few.1, refl)))
-fixed_fails coding leaf n old new r f (inr bad) = (n, f.same old.rest r n (inr (bad.0, (wrong r, bad.2, refl), refl)))
+fixed_fails coding leaf n old new r f (inl few) = (length old.rest, f.same old.rest r (length old.rest) (code_cut (few.0.few, few.1, refl)))
+fixed_fails coding leaf n old new r f (inr bad) = (n, f.same old.rest r n (code_not_permitted (bad.0, (wrong r, bad.2, refl), refl)))
 
 fixed_stays : (coding : NumCoding) (little : Bool) (n : ℕ) (old new : Reading) (r : Reason) → FixedWrong coding little n old new r → Stays old new
 fixed_stays coding little n old new r (inl few) = reads_nothing (λ _. Unit {0}) old new few.0.kept tt

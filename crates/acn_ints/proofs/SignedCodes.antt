@@ -7,7 +7,7 @@ use Rattle.acn_bits.specs.Reading.{Reading, passed, Reads, Stays}
 use Rattle.acn_num.proofs.BitLists.{number_same}
 use Rattle.acn_grammar.specs.Code.{Any, CodingCode, InMinimalDigits, SignOctet, digit_octets}
 use Rattle.acn_grammar.specs.Images.{images_of}
-use Rattle.acn_grammar.specs.LeafFails.{Reason, bad_digit, not_minimal, out_of_range, says, wrong, NoneHas, Positive, Negative, most_digits, EndedFails, AllDigits, value_of, octet_values, SignedWire, plus_digits, minus_digits, minus_nothing, no_signed_digits}
+use Rattle.acn_grammar.specs.LeafFails.{Reason, bad_digit, not_minimal, out_of_range, says, wrong, NoneHas, Positive, Negative, most_digits, EndedFails, AllDigits, value_of, octet_values, SignedWire, plus_digits, minus_digits, minus_nothing, no_signed_digits, sign_cut, fails_behind_plus, fails_behind_minus, no_sign_octet}
 use Rattle.acn_grammar.specs.ReadFaults.{reason_of}
 use Rattle.acn_grammar.specs.declared.node.NumLeaf.{NumLeaf}
 use Rattle.acn_grammar.specs.declared.node.NumCoding.TheVariants.{Ascii, AsciiEnded}
@@ -69,8 +69,8 @@ sign_fails end leaf most old mid negative r e p b = by_sign negative p.value (su
     rest = ap (λ (x : Reading). x.rest) p.moved
 
     by_sign : (negative : Bool) → number (take 8 old.rest) ≡ sign_code negative → Behind leaf end (most_digits (images_of leaf)) (ValueOf negative) (drop 8 old.rest) r → Refuses (AsciiEnded end true) leaf old.rest r
-    by_sign false is f = (8 + f.0, inr (inl (p.within, is, (f.0, f.1, refl))))
-    by_sign true is f = (8 + f.0, inr (inr (inl (p.within, is, (f.0, f.1, refl)))))
+    by_sign false is f = (8 + f.0, fails_behind_plus (p.within, is, record { more = f.0; fails = f.1; reaches = refl }))
+    by_sign true is f = (8 + f.0, fails_behind_minus (p.within, is, record { more = f.0; fails = f.1; reaches = refl }))
 
 reads_signed : (end : List Bool) (k : ℕ) (negative : Bool) (old mid new : Reading) → PassedSign old mid negative → Reads (InMinimalDigits k digit_octets [] end) mid new → Reads (InMinimalDigits k digit_octets (low_bits 8 (sign_code negative)) end) old new
 reads_signed end k negative old mid new p r =
@@ -126,8 +126,8 @@ signed_wrong end most old mid negative x p w leaf e =
     sign_fails end leaf most old mid negative (reason_of x) e p (ended_wrong digit_octets 8 48 octet_style end leaf most (ValueOf negative) mid.rest (reason_of x) w)
 
 pub sign_wrong : (end : List Bool) (most : ℕ) (old : Reading) (x : ReadFault) → SignWrong old.rest (reason_of x) → (leaf : NumLeaf) → most_digits (images_of leaf) ≡ most → Refuses (AsciiEnded end true) leaf old.rest (reason_of x)
-sign_wrong end most old x (inl w) leaf e = (length old.rest, inl (w.0, w.1, refl))
-sign_wrong end most old x (inr w) leaf e = (8, inr (inr (inr (w.0, w.1, w.2, refl))))
+sign_wrong end most old x (inl w) leaf e = (length old.rest, sign_cut (w.0, w.1, refl))
+sign_wrong end most old x (inr w) leaf e = (8, no_sign_octet (w.0, w.1, w.2, refl))
 
 -- One width.
 

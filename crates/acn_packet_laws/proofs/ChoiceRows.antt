@@ -1,14 +1,14 @@
 -- Rows of a CHOICE: by its index, by conditions and by an item.
-use Rattle.std.proofs.Common.{◌≡◌, ℕ, ◌<◌, ℤ, pos, List, [], ◌∷◌, ◌++◌, Some, refl, sym, ap, subst, arith, inl, inr}
+use Rattle.std.proofs.Common.{◌≡◌, ℕ, ◌<◌, ℤ, pos, List, [], ◌∷◌, ◌++◌, Some, refl, sym, ap, subst, arith}
 use Rattle.std.specs.Prelude.{slice_get}
 use Rattle.std.proofs.lemmas.Int.{ints}
 use Rattle.acn_num.specs.Bits.{low_bits, bits as bits_of}
 use Rattle.acn_grammar.specs.Code.{Written, Any}
 use Rattle.acn_grammar.specs.Env.{Env}
-use Rattle.acn_grammar.specs.Fails.{Refusal}
+use Rattle.acn_grammar.specs.Fails.{Refusal, fails_at_alternative, fails_at_component, fails_behind_inserted, fails_behind_padding, fails_behind_presence, fails_at_index, index_too_great}
 use Rattle.acn_grammar.specs.Front.{IsWritten}
 use Rattle.acn_grammar.specs.Grammar.{Grammar, int, alt}
-use Rattle.acn_grammar.specs.LeafFails.{short, no_alternative}
+use Rattle.acn_grammar.specs.LeafFails.{short, no_alternative, code_cut}
 use Rattle.acn_grammar.specs.Slots.{items_of}
 use Rattle.acn_grammar.specs.Spell.{Spell, Chosen}
 use Rattle.acn_grammar.specs.declared.node.ChoiceRule.TheVariants.{Item}
@@ -35,14 +35,14 @@ q_by_index = record {
 }
 
 fourth_index : Refusal by_index (bits_of (192 ∷ [])) (record { path = []; reason = no_alternative; at = 0 }) 2
-fourth_index = inr (record {
+fourth_index = fails_behind_padding (record {
   front = [];
   back = bits_of (192 ∷ []);
   whole = refl;
   spelled = none Any 0;
   more = 2;
   reaches = refl;
-  fails = inl (inr (omega arith, omega arith, refl, refl));
+  fails = fails_at_index (index_too_great (omega arith, omega arith, refl, refl));
 })
 
 pub an_index_chooses_law : AnIndexChooses
@@ -102,94 +102,103 @@ q_by_conditions = record {
 }
 
 neither_condition : Refusal by_conditions (bits_of (3 ∷ 0 ∷ [])) (record { path = 1 ∷ []; reason = no_alternative; at = 8 }) 8
-neither_condition = inr (record {
+neither_condition = fails_behind_padding (record {
   front = [];
   back = _;
   whole = refl;
   spelled = none Any 0;
   more = 8;
   reaches = refl;
-  fails = inr (
-    pos 3 ∷ [],
-    refl,
-    (refl, tt),
-    (
-      omega arith,
-      (
-        8,
-        inr (record {
-          front = low_bits 8 3;
-          back = low_bits 8 0;
-          whole = refl;
-          spelled = (pos 3, refl, record { front = []; back = _; whole = refl; first = none Any 0; second = record { permitted = refl; image = pos 3; maps = refl; spelled = (refl, refl) } });
-          more = 0;
-          reaches = refl;
-          fails = inl (
-            tt,
-            inl (inr (record {
-              front = [];
-              back = _;
-              whole = refl;
-              spelled = none Any 8;
-              more = 0;
-              reaches = refl;
-              fails = inl (((λ h. let e = h.0 in cc), ((λ h. let e = h.0 in cc), tt)), refl, refl);
-            })),
-          );
-        }),
-        refl,
-      ),
-    ),
-  );
+  fails = fails_behind_presence (record {
+    numbers = pos 3 ∷ [];
+    count = refl;
+    permitted = (refl, tt);
+    behind = record {
+      there = omega arith;
+      more = 8;
+      fails = fails_behind_inserted (record {
+        front = low_bits 8 3;
+        back = low_bits 8 0;
+        whole = refl;
+        spelled = (pos 3, refl, record { front = []; back = _; whole = refl; first = none Any 0; second = record { permitted = refl; image = pos 3; maps = refl; spelled = (refl, refl) } });
+        more = 0;
+        reaches = refl;
+        fails = fails_at_component (
+          tt,
+          fails_behind_padding (record {
+            front = [];
+            back = _;
+            whole = refl;
+            spelled = none Any 8;
+            more = 0;
+            reaches = refl;
+            fails = fails_at_index (record { none = ((λ h. let e = h.0 in cc), ((λ h. let e = h.0 in cc), tt)); says = refl; reaches = refl });
+          }),
+        );
+      });
+      reaches = refl;
+    };
+  });
 })
 
 before_q : Refusal by_conditions (bits_of (2 ∷ [])) (record { path = 1 ∷ 1 ∷ []; reason = short; at = 8 }) 8
-before_q = inr (record {
+before_q = fails_behind_padding (record {
   front = [];
   back = _;
   whole = refl;
   spelled = none Any 0;
   more = 8;
   reaches = refl;
-  fails = inr (
-    pos 2 ∷ [],
-    refl,
-    (refl, tt),
-    (
-      omega arith,
-      (
-        8,
-        inr (record {
-          front = low_bits 8 2;
-          back = [];
-          whole = refl;
-          spelled = (pos 2, refl, record { front = []; back = _; whole = refl; first = none Any 0; second = record { permitted = refl; image = pos 2; maps = refl; spelled = (refl, refl) } });
-          more = 0;
-          reaches = refl;
-          fails = inl (
-            tt,
-            inl (inr (record {
-              front = [];
-              back = [];
-              whole = refl;
-              spelled = none Any 8;
-              more = 0;
-              reaches = refl;
-              fails = inr (
-                1,
-                tt,
-                (
-                  omega arith,
-                  (0, ((refl, tt), inr (record { front = []; back = []; whole = refl; spelled = none Any 8; more = 0; reaches = refl; fails = (short, inl (omega arith, refl, refl), refl) })), refl),
-                ),
-              );
-            })),
-          );
-        }),
-        refl,
-      ),
-    ),
-  );
+  fails = fails_behind_presence (record {
+    numbers = pos 2 ∷ [];
+    count = refl;
+    permitted = (refl, tt);
+    behind = record {
+      there = omega arith;
+      more = 8;
+      fails = fails_behind_inserted (record {
+        front = low_bits 8 2;
+        back = [];
+        whole = refl;
+        spelled = (pos 2, refl, record { front = []; back = _; whole = refl; first = none Any 0; second = record { permitted = refl; image = pos 2; maps = refl; spelled = (refl, refl) } });
+        more = 0;
+        reaches = refl;
+        fails = fails_at_component (
+          tt,
+          fails_behind_padding (record {
+            front = [];
+            back = [];
+            whole = refl;
+            spelled = none Any 8;
+            more = 0;
+            reaches = refl;
+            fails = fails_at_alternative (record {
+              index = 1;
+              stands = tt;
+              behind = record {
+                there = omega arith;
+                more = 0;
+                fails = (
+                  (refl, tt),
+                  fails_behind_padding (record {
+                    front = [];
+                    back = [];
+                    whole = refl;
+                    spelled = none Any 8;
+                    more = 0;
+                    reaches = refl;
+                    fails = record { reason = short; fails = code_cut (omega arith, refl, refl); says = refl };
+                  }),
+                );
+                reaches = refl;
+              };
+            });
+          }),
+        );
+      });
+      reaches = refl;
+    };
+  });
 })
 
 pub conditions_choose_law : ConditionsChoose
@@ -265,45 +274,53 @@ r_chooses : (letter : ℕ) → letter < 114 → Chosen (by_item three_kinds) (It
 r_chooses letter below h = absurd (let e = one_letter letter 114 (only_r (letter ∷ []) h.0 h.1 h.2 h.3) in omega arith)
 
 no_such_item : Refusal (by_item three_kinds) (bits_of (128 ∷ [])) (record { path = 1 ∷ []; reason = no_alternative; at = 2 }) 2
-no_such_item = inr (record {
+no_such_item = fails_behind_padding (record {
   front = [];
   back = _;
   whole = refl;
   spelled = none Any 0;
   more = 2;
   reaches = refl;
-  fails = inr (
-    pos 2 ∷ [],
-    refl,
-    (refl, tt),
-    (
-      omega arith,
-      (
-        2,
-        inr (record {
-          front = low_bits 2 2;
-          back = low_bits 6 0;
-          whole = refl;
-          spelled = (pos 2, refl, record { front = []; back = _; whole = refl; first = none Any 0; second = record { permitted = refl; image = pos 2; maps = refl; spelled = (2, refl, record { width = refl; value = refl }) } });
-          more = 0;
-          reaches = refl;
-          fails = inl (
-            tt,
-            inl (inr (record {
-              front = [];
-              back = _;
-              whole = refl;
-              spelled = none Any 2;
-              more = 0;
-              reaches = refl;
-              fails = inl ((r_chooses 112 (omega arith), (r_chooses 113 (omega arith), tt)), refl, refl);
-            })),
-          );
-        }),
-        refl,
-      ),
-    ),
-  );
+  fails = fails_behind_presence (record {
+    numbers = pos 2 ∷ [];
+    count = refl;
+    permitted = (refl, tt);
+    behind = record {
+      there = omega arith;
+      more = 2;
+      fails = fails_behind_inserted (record {
+        front = low_bits 2 2;
+        back = low_bits 6 0;
+        whole = refl;
+        spelled = (
+          pos 2,
+          refl,
+          record {
+            front = [];
+            back = _;
+            whole = refl;
+            first = none Any 0;
+            second = record { permitted = refl; image = pos 2; maps = refl; spelled = (2, refl, record { width = refl; value = refl }) };
+          },
+        );
+        more = 0;
+        reaches = refl;
+        fails = fails_at_component (
+          tt,
+          fails_behind_padding (record {
+            front = [];
+            back = _;
+            whole = refl;
+            spelled = none Any 2;
+            more = 0;
+            reaches = refl;
+            fails = fails_at_index (record { none = (r_chooses 112 (omega arith), (r_chooses 113 (omega arith), tt)); says = refl; reaches = refl });
+          }),
+        );
+      });
+      reaches = refl;
+    };
+  });
 })
 
 pub an_item_chooses_law : AnItemChooses

@@ -1,12 +1,12 @@
 -- A packet of telemetry as it is written and read, and contents that end inside a field.
-use Rattle.std.proofs.Common.{◌≡◌, pos, Bool, true, false, List, [], ◌∷◌, ◌++◌, take, drop, replicate, Some, None, refl, ap, arith, inl, inr}
+use Rattle.std.proofs.Common.{◌≡◌, pos, Bool, true, false, List, [], ◌∷◌, ◌++◌, take, drop, replicate, Some, None, refl, ap, arith}
 use Rattle.std.proofs.lemmas.Int.{ints}
 use Rattle.acn_num.specs.Bits.{number, low_bits, bits as bits_of}
 use Rattle.acn_grammar.specs.Code.{Mode, Written, Any}
 use Rattle.acn_grammar.specs.Env.{Env, at_slot}
-use Rattle.acn_grammar.specs.Fails.{Fails, Refusal}
+use Rattle.acn_grammar.specs.Fails.{Fails, Refusal, content_fails, fails_at_component, fails_behind_component, fails_behind_padding, fails_behind_presence, fails_behind_size}
 use Rattle.acn_grammar.specs.Grammar.{int, boolean}
-use Rattle.acn_grammar.specs.LeafFails.{short, past_content}
+use Rattle.acn_grammar.specs.LeafFails.{short, past_content, code_cut}
 use Rattle.acn_grammar.specs.Spell.{Spell, Padding, Fill}
 use Rattle.acn_grammar.specs.declared.node.NumCoding.TheVariants.{Range}
 use Rattle.acn_packet_laws.specs.ContentRows.{warm, seventh, inner, windowed, aligned_inside, AHeaderAndItsContents, ContentsEndInsideAField, ContentsBeginAtZero}
@@ -299,110 +299,106 @@ five_ones : Padding Any 8 3 (replicate 5 true)
 five_ones = record { aligned = refl; fewest = omega arith; zeros = λ e. cc }
 
 behind_x : Fails windowed inner [] true 3 (1 ∷ 0 ∷ []) 0 (low_bits 3 5 ++ low_bits 5 0) (record { path = 1 ∷ 0 ∷ 1 ∷ []; reason = past_content; at = 6 }) 8
-behind_x = inr (record {
+behind_x = fails_behind_padding (record {
   front = [];
   back = _;
   whole = refl;
   spelled = none Any 0;
   more = 8;
   reaches = refl;
-  fails = inr (
-    [],
-    refl,
-    tt,
-    (
-      omega arith,
-      (
-        8,
-        inl (
-          tt,
-          inr (
-            int (pos 5),
-            record {
-              front = low_bits 3 5;
-              back = low_bits 5 0;
-              whole = refl;
-              spelled = record { given = tt; spelled = x_part Any };
-              more = 5;
-              reaches = refl;
-              fails = inl (
-                tt,
-                inl (inr (record {
-                  front = low_bits 5 0;
-                  back = [];
-                  whole = refl;
-                  spelled = record { aligned = refl; fewest = omega arith; zeros = λ e. cc };
-                  more = 0;
-                  reaches = refl;
-                  fails = (short, inl (omega arith, refl, refl), refl);
-                })),
-              );
-            },
-          ),
+  fails = fails_behind_presence (record {
+    numbers = [];
+    count = refl;
+    permitted = tt;
+    behind = record {
+      there = omega arith;
+      more = 8;
+      fails = fails_behind_component (
+        tt,
+        (
+          int (pos 5),
+          record {
+            front = low_bits 3 5;
+            back = low_bits 5 0;
+            whole = refl;
+            spelled = record { given = tt; spelled = x_part Any };
+            more = 5;
+            reaches = refl;
+            fails = fails_at_component (
+              tt,
+              fails_behind_padding (record {
+                front = low_bits 5 0;
+                back = [];
+                whole = refl;
+                spelled = record { aligned = refl; fewest = omega arith; zeros = λ e. cc };
+                more = 0;
+                reaches = refl;
+                fails = record { reason = short; fails = code_cut (omega arith, refl, refl); says = refl };
+              }),
+            );
+          },
         ),
-        refl,
-      ),
-    ),
-  );
+      );
+      reaches = refl;
+    };
+  });
 })
 
 one_octet_alone : Refusal windowed (bits_of (180 ∷ 0 ∷ [])) (record { path = 1 ∷ 0 ∷ 1 ∷ []; reason = past_content; at = 6 }) 11
-one_octet_alone = inr (record {
+one_octet_alone = fails_behind_padding (record {
   front = [];
   back = _;
   whole = refl;
   spelled = none Any 0;
   more = 11;
   reaches = refl;
-  fails = inr (
-    [],
-    refl,
-    tt,
-    (
-      omega arith,
-      (
-        11,
-        inl (
-          tt,
-          inr (
-            boolean true,
-            record {
-              front = true ∷ [];
-              back = low_bits 2 1 ++ ((low_bits 3 5 ++ low_bits 5 0) ++ low_bits 5 0);
-              whole = refl;
-              spelled = record { given = tt; spelled = a_part Any };
-              more = 10;
-              reaches = refl;
-              fails = inl (
-                tt,
-                inl (inr (record {
-                  front = [];
-                  back = _;
-                  whole = refl;
-                  spelled = none Any 1;
-                  more = 10;
-                  reaches = refl;
-                  fails = inr (record {
-                    n = 1;
-                    behind = record {
-                      front = low_bits 2 1;
-                      back = (low_bits 3 5 ++ low_bits 5 0) ++ low_bits 5 0;
-                      whole = refl;
-                      spelled = record { given = refl; spelled = record { given = omega arith; spelled = record { width = refl; value = refl } } };
-                      more = 8;
-                      reaches = refl;
-                      fails = inr (omega arith, inl (8, behind_x), refl);
-                    };
-                  });
-                })),
-              );
-            },
-          ),
+  fails = fails_behind_presence (record {
+    numbers = [];
+    count = refl;
+    permitted = tt;
+    behind = record {
+      there = omega arith;
+      more = 11;
+      fails = fails_behind_component (
+        tt,
+        (
+          boolean true,
+          record {
+            front = true ∷ [];
+            back = low_bits 2 1 ++ ((low_bits 3 5 ++ low_bits 5 0) ++ low_bits 5 0);
+            whole = refl;
+            spelled = record { given = tt; spelled = a_part Any };
+            more = 10;
+            reaches = refl;
+            fails = fails_at_component (
+              tt,
+              fails_behind_padding (record {
+                front = [];
+                back = _;
+                whole = refl;
+                spelled = none Any 1;
+                more = 10;
+                reaches = refl;
+                fails = fails_behind_size (record {
+                  n = 1;
+                  behind = record {
+                    front = low_bits 2 1;
+                    back = (low_bits 3 5 ++ low_bits 5 0) ++ low_bits 5 0;
+                    whole = refl;
+                    spelled = record { given = refl; spelled = record { given = omega arith; spelled = record { width = refl; value = refl } } };
+                    more = 8;
+                    reaches = refl;
+                    fails = content_fails (omega arith, (8, behind_x), refl);
+                  };
+                });
+              }),
+            );
+          },
         ),
-        refl,
-      ),
-    ),
-  );
+      );
+      reaches = refl;
+    };
+  });
 })
 
 from_the_packet : take 19 (bits_of (212 ∷ 0 ∷ 32 ∷ [])) ≡ take 19 (bits_of (212 ∷ 1 ∷ 0 ∷ [])) → ⊥

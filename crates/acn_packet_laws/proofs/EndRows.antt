@@ -1,10 +1,10 @@
 -- A row of a text that ends in two octets.
-use Rattle.std.proofs.Common.{◌≡◌, ◌∙◌, ℕ, zero, suc, pos, false, [], ◌∷◌, Some, refl, sym, ap, subst, arith, inl, inr}
+use Rattle.std.proofs.Common.{◌≡◌, ◌∙◌, ℕ, zero, suc, pos, false, [], ◌∷◌, Some, refl, sym, ap, subst, arith}
 use Rattle.acn_num.specs.Bits.{number, low_bits, bits as bits_of}
 use Rattle.acn_num.specs.Ranges.{In}
 use Rattle.acn_grammar.proofs.Prefix.{same_front}
 use Rattle.acn_grammar.specs.Code.{Written, Any}
-use Rattle.acn_grammar.specs.Fails.{NoText, input_ended, length_not_permitted, character_not_permitted}
+use Rattle.acn_grammar.specs.Fails.{NoText, input_ended, length_not_permitted, character_not_permitted, fails_behind_padding}
 use Rattle.acn_grammar.specs.Front.{IsWritten}
 use Rattle.acn_grammar.specs.Grammar.{characters}
 use Rattle.acn_grammar.specs.Spell.{EndsFirst}
@@ -66,9 +66,9 @@ an_end_of_two_octets_law = record {
   tree = refl;
   bounds = refl;
   written = with_return;
-  refused = inr (record { front = []; back = bits_of (13 ∷ 10 ∷ []); whole = refl; spelled = none Any 0; more = 16; reaches = refl; fails = length_not_permitted ((λ h. cc), refl, refl) });
-  beyond = inr (record { front = []; back = bits_of (128 ∷ 13 ∷ 10 ∷ []); whole = refl; spelled = none Any 0; more = 24; reaches = refl; fails = character_not_permitted (refl, no_character, refl, refl) });
-  no_end = inr (record { front = []; back = bits_of (97 ∷ 98 ∷ []); whole = refl; spelled = none Any 0; more = 16; reaches = refl; fails = input_ended (omega arith, refl, refl) });
+  refused = fails_behind_padding (record { front = []; back = bits_of (13 ∷ 10 ∷ []); whole = refl; spelled = none Any 0; more = 16; reaches = refl; fails = length_not_permitted ((λ h. cc), refl, refl) });
+  beyond = fails_behind_padding (record { front = []; back = bits_of (128 ∷ 13 ∷ 10 ∷ []); whole = refl; spelled = none Any 0; more = 24; reaches = refl; fails = character_not_permitted (refl, no_character, refl, refl) });
+  no_end = fails_behind_padding (record { front = []; back = bits_of (97 ∷ 98 ∷ []); whole = refl; spelled = none Any 0; more = 16; reaches = refl; fails = input_ended (omega arith, refl, refl) });
   unfit = refl;
   never = λ bs w. let h = w.second.given.1 0 refl in absurd (omega (arith, h));
 }

@@ -6,7 +6,7 @@ use Rattle.acn_num.specs.Bits.{number, low_bits}
 use Rattle.acn_num.specs.Ranges.{has}
 use Rattle.acn_grammar.specs.Code.{Any, CodingCode, SignOctet, image_of, decimal_number, IsMinimal, nibbles, digit_octets}
 use Rattle.acn_grammar.specs.Images.{images_of}
-use Rattle.acn_grammar.specs.LeafFails.{Reason, short, out_of_range, not_minimal, bad_digit, too_long, NoneHas, DigitAt, EndAt, CharacterFails, cut, end_cut, digit_too_many, no_digit_no_end, end_alone, not_shortest, not_permitted, EndedFails, Positive, Negative, AsciiEndedFails, most_digits}
+use Rattle.acn_grammar.specs.LeafFails.{Reason, short, out_of_range, not_minimal, bad_digit, too_long, NoneHas, DigitAt, EndAt, CharacterFails, cut, end_cut, digit_too_many, no_digit_no_end, end_alone, not_shortest, not_permitted, EndedFails, Positive, Negative, AsciiEndedFails, most_digits, sign_cut, fails_behind_plus, fails_behind_minus, no_sign_octet}
 use Rattle.acn_grammar.specs.Leaves.{num_fine}
 use Rattle.acn_grammar.specs.declared.node.NumCoding.{NumCoding}
 use Rattle.acn_grammar.specs.declared.node.NumCoding.TheVariants.{BcdEnded, AsciiEnded}
@@ -219,18 +219,18 @@ ascii_total true leaf fine end is coded input = first (less_or_not (length input
 
     plus : 8 ≤ length input → number (take 8 input) ≡ 43 → Ended leaf digit_octets end Positive (drop 8 input) ⊎ ((r : Reason) × (reach : ℕ) × EndedFails leaf digit_octets 8 end (most_digits (images_of leaf)) Positive (drop 8 input) r reach) → Result
     plus h e (inl t) = inl (signs true end leaf is Positive (low_bits 8 43) (drop 8 input) input (sign_is 43 h e) plus_sign t)
-    plus h e (inr f) = inr (f.0, 8 + f.1, inr (inl (h, e, (f.1, f.2, refl))))
+    plus h e (inr f) = inr (f.0, 8 + f.1, fails_behind_plus (h, e, record { more = f.1; fails = f.2; reaches = refl }))
 
     minus : 8 ≤ length input → number (take 8 input) ≡ 45 → Ended leaf digit_octets end Negative (drop 8 input) ⊎ ((r : Reason) × (reach : ℕ) × EndedFails leaf digit_octets 8 end (most_digits (images_of leaf)) Negative (drop 8 input) r reach) → Result
     minus h e (inl t) = inl (signs true end leaf is Negative (low_bits 8 45) (drop 8 input) input (sign_is 45 h e) (λ k y v. subst (λ (z : ℤ). SignOctet true z k (low_bits 8 45)) (sym v.1) (minus_sign k v.0)) t)
-    minus h e (inr f) = inr (f.0, 8 + f.1, inr (inr (inl (h, e, (f.1, f.2, refl)))))
+    minus h e (inr f) = inr (f.0, 8 + f.1, fails_behind_minus (h, e, record { more = f.1; fails = f.2; reaches = refl }))
 
     neither : (number (take 8 input) ≡ 43 → ⊥) → (number (take 8 input) ≡ 45 → ⊥) → (number (take 8 input) ≡ 43) ⊎ (number (take 8 input) ≡ 45) → ⊥
     neither p m (inl e) = p e
     neither p m (inr e) = m e
 
     first : (length input < 8) ⊎ (8 ≤ length input) → (number (take 8 input) ≡ 43) ⊎ (number (take 8 input) ≡ 43 → ⊥) → (number (take 8 input) ≡ 45) ⊎ (number (take 8 input) ≡ 45 → ⊥) → Result
-    first (inl h) p m = inr (short, length input, inl (h, refl, refl))
+    first (inl h) p m = inr (short, length input, sign_cut (h, refl, refl))
     first (inr h) (inl p) m = plus h p (ended_total digit_octets 8 end coded leaf fine (most_digits (images_of leaf)) Positive positive_or_not (drop 8 input))
     first (inr h) (inr p) (inl m) = minus h m (ended_total digit_octets 8 end coded leaf fine (most_digits (images_of leaf)) Negative negative_or_not (drop 8 input))
-    first (inr h) (inr p) (inr m) = inr (bad_digit, 8, inr (inr (inr (h, neither p m, refl, refl))))
+    first (inr h) (inr p) (inr m) = inr (bad_digit, 8, no_sign_octet (h, neither p m, refl, refl))

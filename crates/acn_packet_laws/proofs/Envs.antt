@@ -8,7 +8,7 @@ use Rattle.std.proofs.lemmas.List.{length-take-le}
 use Rattle.acn_num.specs.Bits.{number}
 use Rattle.acn_num.specs.Ranges.{In, has, are_ranges, all_within}
 use Rattle.acn_grammar.specs.Env.{Env, at_slot}
-use Rattle.acn_grammar.specs.Fails.{Failing, Here, Fault, seen, RuleFails, SizeFails, kept}
+use Rattle.acn_grammar.specs.Fails.{Failing, Here, Fault, seen, RuleFails, SizeFails, kept, prefix_cut, prefix_not_permitted}
 use Rattle.acn_grammar.specs.Grammar.{Grammar}
 use Rattle.acn_grammar.specs.LeafFails.{Reason, short, size_out_of_range}
 use Rattle.acn_grammar.specs.Leaves.{sizes_fine, sizing_fine, rule_fine}
@@ -295,17 +295,17 @@ module _ (root : Grammar) where
       failed rule e fault reach f = inr (fault, reach, subst (λ (z : SizeRule). RuleFails here sizing z env at rest fault reach) (sym e) f)
 
       prefix : (low width : ℕ) → sizing.rule ≡ Prefix low width → (length rest < width) ⊎ (width ≤ length rest) → In sizing.sizes (pos (low + number (take width rest))) ⊎ (In sizing.sizes (pos (low + number (take width rest))) → ⊥) → Goal
-      prefix low width e (inl h) i = failed (Prefix low width) e (says here short) (length rest) (inl (h, refl, refl))
+      prefix low width e (inl h) i = failed (Prefix low width) e (says here short) (length rest) (prefix_cut (h, refl, refl))
       prefix low width e (inr h) (inl i) =
           given (Prefix low width) e (low + number (take width rest)) (take width rest) (drop width rest) (sym (take-append-drop width rest)) i
           (record { given = omega arith; spelled = record { width = length-take-le width rest h; value = omega arith } })
-      prefix low width e (inr h) (inr i) = failed (Prefix low width) e (says here (size_out_of_range (low + number (take width rest)))) width (inr (h, i, refl, refl))
+      prefix low width e (inr h) (inr i) = failed (Prefix low width) e (says here (size_out_of_range (low + number (take width rest)))) width (prefix_not_permitted (h, i, refl, refl))
 
       slot : (s : ℕ) → sizing.rule ≡ Slot s → (x : ℤ) → at_slot env s ≡ Some x → In sizing.sizes x ⊎ (In sizing.sizes x → ⊥) → sizes_fine sizing.sizes ≡ true → Goal
       slot s e (pos n) h (inl i) f = given (Slot s) e n [] rest refl i (h, refl)
       slot s e (negsuc n) h (inl i) f =
           absurd (below_zero sizing.sizes n (and_parts (are_ranges sizing.sizes) (all_within (pos 0) (pos 65536) sizing.sizes) (and_parts (Rattle.std.specs.Prelude.nat_lt 0 (length sizing.sizes)) (are_ranges sizing.sizes && all_within (pos 0) (pos 65536) sizing.sizes) f).1).1 i)
-      slot s e x h (inr i) f = failed (Slot s) e (says here (size_out_of_range (kept x))) 0 (x, h, i, refl, refl)
+      slot s e x h (inr i) f = failed (Slot s) e (says here (size_out_of_range (kept x))) 0 (record { number = x; stands = h; refused = i; says = refl; reaches = refl })
 
       by : (rule : SizeRule) → sizing.rule ≡ rule → RuleIn ks sizing.rule → (sizes_fine sizing.sizes ≡ true) × (rule_fine sizing.sizes sizing.rule ≡ true) → Goal
       by (Prefix low width) e k f = prefix low width e (less_or_not (length rest) width) (in_or_not sizing.sizes (pos (low + number (take width rest))))

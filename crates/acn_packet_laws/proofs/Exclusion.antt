@@ -1,9 +1,9 @@
 -- What is spelled at the front excludes a failure, and two failures are one: how parts join.
-use Rattle.std.proofs.Common.{◌≡◌, ℕ, zero, suc, ◌+◌, ◌≤◌, ℤ, pos, Bool, List, [], ◌∷◌, ◌++◌, length, take, drop, Some, refl, sym, ap, ◌∙◌, arith, append_assoc, inl, inr, ◌⊎◌, subst, length-append}
+use Rattle.std.proofs.Common.{◌≡◌, ℕ, zero, suc, ◌+◌, ◌≤◌, ℤ, pos, Bool, List, [], ◌∷◌, ◌++◌, length, take, drop, Some, refl, sym, ap, ◌∙◌, arith, append_assoc, subst, length-append}
 use Rattle.acn_num.specs.Bits.{number}
 use Rattle.acn_num.specs.Ranges.{In}
 use Rattle.acn_grammar.specs.Env.{Env}
-use Rattle.acn_grammar.specs.Fails.{Fault, Failing, Behind, Here, Short, RuleFails, SizeFails, Sized, RunFails, seen, kept}
+use Rattle.acn_grammar.specs.Fails.{Fault, Failing, Behind, Here, Short, RuleFails, SizeFails, RunFails, seen, kept, SizedFails, prefix_cut, prefix_not_permitted, fails_at_size, fails_behind_size, fails_at_element, fails_behind_element}
 use Rattle.acn_grammar.specs.LeafFails.{size_out_of_range}
 use Rattle.acn_grammar.specs.Grammar.{Grammar, Data, Elements, no_elements, element, element_count}
 use Rattle.acn_grammar.specs.Scoped.{Known, Agree, RuleIn}
@@ -82,12 +82,6 @@ excl_short here n h at a r fault reach p f = let l = h at a p in let s = f.0 in 
 pub same_short : (here : Here) (n : ℕ) → Same (Short here n) (Short here n)
 same_short here n at rest f g m k p q = (p.1 ∙ sym q.1, p.2 ∙ sym q.2)
 
-pub either_same : {F G F' G' : Failing} → Same F F' → Same G G' → Clash F G' → Clash F' G → (at : ℕ) (rest : List Bool) (f g : Fault) (m n : ℕ) → F at rest f m ⊎ G at rest f m → F' at rest g n ⊎ G' at rest g n → (f ≡ g) × (m ≡ n)
-either_same a b c d at rest f g m n (inl p) (inl q) = a at rest f g m n p q
-either_same a b c d at rest f g m n (inl p) (inr q) = absurd (c at rest f g m n p q)
-either_same a b c d at rest f g m n (inr p) (inl q) = absurd (d at rest g f n m q p)
-either_same a b c d at rest f g m n (inr p) (inr q) = b at rest f g m n p q
-
 -- Sizes.
 
 some_one : {A : Type 0} (x y : A) → Some x ≡ Some y → x ≡ y
@@ -95,26 +89,26 @@ some_one x y e = cc
 
 module _ (root : Grammar) where
   rule_excl : (here : Here) (sizing : Sizing) (rule : SizeRule) (ks : Known) → RuleIn ks rule → (env env' : Env) → Agree ks env env' → (n : ℕ) → In sizing.sizes (pos n) → Excl (RulePart rule env n) (RuleFails here sizing rule env')
-  rule_excl here sizing (Prefix low width) ks known env env' same n inside at a r fault reach p (inl f) = let w = p.spelled.width in let s = f.0 in let l = length-append a r in absurd (omega arith)
-  rule_excl here sizing (Prefix low width) ks known env env' same n inside at a r fault reach p (inr f) =
+  rule_excl here sizing (Prefix low width) ks known env env' same n inside at a r fault reach p (prefix_cut f) = let w = p.spelled.width in let s = f.0 in let l = length-append a r in absurd (omega arith)
+  rule_excl here sizing (Prefix low width) ks known env env' same n inside at a r fault reach p (prefix_not_permitted f) =
       let v = p.spelled.value in
       let over = p.given in
       let is : low + number (take width (a ++ r)) ≡ n = ap (λ x. low + number x) (take_n width a r p.spelled.width) ∙ omega arith in
       f.1 (subst (λ (x : ℕ). In sizing.sizes (pos x)) (sym is) inside)
   rule_excl here sizing (Ended end) ks known env env' same n inside at a r fault reach p f = f
   rule_excl here sizing (Slot s) ks known env env' same n inside at a r fault reach p f =
-      let is : pos n ≡ f.0 = some_one (pos n) f.0 (sym p.0 ∙ (same s known ∙ f.1)) in
-      f.2 (subst (λ (x : ℤ). In sizing.sizes x) is inside)
+      let is : pos n ≡ f.number = some_one (pos n) f.number (sym p.0 ∙ (same s known ∙ f.stands)) in
+      f.refused (subst (λ (x : ℤ). In sizing.sizes x) is inside)
 
   rule_same : (here : Here) (sizing : Sizing) (rule : SizeRule) (ks : Known) → RuleIn ks rule → (env env' : Env) → Agree ks env env' → Same (RuleFails here sizing rule env) (RuleFails here sizing rule env')
-  rule_same here sizing (Prefix low width) ks known env env' same at rest f g m n (inl p) (inl q) = (p.1 ∙ sym q.1, p.2 ∙ sym q.2)
-  rule_same here sizing (Prefix low width) ks known env env' same at rest f g m n (inl p) (inr q) = let a = p.0 in let b = q.0 in absurd (omega arith)
-  rule_same here sizing (Prefix low width) ks known env env' same at rest f g m n (inr p) (inl q) = let a = p.0 in let b = q.0 in absurd (omega arith)
-  rule_same here sizing (Prefix low width) ks known env env' same at rest f g m n (inr p) (inr q) = (p.2 ∙ sym q.2, p.3 ∙ sym q.3)
+  rule_same here sizing (Prefix low width) ks known env env' same at rest f g m n (prefix_cut p) (prefix_cut q) = (p.1 ∙ sym q.1, p.2 ∙ sym q.2)
+  rule_same here sizing (Prefix low width) ks known env env' same at rest f g m n (prefix_cut p) (prefix_not_permitted q) = let a = p.0 in let b = q.0 in absurd (omega arith)
+  rule_same here sizing (Prefix low width) ks known env env' same at rest f g m n (prefix_not_permitted p) (prefix_cut q) = let a = p.0 in let b = q.0 in absurd (omega arith)
+  rule_same here sizing (Prefix low width) ks known env env' same at rest f g m n (prefix_not_permitted p) (prefix_not_permitted q) = (p.2 ∙ sym q.2, p.3 ∙ sym q.3)
   rule_same here sizing (Ended end) ks known env env' same at rest f g m n p q = absurd p
   rule_same here sizing (Slot s) ks known env env' same at rest f g m n p q =
-      let is : p.0 ≡ q.0 = some_one p.0 q.0 (sym p.1 ∙ (same s known ∙ q.1)) in
-      (p.3 ∙ (ap (λ x. record { path = here.path; reason = seen here.inside (size_out_of_range (kept x)); at = here.place }) is ∙ sym q.3), p.4 ∙ sym q.4)
+      let is : p.number ≡ q.number = some_one p.number q.number (sym p.stands ∙ (same s known ∙ q.stands)) in
+      (p.says ∙ (ap (λ x. record { path = here.path; reason = seen here.inside (size_out_of_range (kept x)); at = here.place }) is ∙ sym q.says), p.reaches ∙ sym q.reaches)
 
   size_excl : (here : Here) (sizing : Sizing) (ks : Known) → RuleIn ks sizing.rule → (env env' : Env) → Agree ks env env' → (n : ℕ) → Excl (SizePart sizing env n) (SizeFails here sizing env')
   size_excl here sizing ks known env env' same n at a r fault reach p f = rule_excl here sizing sizing.rule ks known env env' same n p.given at a r fault reach p.spelled f
@@ -124,28 +118,28 @@ module _ (root : Grammar) where
 
   -- a size, and parts of that many behind it
   pub sized_excl : (here : Here) (sizing : Sizing) (ks : Known) → RuleIn ks sizing.rule → (env env' : Env) → Agree ks env env' → (n : ℕ) (P : Part) (F : ℕ → Failing) → ((m : ℕ) → n ≡ m → Excl P (F m))
-      → (at : ℕ) (a r : List Bool) (fault : Fault) (reach : ℕ) → (SizePart sizing env n then P) at a → SizeFails here sizing env' at (a ++ r) fault reach ⊎ Sized sizing env' F at (a ++ r) fault reach → ⊥
-  sized_excl here sizing ks known env env' same n P F h at a r fault reach t (inl f) = excl_first {P = SizePart sizing env n} {P2 = P} (SizeFails here sizing env') (size_excl here sizing ks known env env' same n) at a r fault reach t f
-  sized_excl here sizing ks known env env' same n P F h at a r fault reach t (inr f) = excl_behind (size_law sizing ks known env env' same n f.n) (λ e. h f.n e) at a r fault reach t f.behind
+      → (at : ℕ) (a r : List Bool) (fault : Fault) (reach : ℕ) → (SizePart sizing env n then P) at a → SizedFails here sizing env' F at (a ++ r) fault reach → ⊥
+  sized_excl here sizing ks known env env' same n P F h at a r fault reach t (fails_at_size f) = excl_first {P = SizePart sizing env n} {P2 = P} (SizeFails here sizing env') (size_excl here sizing ks known env env' same n) at a r fault reach t f
+  sized_excl here sizing ks known env env' same n P F h at a r fault reach t (fails_behind_size f) = excl_behind (size_law sizing ks known env env' same n f.n) (λ e. h f.n e) at a r fault reach t f.behind
 
   pub sized_same : (here : Here) (sizing : Sizing) (ks : Known) → RuleIn ks sizing.rule → (env env' : Env) → Agree ks env env' → (F G : ℕ → Failing) → ((m n : ℕ) → m ≡ n → Same (F m) (G n))
-      → (at : ℕ) (rest : List Bool) (f g : Fault) (m n : ℕ) → SizeFails here sizing env at rest f m ⊎ Sized sizing env F at rest f m → SizeFails here sizing env' at rest g n ⊎ Sized sizing env' G at rest g n → (f ≡ g) × (m ≡ n)
-  sized_same here sizing ks known env env' same F G h at rest f g m n (inl p) (inl q) = rule_same here sizing sizing.rule ks known env env' same at rest f g m n p q
-  sized_same here sizing ks known env env' same F G h at rest f g m n (inl p) (inr q) = absurd (clash_behind (SizeFails here sizing env) (size_excl here sizing ks known env' env (λ s k. sym (same s k)) q.n) at rest f g m n p q.behind)
-  sized_same here sizing ks known env env' same F G h at rest f g m n (inr p) (inl q) = absurd (clash_behind (SizeFails here sizing env') (size_excl here sizing ks known env env' same p.n) at rest g f n m q p.behind)
-  sized_same here sizing ks known env env' same F G h at rest f g m n (inr p) (inr q) = same_behind (size_law sizing ks known env env' same p.n q.n) (λ e. h p.n q.n e) at rest f g m n p.behind q.behind
+      → (at : ℕ) (rest : List Bool) (f g : Fault) (m n : ℕ) → SizedFails here sizing env F at rest f m → SizedFails here sizing env' G at rest g n → (f ≡ g) × (m ≡ n)
+  sized_same here sizing ks known env env' same F G h at rest f g m n (fails_at_size p) (fails_at_size q) = rule_same here sizing sizing.rule ks known env env' same at rest f g m n p q
+  sized_same here sizing ks known env env' same F G h at rest f g m n (fails_at_size p) (fails_behind_size q) = absurd (clash_behind (SizeFails here sizing env) (size_excl here sizing ks known env' env (λ s k. sym (same s k)) q.n) at rest f g m n p q.behind)
+  sized_same here sizing ks known env env' same F G h at rest f g m n (fails_behind_size p) (fails_at_size q) = absurd (clash_behind (SizeFails here sizing env') (size_excl here sizing ks known env env' same p.n) at rest g f n m q p.behind)
+  sized_same here sizing ks known env env' same F G h at rest f g m n (fails_behind_size p) (fails_behind_size q) = same_behind (size_law sizing ks known env env' same p.n q.n) (λ e. h p.n q.n e) at rest f g m n p.behind q.behind
 
 -- Elements.
 
 pub run_excl : (each other : Data → Part) (fails : ℕ → Failing) → ((d : Data) (k : ℕ) → Excl (each d) (fails k)) → ((d d' : Data) → Law (each d) (other d') (d ≡ d')) → (es : Elements) (n k : ℕ) → element_count es ≡ n → Excl (RunPart each es) (RunFails other fails n k)
 run_excl each other fails h law es zero k c at a r fault reach t f = absurd f
 run_excl each other fails h law no_elements (suc n) k c at a r fault reach t f = cc
-run_excl each other fails h law (element d es) (suc n) k c at a r fault reach t (inl f) = excl_first {P = each d} {P2 = RunPart each es} (fails k) (h d k) at a r fault reach t f
-run_excl each other fails h law (element d es) (suc n) k c at a r fault reach t (inr f) = excl_behind (law d f.0) (λ _. run_excl each other fails h law es n (suc k) cc) at a r fault reach t f.1
+run_excl each other fails h law (element d es) (suc n) k c at a r fault reach t (fails_at_element f) = excl_first {P = each d} {P2 = RunPart each es} (fails k) (h d k) at a r fault reach t f
+run_excl each other fails h law (element d es) (suc n) k c at a r fault reach t (fails_behind_element f) = excl_behind (law d f.0) (λ _. run_excl each other fails h law es n (suc k) cc) at a r fault reach t f.1
 
 pub run_same : (each other : Data → Part) (fails fails' : ℕ → Failing) → ((k : ℕ) → Same (fails k) (fails' k)) → ((d : Data) (k : ℕ) → Excl (each d) (fails' k)) → ((d : Data) (k : ℕ) → Excl (other d) (fails k)) → ((d d' : Data) → Law (each d) (other d') (d ≡ d')) → (n k : ℕ) → Same (RunFails each fails n k) (RunFails other fails' n k)
 run_same each other fails fails' h x y law zero k at rest f g m n p q = absurd p
-run_same each other fails fails' h x y law (suc n) k at rest f g m l (inl p) (inl q) = h k at rest f g m l p q
-run_same each other fails fails' h x y law (suc n) k at rest f g m l (inl p) (inr q) = absurd (clash_behind (fails k) (y q.0 k) at rest f g m l p q.1)
-run_same each other fails fails' h x y law (suc n) k at rest f g m l (inr p) (inl q) = absurd (clash_behind (fails' k) (x p.0 k) at rest g f l m q p.1)
-run_same each other fails fails' h x y law (suc n) k at rest f g m l (inr p) (inr q) = same_behind (law p.0 q.0) (λ _. run_same each other fails fails' h x y law n (suc k)) at rest f g m l p.1 q.1
+run_same each other fails fails' h x y law (suc n) k at rest f g m l (fails_at_element p) (fails_at_element q) = h k at rest f g m l p q
+run_same each other fails fails' h x y law (suc n) k at rest f g m l (fails_at_element p) (fails_behind_element q) = absurd (clash_behind (fails k) (y q.0 k) at rest f g m l p q.1)
+run_same each other fails fails' h x y law (suc n) k at rest f g m l (fails_behind_element p) (fails_at_element q) = absurd (clash_behind (fails' k) (x p.0 k) at rest g f l m q p.1)
+run_same each other fails fails' h x y law (suc n) k at rest f g m l (fails_behind_element p) (fails_behind_element q) = same_behind (law p.0 q.0) (λ _. run_same each other fails fails' h x y law n (suc k)) at rest f g m l p.1 q.1

@@ -6,7 +6,7 @@ use Rattle.std.proofs.lemmas.Bool.Decides.{nat_tests}
 use Rattle.acn_num.specs.Bits.{number, signed_number, low_bits, bits, IsNumber}
 use Rattle.acn_num.specs.Ranges.{In}
 use Rattle.acn_grammar.specs.Code.{Any, CodingCode, decimal_number, nibbles, digit_octets, SignOctet, image_of, in_order}
-use Rattle.acn_grammar.specs.LeafFails.{Reason, short, out_of_range, not_minimal, too_long, Wire, says, wrong, nibbles_of, octet_values, AllDigits, value_of, SignedWire, DigitsWire, PatternWire, OnePatternWire, FixedWire, WireFails, FixedFails, CountedFails, no_count, none_counted, many_counted, octets_cut, octets_to_spare, counted_not_permitted, plus_digits, minus_digits, minus_nothing, no_signed_digits}
+use Rattle.acn_grammar.specs.LeafFails.{Reason, short, out_of_range, not_minimal, too_long, Wire, says, wrong, nibbles_of, octet_values, AllDigits, value_of, SignedWire, DigitsWire, PatternWire, OnePatternWire, FixedWire, WireFails, FixedFails, CountedFails, no_count, none_counted, many_counted, octets_cut, octets_to_spare, counted_not_permitted, plus_digits, minus_digits, minus_nothing, no_signed_digits, code_cut, code_not_permitted}
 use Rattle.acn_grammar.specs.Leaves.{coding_fine, is_pattern, same_bits}
 use Rattle.acn_grammar.specs.declared.node.NumCoding.{NumCoding}
 use Rattle.acn_grammar.specs.declared.node.NumCoding.TheVariants.{Range, CountedFrom, CountedSigned, PosInt, Twos, Bcd, BcdEnded, Ascii, AsciiEnded, Flag, Fixed}
@@ -140,18 +140,18 @@ wire_fails leaf w v r r' e p q = same w (subst (λ (x : Wire). WireFails leaf x 
     same (wrong x) q p = p ∙ sym q
 
 pub fixed_same : (coding : NumCoding) (leaf : NumLeaf) (width : ℕ) (rest : List Bool) (r r' : Reason) (m n : ℕ) → FixedFails coding leaf width rest r m → FixedFails coding leaf width rest r' n → (r ≡ r') × (m ≡ n)
-fixed_same coding leaf width rest r r' m n (inl p) (inl q) = (p.1 ∙ sym q.1, p.2 ∙ sym q.2)
-fixed_same coding leaf width rest r r' m n (inl p) (inr q) = let a = p.0 in let b = q.0 in absurd (omega arith)
-fixed_same coding leaf width rest r r' m n (inr p) (inl q) = let a = p.0 in let b = q.0 in absurd (omega arith)
-fixed_same coding leaf width rest r r' m n (inr p) (inr q) =
+fixed_same coding leaf width rest r r' m n (code_cut p) (code_cut q) = (p.1 ∙ sym q.1, p.2 ∙ sym q.2)
+fixed_same coding leaf width rest r r' m n (code_cut p) (code_not_permitted q) = let a = p.0 in let b = q.0 in absurd (omega arith)
+fixed_same coding leaf width rest r r' m n (code_not_permitted p) (code_cut q) = let a = p.0 in let b = q.0 in absurd (omega arith)
+fixed_same coding leaf width rest r r' m n (code_not_permitted p) (code_not_permitted q) =
     (wire_fails leaf p.1.0 q.1.0 r r' (wire_one coding leaf.little (take width rest) p.1.0 q.1.0 p.1.1 q.1.1) p.1.2 q.1.2, p.2 ∙ sym q.2)
 
 wire_excl : (leaf : NumLeaf) (w : Wire) (v y x : ℤ) (r : Reason) → w ≡ says v y → In leaf.set x → image_of leaf x ≡ Some y → WireFails leaf w r → ⊥
 wire_excl leaf w v y x r e p m f = (subst (λ (z : Wire). WireFails leaf z r) e f).0 x p m
 
 pub fixed_excl : (coding : NumCoding) (leaf : NumLeaf) (width : ℕ) (x y : ℤ) (bs r : List Bool) (reason : Reason) (reach : ℕ) → length bs ≡ width → ((w : Wire) → FixedWire coding leaf.little bs w → (v : ℤ) × (w ≡ says v y)) → In leaf.set x → image_of leaf x ≡ Some y → FixedFails coding leaf width (bs ++ r) reason reach → ⊥
-fixed_excl coding leaf width x y bs r reason reach l say p m (inl f) = let a = f.0 in let b = length-append bs r in absurd (omega arith)
-fixed_excl coding leaf width x y bs r reason reach l say p m (inr f) =
+fixed_excl coding leaf width x y bs r reason reach l say p m (code_cut f) = let a = f.0 in let b = length-append bs r in absurd (omega arith)
+fixed_excl coding leaf width x y bs r reason reach l say p m (code_not_permitted f) =
     let w = say f.1.0 (subst (λ (z : List Bool). FixedWire coding leaf.little z f.1.0) (take_n width bs r l) f.1.1) in
     wire_excl leaf f.1.0 w.0 y x reason w.1 p m f.1.2
 

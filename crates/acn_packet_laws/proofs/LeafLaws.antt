@@ -5,7 +5,7 @@ use Rattle.acn_num.specs.Bits.{number, signed_number, low_bits}
 use Rattle.acn_num.specs.Ranges.{In, has}
 use Rattle.acn_grammar.specs.Code.{Any, CodingCode, nibbles, digit_octets, SignOctet, image_of}
 use Rattle.acn_grammar.specs.Images.{images_of}
-use Rattle.acn_grammar.specs.LeafFails.{Reason, CodingFails, AsciiEndedFails, BehindSign, EndedFails, Positive, Negative, most_digits}
+use Rattle.acn_grammar.specs.LeafFails.{Reason, CodingFails, AsciiEndedFails, BehindSign, EndedFails, Positive, Negative, most_digits, sign_cut, fails_behind_plus, fails_behind_minus, no_sign_octet}
 use Rattle.acn_grammar.specs.Leaves.{coding_fine, is_terminator, is_pattern, begins_number}
 use Rattle.acn_grammar.specs.Length.{least_octets, least_signed_octets, fits_octets, digit_count, flag_width}
 use Rattle.acn_grammar.specs.Spell.{octet_numbers}
@@ -64,30 +64,30 @@ negative_one k x y p q = p.1 ∙ sym q.1
 
 behind_same : (leaf : NumLeaf) (end : List Bool) (IsValue : ℕ → ℤ → Type 0) → Coded digit_octets 8 end → ((k : ℕ) (x y : ℤ) → IsValue k x → IsValue k y → x ≡ y) → (rest : List Bool) (r r' : Reason) (m n : ℕ) → BehindSign leaf end IsValue rest r m → BehindSign leaf end IsValue rest r' n → (r ≡ r') × (m ≡ n)
 behind_same leaf end IsValue coded value rest r r' m n p q =
-    let one = ended_same digit_octets 8 end coded leaf (most_digits (images_of leaf)) IsValue value (drop 8 rest) r r' p.0 q.0 p.1 q.1 in
+    let one = ended_same digit_octets 8 end coded leaf (most_digits (images_of leaf)) IsValue value (drop 8 rest) r r' p.more q.more p.fails q.fails in
     let a = one.1 in
-    let b = p.2 in
-    let c = q.2 in
+    let b = p.reaches in
+    let c = q.reaches in
     (one.0, omega arith)
 
 ascii_same : (leaf : NumLeaf) (end : List Bool) (signed : Bool) → Coded digit_octets 8 end → (rest : List Bool) (r r' : Reason) (m n : ℕ) → AsciiEndedFails leaf end signed rest r m → AsciiEndedFails leaf end signed rest r' n → (r ≡ r') × (m ≡ n)
 ascii_same leaf end false coded rest r r' m n p q = ended_same digit_octets 8 end coded leaf (most_digits (images_of leaf)) Positive positive_one rest r r' m n p q
-ascii_same leaf end true coded rest r r' m n (inl p) (inl q) = (p.1 ∙ sym q.1, p.2 ∙ sym q.2)
-ascii_same leaf end true coded rest r r' m n (inl p) (inr (inl q)) = let a = p.0 in let b = q.0 in absurd (omega arith)
-ascii_same leaf end true coded rest r r' m n (inl p) (inr (inr (inl q))) = let a = p.0 in let b = q.0 in absurd (omega arith)
-ascii_same leaf end true coded rest r r' m n (inl p) (inr (inr (inr q))) = let a = p.0 in let b = q.0 in absurd (omega arith)
-ascii_same leaf end true coded rest r r' m n (inr (inl p)) (inl q) = let a = p.0 in let b = q.0 in absurd (omega arith)
-ascii_same leaf end true coded rest r r' m n (inr (inl p)) (inr (inl q)) = behind_same leaf end Positive coded positive_one rest r r' m n p.2 q.2
-ascii_same leaf end true coded rest r r' m n (inr (inl p)) (inr (inr (inl q))) = let a = p.1 in let b = q.1 in absurd (omega arith)
-ascii_same leaf end true coded rest r r' m n (inr (inl p)) (inr (inr (inr q))) = absurd (q.1 (inl p.1))
-ascii_same leaf end true coded rest r r' m n (inr (inr (inl p))) (inl q) = let a = p.0 in let b = q.0 in absurd (omega arith)
-ascii_same leaf end true coded rest r r' m n (inr (inr (inl p))) (inr (inl q)) = let a = p.1 in let b = q.1 in absurd (omega arith)
-ascii_same leaf end true coded rest r r' m n (inr (inr (inl p))) (inr (inr (inl q))) = behind_same leaf end Negative coded negative_one rest r r' m n p.2 q.2
-ascii_same leaf end true coded rest r r' m n (inr (inr (inl p))) (inr (inr (inr q))) = absurd (q.1 (inr p.1))
-ascii_same leaf end true coded rest r r' m n (inr (inr (inr p))) (inl q) = let a = p.0 in let b = q.0 in absurd (omega arith)
-ascii_same leaf end true coded rest r r' m n (inr (inr (inr p))) (inr (inl q)) = absurd (p.1 (inl q.1))
-ascii_same leaf end true coded rest r r' m n (inr (inr (inr p))) (inr (inr (inl q))) = absurd (p.1 (inr q.1))
-ascii_same leaf end true coded rest r r' m n (inr (inr (inr p))) (inr (inr (inr q))) = (p.2 ∙ sym q.2, p.3 ∙ sym q.3)
+ascii_same leaf end true coded rest r r' m n (sign_cut p) (sign_cut q) = (p.1 ∙ sym q.1, p.2 ∙ sym q.2)
+ascii_same leaf end true coded rest r r' m n (sign_cut p) (fails_behind_plus q) = let a = p.0 in let b = q.0 in absurd (omega arith)
+ascii_same leaf end true coded rest r r' m n (sign_cut p) (fails_behind_minus q) = let a = p.0 in let b = q.0 in absurd (omega arith)
+ascii_same leaf end true coded rest r r' m n (sign_cut p) (no_sign_octet q) = let a = p.0 in let b = q.0 in absurd (omega arith)
+ascii_same leaf end true coded rest r r' m n (fails_behind_plus p) (sign_cut q) = let a = p.0 in let b = q.0 in absurd (omega arith)
+ascii_same leaf end true coded rest r r' m n (fails_behind_plus p) (fails_behind_plus q) = behind_same leaf end Positive coded positive_one rest r r' m n p.2 q.2
+ascii_same leaf end true coded rest r r' m n (fails_behind_plus p) (fails_behind_minus q) = let a = p.1 in let b = q.1 in absurd (omega arith)
+ascii_same leaf end true coded rest r r' m n (fails_behind_plus p) (no_sign_octet q) = absurd (q.1 (inl p.1))
+ascii_same leaf end true coded rest r r' m n (fails_behind_minus p) (sign_cut q) = let a = p.0 in let b = q.0 in absurd (omega arith)
+ascii_same leaf end true coded rest r r' m n (fails_behind_minus p) (fails_behind_plus q) = let a = p.1 in let b = q.1 in absurd (omega arith)
+ascii_same leaf end true coded rest r r' m n (fails_behind_minus p) (fails_behind_minus q) = behind_same leaf end Negative coded negative_one rest r r' m n p.2 q.2
+ascii_same leaf end true coded rest r r' m n (fails_behind_minus p) (no_sign_octet q) = absurd (q.1 (inr p.1))
+ascii_same leaf end true coded rest r r' m n (no_sign_octet p) (sign_cut q) = let a = p.0 in let b = q.0 in absurd (omega arith)
+ascii_same leaf end true coded rest r r' m n (no_sign_octet p) (fails_behind_plus q) = absurd (p.1 (inl q.1))
+ascii_same leaf end true coded rest r r' m n (no_sign_octet p) (fails_behind_minus q) = absurd (p.1 (inr q.1))
+ascii_same leaf end true coded rest r r' m n (no_sign_octet p) (no_sign_octet q) = (p.2 ∙ sym q.2, p.3 ∙ sym q.3)
 
 coding_same : (coding : NumCoding) (leaf : NumLeaf) → coding_fine coding ≡ true → (rest : List Bool) (r r' : Reason) (m n : ℕ) → CodingFails coding leaf rest r m → CodingFails coding leaf rest r' n → (r ≡ r') × (m ≡ n)
 coding_same (Range low width) leaf f rest r r' m n p q = fixed_same (Range low width) leaf width rest r r' m n p q
@@ -191,18 +191,18 @@ coding_excl (AsciiEnded end true) leaf f x y l p m bs r reason reach c e =
 
     behind : (IsValue : ℕ → ℤ → Type 0) → ((k : ℕ) (a b : ℤ) → IsValue k a → IsValue k b → a ≡ b) → IsValue c.0 y → drop 8 (c.1 ++ (digit_octets c.3.digits ++ (end ++ r))) ≡ digit_octets c.3.digits ++ (end ++ r) → BehindSign leaf end IsValue (c.1 ++ (digit_octets c.3.digits ++ (end ++ r))) reason reach → ⊥
     behind IsValue one v d b =
-        ended_excl digit_octets 8 end (coded_octets end f) leaf (most_digits (images_of leaf)) IsValue one c.3.digits r x y reason b.0 c.3.spell.digits c.3.minimal few (subst (λ (z : ℕ). IsValue z y) (sym c.3.spell.value) v) p m
-        (subst (λ (z : List Bool). EndedFails leaf digit_octets 8 end (most_digits (images_of leaf)) IsValue z reason b.0) d b.1)
+        ended_excl digit_octets 8 end (coded_octets end f) leaf (most_digits (images_of leaf)) IsValue one c.3.digits r x y reason b.more c.3.spell.digits c.3.minimal few (subst (λ (z : ℕ). IsValue z y) (sym c.3.spell.value) v) p m
+        (subst (λ (z : List Bool). EndedFails leaf digit_octets 8 end (most_digits (images_of leaf)) IsValue z reason b.more) d b.fails)
 
     signed : (((number (take 8 (c.1 ++ (digit_octets c.3.digits ++ (end ++ r)))) ≡ 43) × Positive c.0 y) ⊎ ((number (take 8 (c.1 ++ (digit_octets c.3.digits ++ (end ++ r)))) ≡ 45) × Negative c.0 y)) × (drop 8 (c.1 ++ (digit_octets c.3.digits ++ (end ++ r))) ≡ digit_octets c.3.digits ++ (end ++ r)) × (8 ≤ length (c.1 ++ (digit_octets c.3.digits ++ (end ++ r))))
         → AsciiEndedFails leaf end true (c.1 ++ (digit_octets c.3.digits ++ (end ++ r))) reason reach → ⊥
-    signed (s, d, w) (inl h) = let a = h.0 in omega arith
-    signed (inl s, d, w) (inr (inl h)) = behind Positive positive_one s.1 d h.2
-    signed (inl s, d, w) (inr (inr (inl h))) = let a = s.0 in let b = h.1 in omega arith
-    signed (inl s, d, w) (inr (inr (inr h))) = h.1 (inl s.0)
-    signed (inr s, d, w) (inr (inl h)) = let a = s.0 in let b = h.1 in omega arith
-    signed (inr s, d, w) (inr (inr (inl h))) = behind Negative negative_one s.1 d h.2
-    signed (inr s, d, w) (inr (inr (inr h))) = h.1 (inr s.0)
+    signed (s, d, w) (sign_cut h) = let a = h.0 in omega arith
+    signed (inl s, d, w) (fails_behind_plus h) = behind Positive positive_one s.1 d h.2
+    signed (inl s, d, w) (fails_behind_minus h) = let a = s.0 in let b = h.1 in omega arith
+    signed (inl s, d, w) (no_sign_octet h) = h.1 (inl s.0)
+    signed (inr s, d, w) (fails_behind_plus h) = let a = s.0 in let b = h.1 in omega arith
+    signed (inr s, d, w) (fails_behind_minus h) = behind Negative negative_one s.1 d h.2
+    signed (inr s, d, w) (no_sign_octet h) = h.1 (inr s.0)
 
 pub leaf_excl : LeafExcl
 leaf_excl leaf fine x bs r reason reach c f = coding_excl leaf.coding leaf (rules_of leaf fine).coding x c.image (limits_of leaf x c.image fine c.permitted c.maps) c.permitted c.maps bs r reason reach c.spelled f

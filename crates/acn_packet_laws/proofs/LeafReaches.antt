@@ -1,11 +1,11 @@
 -- The failures of number leaves depend on the bits alone on which they rest.
-use Rattle.std.proofs.Common.{◌≡◌, ℕ, ◌+◌, ◌*◌, ◌≤◌, ℤ, pos, Bool, true, false, List, [], ◌∷◌, ◌++◌, length, take, drop, refl, sym, ap, ◌∙◌, arith, inl, inr}
+use Rattle.std.proofs.Common.{◌≡◌, ℕ, ◌+◌, ◌*◌, ◌≤◌, ℤ, pos, Bool, true, false, List, [], ◌∷◌, ◌++◌, length, take, drop, refl, sym, ap, ◌∙◌, arith}
 use Rattle.std.proofs.lemmas.List.{length-take, take-append-drop, length-append, length-drop}
 use Rattle.std.specs.Prelude.{nat_abs, ◌+ℤ◌}
 use Rattle.acn_grammar.specs.Length.{least_octets, least_signed_octets, flag_width}
 use Rattle.acn_num.specs.Bits.{number, signed_number, low_bits}
 use Rattle.acn_grammar.specs.Code.{nibbles, digit_octets}
-use Rattle.acn_grammar.specs.LeafFails.{Reason, short, CodingFails, FixedFails, CountedFails, DigitAt, CharacterFails, cut, end_cut, digit_too_many, no_digit_no_end, end_alone, not_shortest, not_permitted, EndedFails, BehindSign, AsciiEndedFails, Positive, Negative, most_digits, no_count, none_counted, many_counted, octets_cut, octets_to_spare, counted_not_permitted}
+use Rattle.acn_grammar.specs.LeafFails.{Reason, short, CodingFails, FixedFails, CountedFails, DigitAt, CharacterFails, cut, end_cut, digit_too_many, no_digit_no_end, end_alone, not_shortest, not_permitted, EndedFails, BehindSign, AsciiEndedFails, Positive, Negative, most_digits, no_count, none_counted, many_counted, octets_cut, octets_to_spare, counted_not_permitted, code_cut, code_not_permitted, sign_cut, fails_behind_plus, fails_behind_minus, no_sign_octet}
 use Rattle.acn_grammar.specs.Images.{images_of}
 use Rattle.acn_grammar.specs.declared.node.NumLeaf.{NumLeaf}
 use Rattle.acn_grammar.specs.declared.node.NumCoding.{NumCoding}
@@ -25,15 +25,15 @@ behind_same n m a b h e =
     ap (λ k. take m (drop k a)) (sym front) ∙ p.1
 
 fixed_steady : (coding : NumCoding) (leaf : NumLeaf) (width : ℕ) → Holds (FixedFails coding leaf width)
-fixed_steady coding leaf width rest r reach (inl t) s = absurd (s t.1)
-fixed_steady coding leaf width rest r reach (inr t) s =
+fixed_steady coding leaf width rest r reach (code_cut t) s = absurd (s t.1)
+fixed_steady coding leaf width rest r reach (code_not_permitted t) s =
     let is = t.2 in
     let l = t.0 in (
       omega arith,
       λ other e.
           let same = same_within reach width other rest (omega arith) e in
           let far = long_enough width other rest l same in
-          inr (far, rw same t.1, t.2),
+          code_not_permitted (far, rw same t.1, t.2),
     )
 
 counted_steady : (leaf : NumLeaf) (number_in : List Bool → ℤ) (least : ℤ → ℕ) (image : ℤ → ℤ) → Holds (CountedFails leaf number_in least image)
@@ -143,31 +143,31 @@ ended_steady leaf code size end most IsValue w rest r reach t s =
 sign_steady : (leaf : NumLeaf) (end : List Bool) (IsValue : ℕ → ℤ → Type 0) (rest : List Bool) (r : Reason) (reach : ℕ) → 8 ≤ length rest → BehindSign leaf end IsValue rest r reach → (r ≡ short → ⊥)
     → (reach ≤ length rest) × ((other : List Bool) → take reach other ≡ take reach rest → (take 8 other ≡ take 8 rest) × (8 ≤ length other) × BehindSign leaf end IsValue other r reach)
 sign_steady leaf end IsValue rest r reach l t s =
-    let c = ended_steady leaf digit_octets 8 end (most_digits (images_of leaf)) IsValue (λ d. refl) (drop 8 rest) r t.0 t.1 s in
+    let c = ended_steady leaf digit_octets 8 end (most_digits (images_of leaf)) IsValue (λ d. refl) (drop 8 rest) r t.more t.fails s in
     let n = length-drop 8 rest in
-    let is = t.2 in
+    let is = t.reaches in
     let m = c.0 in (
       omega arith,
       λ other e.
           let same = same_within reach 8 other rest (omega arith) e in
-          let all : take (8 + t.0) other ≡ take (8 + t.0) rest = rw (← t.2) e in
+          let all : take (8 + t.more) other ≡ take (8 + t.more) rest = rw (← t.reaches) e in
           let far = long_enough 8 other rest l same in
-          (same, far, (t.0, c.1 (drop 8 other) (behind_same 8 t.0 other rest (omega arith) all), t.2)),
+          (same, far, record { more = t.more; fails = c.1 (drop 8 other) (behind_same 8 t.more other rest (omega arith) all); reaches = t.reaches }),
     )
 
 ascii_steady : (leaf : NumLeaf) (end : List Bool) (signed : Bool) → Holds (AsciiEndedFails leaf end signed)
 ascii_steady leaf end false rest r reach t s = ended_steady leaf digit_octets 8 end (most_digits (images_of leaf)) Positive (λ d. refl) rest r reach t s
-ascii_steady leaf end true rest r reach (inl t) s = absurd (s t.1)
-ascii_steady leaf end true rest r reach (inr (inl t)) s =
+ascii_steady leaf end true rest r reach (sign_cut t) s = absurd (s t.1)
+ascii_steady leaf end true rest r reach (fails_behind_plus t) s =
     let c = sign_steady leaf end Positive rest r reach t.0 t.2 s in
-    (c.0, λ other e. let o = c.1 other e in inr (inl (o.1, ap number o.0 ∙ t.1, o.2)))
-ascii_steady leaf end true rest r reach (inr (inr (inl t))) s =
+    (c.0, λ other e. let o = c.1 other e in fails_behind_plus (o.1, ap number o.0 ∙ t.1, o.2))
+ascii_steady leaf end true rest r reach (fails_behind_minus t) s =
     let c = sign_steady leaf end Negative rest r reach t.0 t.2 s in
-    (c.0, λ other e. let o = c.1 other e in inr (inr (inl (o.1, ap number o.0 ∙ t.1, o.2))))
-ascii_steady leaf end true rest r reach (inr (inr (inr t))) s =
+    (c.0, λ other e. let o = c.1 other e in fails_behind_minus (o.1, ap number o.0 ∙ t.1, o.2))
+ascii_steady leaf end true rest r reach (no_sign_octet t) s =
     let is = t.3 in
     let l = t.0 in
-    (omega arith, λ other e. let same = same_within reach 8 other rest (omega arith) e in let far = long_enough 8 other rest l same in inr (inr (inr (far, rw same t.1, t.2, t.3))))
+    (omega arith, λ other e. let same = same_within reach 8 other rest (omega arith) e in let far = long_enough 8 other rest l same in no_sign_octet (far, rw same t.1, t.2, t.3))
 
 by_coding : (coding : NumCoding) (leaf : NumLeaf) → Holds (CodingFails coding leaf)
 by_coding (Range low width) leaf rest r reach t s = fixed_steady (Range low width) leaf width rest r reach t s

@@ -6,8 +6,8 @@ use Rattle.acn_num.specs.Bits.{low_bits, bits as bits_of, IsSigned}
 use Rattle.acn_grammar.specs.Grammar.{Grammar, Data, node, num, int, boolean}
 use Rattle.acn_grammar.specs.Code.{Mode, Written, Any, Code, NumberOf}
 use Rattle.acn_grammar.specs.Spell.{Spell, Padding}
-use Rattle.acn_grammar.specs.Fails.{Refusal}
-use Rattle.acn_grammar.specs.LeafFails.{Reason, LeafFails, bad_digit, bad_pattern, not_minimal, wrong, not_shortest, octets_to_spare, minus_nothing}
+use Rattle.acn_grammar.specs.Fails.{Refusal, fails_behind_padding}
+use Rattle.acn_grammar.specs.LeafFails.{Reason, LeafFails, bad_digit, bad_pattern, not_minimal, wrong, not_shortest, octets_to_spare, minus_nothing, code_not_permitted}
 use Rattle.acn_grammar.specs.Front.{IsWritten}
 use Rattle.acn_grammar.specs.Interval.{span}
 use Rattle.acn_grammar.specs.Tree.{is_tree}
@@ -34,7 +34,7 @@ pub leaf_spelled : (mode : Mode) (leaf : NumLeaf) (d : Data) (x : ℤ) (bs : Lis
 leaf_spelled mode leaf d x bs n c = record { front = []; back = bs; whole = refl; first = no_padding mode; second = (x, n, c) }
 
 pub leaf_fails : (leaf : NumLeaf) (bs : List Bool) (r : Reason) (reach : ℕ) → LeafFails leaf bs r reach → Refusal (root_of leaf) bs (record { path = []; reason = r; at = 0 }) reach
-leaf_fails leaf bs r reach f = inr (record { front = []; back = bs; whole = refl; spelled = no_padding Any; more = reach; reaches = omega arith; fails = (r, f, refl) })
+leaf_fails leaf bs r reach f = fails_behind_padding (record { front = []; back = bs; whole = refl; spelled = no_padding Any; more = reach; reaches = omega arith; fails = record { reason = r; fails = f; says = refl } })
 
 -- INTEGER (0..999) in three decimal digits of 4 bits: 42 is 042
 abbrev bcd_leaf : NumLeaf
@@ -56,7 +56,7 @@ bcd_written = leaf_spelled Written bcd_leaf (int (pos 42)) (pos 42) _ refl (reco
 
 -- 0a 20: the second digit is ten
 pub bcd_bad : Refusal (root_of bcd_leaf) (bits_of (10 ∷ 32 ∷ [])) (record { path = []; reason = bad_digit; at = 0 }) 12
-bcd_bad = leaf_fails bcd_leaf _ bad_digit 12 (inr (omega arith, (wrong bad_digit, inr ((λ h. absurd (omega (arith, h.1.0.1))), refl), refl), refl))
+bcd_bad = leaf_fails bcd_leaf _ bad_digit 12 (code_not_permitted (omega arith, (wrong bad_digit, inr ((λ h. absurd (omega (arith, h.1.0.1))), refl), refl), refl))
 
 -- INTEGER: 128 is 02 00 80
 abbrev free_leaf : NumLeaf
@@ -106,7 +106,7 @@ same_patterns : is_tree (root_of (flag_leaf (Flag (Some a5) (Some a5)))) ≡ fal
 same_patterns = refl
 
 pub neither : Refusal (root_of both) (low_bits 8 1) (record { path = []; reason = bad_pattern; at = 0 }) 8
-neither = leaf_fails both _ bad_pattern 8 (inr (omega arith, (wrong bad_pattern, inr ((λ e. cc), inr ((λ e. cc), refl)), refl), refl))
+neither = leaf_fails both _ bad_pattern 8 (code_not_permitted (omega arith, (wrong bad_pattern, inr ((λ e. cc), inr ((λ e. cc), refl)), refl), refl))
 
 -- INTEGER (-99..99) in three characters: -7 is -07, and -00 is not minimal
 abbrev signed_leaf : NumLeaf
@@ -124,7 +124,7 @@ minus_seven = leaf_spelled Written signed_leaf (int (neg_ℤ (pos 7))) (neg_ℤ 
 })
 
 pub minus_zero : Refusal (root_of signed_leaf) (bits_of (45 ∷ 48 ∷ 48 ∷ [])) (record { path = []; reason = not_minimal; at = 0 }) 24
-minus_zero = leaf_fails signed_leaf _ not_minimal 24 (inr (omega arith, (wrong not_minimal, minus_nothing (refl, ((omega arith, omega arith), ((omega arith, omega arith), tt)), refl, refl), refl), refl))
+minus_zero = leaf_fails signed_leaf _ not_minimal 24 (code_not_permitted (omega arith, (wrong not_minimal, minus_nothing (refl, ((omega arith, omega arith), ((omega arith, omega arith), tt)), refl, refl), refl), refl))
 
 -- INTEGER (0..9999) in decimal digits with an end: 120 is 12 0f, and 0 in front is not minimal
 abbrev ended_leaf : NumLeaf

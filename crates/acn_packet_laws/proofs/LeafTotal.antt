@@ -7,7 +7,7 @@ use Rattle.acn_num.specs.Bits.{number, low_bits, bits}
 use Rattle.acn_num.specs.Ranges.{has}
 use Rattle.acn_grammar.specs.Code.{Any, CodingCode, nibbles, digit_octets, SignOctet, image_of}
 use Rattle.acn_grammar.specs.Images.{images_of}
-use Rattle.acn_grammar.specs.LeafFails.{Reason, short, out_of_range, not_minimal, bad_digit, bad_pattern, Wire, says, wrong, nibbles_of, octet_values, AllDigits, value_of, OnePatternWire, FixedWire, NoneHas, FixedFails, plus_digits, minus_digits, minus_nothing, no_signed_digits}
+use Rattle.acn_grammar.specs.LeafFails.{Reason, short, out_of_range, not_minimal, bad_digit, bad_pattern, Wire, says, wrong, nibbles_of, octet_values, AllDigits, value_of, OnePatternWire, FixedWire, NoneHas, FixedFails, plus_digits, minus_digits, minus_nothing, no_signed_digits, code_cut, code_not_permitted}
 use Rattle.acn_grammar.specs.Leaves.{num_fine, same_bits}
 use Rattle.acn_grammar.specs.Length.{flag_width}
 use Rattle.acn_grammar.specs.declared.node.NumCoding.{NumCoding}
@@ -208,7 +208,7 @@ pub fixed_total : (coding : NumCoding) (leaf : NumLeaf) → IsTrue (num_fine lea
 fixed_total coding leaf fine is width wire input = by (less_or_not (length input) width)
   where
     said : (w : Wire) → width ≤ length input → FixedWire coding leaf.little (take width input) w → CodesWire coding leaf.little (take width input) w → CodeAtFront leaf input ⊎ ((r : Reason) × (reach : ℕ) × FixedFails coding leaf width input r reach)
-    said (wrong e) h f c = inr (e, width, inr (h, (wrong e, f, refl), refl))
+    said (wrong e) h f c = inr (e, width, code_not_permitted (h, (wrong e, f, refl), refl))
     said (says v y) h f c = imaged (image_or_none leaf fine y)
       where
         imaged : ((x : ℤ) × (has leaf.set x ≡ true) × (image_of leaf x ≡ Some y)) ⊎ NoneHas leaf y → CodeAtFront leaf input ⊎ ((r : Reason) × (reach : ℕ) × FixedFails coding leaf width input r reach)
@@ -219,8 +219,8 @@ fixed_total coding leaf fine is width wire input = by (less_or_not (length input
           whole = sym (take-append-drop width input);
           codes = record { permitted = i.1; image = y; maps = i.2; spelled = subst (λ (z : NumCoding). CodingCode Any z leaf.little y (take width input)) (sym is) c };
         })
-        imaged (inr n) = inr (out_of_range v, width, inr (h, (says v y, f, (n, refl)), refl))
+        imaged (inr n) = inr (out_of_range v, width, code_not_permitted (h, (says v y, f, (n, refl)), refl))
 
     by : (length input < width) ⊎ (width ≤ length input) → CodeAtFront leaf input ⊎ ((r : Reason) × (reach : ℕ) × FixedFails coding leaf width input r reach)
-    by (inl h) = inr (short, length input, inl (h, refl, refl))
+    by (inl h) = inr (short, length input, code_cut (h, refl, refl))
     by (inr h) = (let w = wire (take width input) (length-take-le width input h) in said w.wire h w.stands w.codes)

@@ -1,15 +1,15 @@
 -- Rows of elements: where a pattern ends the list, and where each has a size of its own.
-use Rattle.std.proofs.Common.{◌≡◌, ℕ, pos, Bool, false, List, [], ◌∷◌, ◌++◌, length, replicate, None, refl, sym, ap, arith, inl, inr}
+use Rattle.std.proofs.Common.{◌≡◌, ℕ, pos, Bool, false, List, [], ◌∷◌, ◌++◌, length, replicate, None, refl, sym, ap, arith}
 use Rattle.std.specs.Prelude.{IsTrue}
 use Rattle.std.proofs.lemmas.Int.{ints}
 use Rattle.std.proofs.lemmas.List.{append-nil}
 use Rattle.acn_num.specs.Bits.{low_bits, bits as bits_of}
 use Rattle.acn_num.specs.Ranges.{In}
 use Rattle.acn_grammar.specs.Code.{Mode, Written, Any, Code}
-use Rattle.acn_grammar.specs.Fails.{Fails, Refusal}
+use Rattle.acn_grammar.specs.Fails.{Fails, Refusal, fails_at_component, fails_at_element, fails_behind_element, fails_behind_inserted, fails_behind_padding, fails_behind_presence, fails_behind_size, fails_at_size, fails_behind_next, next_element_fails}
 use Rattle.acn_grammar.specs.Front.{IsWritten}
 use Rattle.acn_grammar.specs.Grammar.{int, list_of, element, no_elements}
-use Rattle.acn_grammar.specs.LeafFails.{short, out_of_range, size_out_of_range, says}
+use Rattle.acn_grammar.specs.LeafFails.{short, out_of_range, size_out_of_range, says, code_cut, code_not_permitted}
 use Rattle.acn_grammar.specs.Shaped.{are_octets}
 use Rattle.acn_grammar.specs.Spell.{Spell}
 use Rattle.acn_grammar.specs.declared.node.NumCoding.TheVariants.{PosInt}
@@ -47,14 +47,14 @@ one_written = record {
 }
 
 third_wanting : Refusal (ended_list 0) (bits_of (1 ∷ 2 ∷ [])) (record { path = 2 ∷ []; reason = short; at = 16 }) 24
-third_wanting = inr (record {
+third_wanting = fails_behind_padding (record {
   front = [];
   back = bits_of (1 ∷ 2 ∷ []);
   whole = refl;
   spelled = none Any 0;
   more = 24;
   reaches = refl;
-  fails = inr (inr (
+  fails = fails_behind_next (
     int (pos 1),
     record {
       front = low_bits 8 1;
@@ -63,7 +63,7 @@ third_wanting = inr (record {
       spelled = one Any 0;
       more = 16;
       reaches = refl;
-      fails = inr (inr (
+      fails = fails_behind_next (
         int (pos 2),
         record {
           front = low_bits 8 2;
@@ -72,40 +72,52 @@ third_wanting = inr (record {
           spelled = two Any 8;
           more = 8;
           reaches = refl;
-          fails = inr (inl (
-            (λ e. cc),
-            (0, inr (record { front = []; back = []; whole = refl; spelled = none Any 16; more = 0; reaches = refl; fails = (short, inl (omega arith, refl, refl), refl) }), refl),
-          ));
+          fails = next_element_fails (record {
+            differs = λ e. cc;
+            inner = 0;
+            fails = fails_behind_padding (record {
+              front = [];
+              back = [];
+              whole = refl;
+              spelled = none Any 16;
+              more = 0;
+              reaches = refl;
+              fails = record { reason = short; fails = code_cut (omega arith, refl, refl); says = refl };
+            });
+            reaches = refl;
+          });
         },
-      ));
+      );
     },
-  ));
+  );
 })
 
 too_great : Refusal (ended_list 0) (bits_of (201 ∷ 255 ∷ [])) (record { path = 0 ∷ []; reason = out_of_range (pos 201); at = 0 }) 8
-too_great = inr (record {
+too_great = fails_behind_padding (record {
   front = [];
   back = bits_of (201 ∷ 255 ∷ []);
   whole = refl;
   spelled = none Any 0;
   more = 8;
   reaches = refl;
-  fails = inr (inl (
-    (λ e. cc),
-    (
-      8,
-      inr (record {
-        front = [];
-        back = bits_of (201 ∷ 255 ∷ []);
-        whole = refl;
-        spelled = none Any 0;
-        more = 8;
-        reaches = refl;
-        fails = (out_of_range (pos 201), inr (omega arith, (says (pos 201) (pos 201), refl, (none_is (pos 0) (pos 200) (pos 201) refl, refl)), refl), refl);
-      }),
-      refl,
-    ),
-  ));
+  fails = next_element_fails (record {
+    differs = λ e. cc;
+    inner = 8;
+    fails = fails_behind_padding (record {
+      front = [];
+      back = bits_of (201 ∷ 255 ∷ []);
+      whole = refl;
+      spelled = none Any 0;
+      more = 8;
+      reaches = refl;
+      fails = record {
+        reason = out_of_range (pos 201);
+        fails = code_not_permitted (omega arith, (says (pos 201) (pos 201), refl, (none_is (pos 0) (pos 200) (pos 201) refl, refl)), refl);
+        says = refl;
+      };
+    });
+    reaches = refl;
+  });
 })
 
 no_end : bits_of (1 ∷ 255 ∷ []) ≡ bits_of (1 ∷ []) → ⊥
@@ -194,45 +206,54 @@ one_and_none = record {
 }
 
 four_octets : Fails sized_elements sized_element [] false 0 (1 ∷ []) 10 (low_bits 8 4 ++ low_bits 6 0) (record { path = 1 ∷ 1 ∷ []; reason = size_out_of_range 4; at = 18 }) 8
-four_octets = inr (record {
+four_octets = fails_behind_padding (record {
   front = [];
   back = _;
   whole = refl;
   spelled = none Any 10;
   more = 8;
   reaches = refl;
-  fails = inr (
-    pos 4 ∷ [],
-    refl,
-    (refl, tt),
-    (
-      omega arith,
-      (
-        8,
-        inr (record {
-          front = low_bits 8 4;
-          back = low_bits 6 0;
-          whole = refl;
-          spelled = (pos 4, refl, record { front = []; back = _; whole = refl; first = none Any 10; second = record { permitted = refl; image = pos 4; maps = refl; spelled = (refl, refl) } });
-          more = 0;
-          reaches = refl;
-          fails = inl (tt, inl (inr (record { front = []; back = _; whole = refl; spelled = none Any 18; more = 0; reaches = refl; fails = inl (pos 4, refl, (λ h. cc), refl, refl) })));
-        }),
-        refl,
-      ),
-    ),
-  );
+  fails = fails_behind_presence (record {
+    numbers = pos 4 ∷ [];
+    count = refl;
+    permitted = (refl, tt);
+    behind = record {
+      there = omega arith;
+      more = 8;
+      fails = fails_behind_inserted (record {
+        front = low_bits 8 4;
+        back = low_bits 6 0;
+        whole = refl;
+        spelled = (pos 4, refl, record { front = []; back = _; whole = refl; first = none Any 10; second = record { permitted = refl; image = pos 4; maps = refl; spelled = (refl, refl) } });
+        more = 0;
+        reaches = refl;
+        fails = fails_at_component (
+          tt,
+          fails_behind_padding (record {
+            front = [];
+            back = _;
+            whole = refl;
+            spelled = none Any 18;
+            more = 0;
+            reaches = refl;
+            fails = fails_at_size (record { number = pos 4; stands = refl; refused = λ h. cc; says = refl; reaches = refl });
+          }),
+        );
+      });
+      reaches = refl;
+    };
+  });
 })
 
 second_refused : Refusal sized_elements (bits_of (128 ∷ 1 ∷ 0 ∷ [])) (record { path = 1 ∷ 1 ∷ []; reason = size_out_of_range 4; at = 18 }) 18
-second_refused = inr (record {
+second_refused = fails_behind_padding (record {
   front = [];
   back = _;
   whole = refl;
   spelled = none Any 0;
   more = 18;
   reaches = refl;
-  fails = inr (record {
+  fails = fails_behind_size (record {
     n = 2;
     behind = record {
       front = low_bits 2 2;
@@ -241,7 +262,10 @@ second_refused = inr (record {
       spelled = record { given = refl; spelled = record { given = omega arith; spelled = record { width = refl; value = refl } } };
       more = 16;
       reaches = refl;
-      fails = inr (holding [], record { front = low_bits 8 0; back = low_bits 8 4 ++ low_bits 6 0; whole = refl; spelled = no_octets Any 2; more = 8; reaches = refl; fails = inl four_octets });
+      fails = fails_behind_element (
+        holding [],
+        record { front = low_bits 8 0; back = low_bits 8 4 ++ low_bits 6 0; whole = refl; spelled = no_octets Any 2; more = 8; reaches = refl; fails = fails_at_element (four_octets) },
+      );
     };
   });
 })

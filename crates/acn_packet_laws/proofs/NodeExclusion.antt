@@ -1,10 +1,10 @@
 -- A front and a failure of one node exclude each other, and two failures are one, from the same of leaves and ended texts.
-use Rattle.std.proofs.Common.{◌≡◌, ℕ, zero, suc, ◌+◌, ◌*◌, ◌<◌, ◌≤◌, ℤ, pos, Bool, true, false, List, [], ◌∷◌, ◌++◌, length, take, drop, Option, Some, None, refl, sym, ap, ◌∙◌, arith, inl, inr, ◌⊎◌, subst, length-append, IsTrue}
+use Rattle.std.proofs.Common.{◌≡◌, ℕ, zero, suc, ◌+◌, ◌*◌, ◌<◌, ◌≤◌, ℤ, pos, Bool, true, false, List, [], ◌∷◌, ◌++◌, length, take, drop, Option, Some, None, refl, sym, ap, ◌∙◌, arith, subst, length-append, IsTrue}
 use Rattle.std.specs.Prelude.{slice_get}
 use Rattle.acn_num.specs.Bits.{number, bits as bits_of}
 use Rattle.acn_grammar.specs.Code.{Any, Code}
 use Rattle.acn_grammar.specs.Env.{Env, at_slot, AllHold, MayBeThere, MayBeAway}
-use Rattle.acn_grammar.specs.Fails.{Fault, Failing, Behind, Here, Says, Short, CharactersFail, TextFails, presence_count, IsThere, flags_behind, count_of, RunFails, ListFails, After, Overlong, NoneChosen, Fails, FormFails, FieldsFail, AlternativeFails, seen}
+use Rattle.acn_grammar.specs.Fails.{Fault, Failing, Here, Short, CharactersFail, TextFails, presence_count, IsThere, flags_behind, count_of, RunFails, ListFails, After, NoneChosen, Fails, FormFails, FieldsFail, AlternativeFails, seen, ContentFails, NumberFails, PaddedFails, characters_cut, characters_not_permitted, index_cut, index_too_great, fails_at_index, fails_at_alternative, padding_cut, fails_behind_padding, presence_cut, fails_behind_presence, fails_at_component, fails_behind_component, fails_behind_absent, fails_at_inserted, fails_behind_inserted, window_cut, content_fails, content_overlong}
 use Rattle.acn_grammar.specs.Grammar.{Grammar, Form, Fields, Alternatives, Data, Places, node, num, octets, bits, text, seq, list, choice, contained, no_fields, component, inserted, no_alternatives, alternative, null, octet_string, bit_string, characters, record_of, list_of, alt, no_places, empty, filled, element_count, Elements}
 use Rattle.acn_grammar.specs.LeafFails.{Reason, LeafFails, content_size}
 use Rattle.acn_grammar.specs.Leaves.{num_fine, text_fine}
@@ -47,21 +47,21 @@ padding_long : (align at : ℕ) (a : List Bool) → Padding Any align at a → p
 padding_long align at a p = let l = Padding-length Any align at a p in omega arith
 
 characters_excl : (here : Here) (leaf : TextLeaf) (cs : List ℕ) (n : ℕ) → length cs ≡ n → Excl (CharactersPart leaf cs) (CharactersFail here leaf n)
-characters_excl here leaf cs n e at a r fault reach p (inl f) =
+characters_excl here leaf cs n e at a r fault reach p (characters_cut f) =
     let l = characters_long leaf cs at a p in
     let w = length-append a r in
     let s = f.0 in
     let same : leaf.width * length cs ≡ leaf.width * n = ap (λ k. leaf.width * k) e in
     absurd (omega arith)
-characters_excl here leaf cs n e at a r fault reach p (inr f) =
+characters_excl here leaf cs n e at a r fault reach p (characters_not_permitted f) =
     let l : length a ≡ leaf.width * n = characters_long leaf cs at a p ∙ ap (λ k. leaf.width * k) e in
     f.1 cs at (subst (λ (x : List Bool). CharactersPart leaf cs at x) (sym (take_n (leaf.width * n) a r l)) p)
 
 characters_same : (here : Here) (leaf : TextLeaf) (n : ℕ) → Same (CharactersFail here leaf n) (CharactersFail here leaf n)
-characters_same here leaf n at rest f g m k (inl p) (inl q) = (p.1 ∙ sym q.1, p.2 ∙ sym q.2)
-characters_same here leaf n at rest f g m k (inl p) (inr q) = let a = p.0 in let b = q.0 in absurd (omega arith)
-characters_same here leaf n at rest f g m k (inr p) (inl q) = let a = p.0 in let b = q.0 in absurd (omega arith)
-characters_same here leaf n at rest f g m k (inr p) (inr q) = (p.2 ∙ sym q.2, p.3 ∙ sym q.3)
+characters_same here leaf n at rest f g m k (characters_cut p) (characters_cut q) = (p.1 ∙ sym q.1, p.2 ∙ sym q.2)
+characters_same here leaf n at rest f g m k (characters_cut p) (characters_not_permitted q) = let a = p.0 in let b = q.0 in absurd (omega arith)
+characters_same here leaf n at rest f g m k (characters_not_permitted p) (characters_cut q) = let a = p.0 in let b = q.0 in absurd (omega arith)
+characters_same here leaf n at rest f g m k (characters_not_permitted p) (characters_not_permitted q) = (p.2 ∙ sym q.2, p.3 ∙ sym q.3)
 
 -- Presence.
 
@@ -109,31 +109,36 @@ after_excl : (n : ℕ) {P P2 : Part} (F : Failing) → ((at : ℕ) (a : List Boo
 after_excl n {P} {P2} F long h at a r fault reach t f =
     let l = long at t.front t.first in
     let rest : drop n (a ++ r) ≡ t.back ++ r = ap (drop n) (whole_of a t.front t.back r t.whole) ∙ drop_n n t.front (t.back ++ r) l in
-    h (at + n) t.back r fault f.1.0 (subst (λ (k : ℕ). P2 (at + k) t.back) l t.second) (subst (λ (x : List Bool). F (at + n) x fault f.1.0) rest f.1.1)
+    h (at + n) t.back r fault f.more (subst (λ (k : ℕ). P2 (at + k) t.back) l t.second) (subst (λ (x : List Bool). F (at + n) x fault f.more) rest f.fails)
 
 after_same : (n : ℕ) (F G : Failing) → Same F G → Same (After n F) (After n G)
 after_same n F G h at rest f g m k p q =
-    let one = h (at + n) (drop n rest) f g p.1.0 q.1.0 p.1.1 q.1.1 in
+    let one = h (at + n) (drop n rest) f g p.more q.more p.fails q.fails in
     let more = one.1 in
-    let a = p.1.2 in
-    let b = q.1.2 in
+    let a = p.reaches in
+    let b = q.reaches in
     (one.0, omega arith)
 
 -- Windows.
 
+abbrev WindowFails : Grammar → Here → Grammar → Env → (origin n : ℕ) → Failing
+WindowFails root here g env origin n = ContentFails here (Spell root Any g env) (λ place. Fails root g env true (origin + place) (here.path ++ 0 ∷ [])) n
+
 window_excl : (root : Grammar) (here : Here) (g : Grammar) (env env' : Env) (d : Data) (origin at n m : ℕ) → n ≡ m
     → Excl (Spell root Any g env d) (Fails root g env' true (origin + at) (here.path ++ 0 ∷ [])) → ((d' : Data) → Law (Spell root Any g env d) (Spell root Any g env' d') (d ≡ d'))
-    → (a r : List Bool) (fault : Fault) (reach : ℕ) → Window (Spell root Any g env d) (Fill Any) n at a
-    → Short here (8 * m) at (a ++ r) fault reach ⊎ ((8 * m ≤ length (a ++ r)) × (((inner : ℕ) × Fails root g env' true (origin + at) (here.path ++ 0 ∷ []) 0 (take (8 * m) (a ++ r)) fault inner) ⊎ ((d' : Data) × Overlong root here m (Spell root Any g env' d') (take (8 * m) (a ++ r)) fault)) × (reach ≡ 8 * m)) → ⊥
-window_excl root here g env env' d origin at n m same excl law a r fault reach w (inl f) = let s = w.size in let l = length-append a r in let t = f.0 in absurd (omega arith)
-window_excl root here g env env' d origin at n m same excl law a r fault reach w (inr f) = by f.1
+    → (a r : List Bool) (fault : Fault) (reach : ℕ) → Window (Spell root Any g env d) (Fill Any) n at a → WindowFails root here g env' origin m at (a ++ r) fault reach → ⊥
+window_excl root here g env env' d origin at n m same excl law a r fault reach w f = by f
   where
     front : take (8 * m) (a ++ r) ≡ w.inside.front ++ w.inside.back
     front = take_n (8 * m) a r (w.size ∙ ap (λ k. 8 * k) same) ∙ w.inside.whole
 
-    by : ((inner : ℕ) × Fails root g env' true (origin + at) (here.path ++ 0 ∷ []) 0 (take (8 * m) (a ++ r)) fault inner) ⊎ ((d' : Data) × Overlong root here m (Spell root Any g env' d') (take (8 * m) (a ++ r)) fault) → ⊥
-    by (inl x) = excl 0 w.inside.front w.inside.back fault x.0 w.inside.first (subst (λ (z : List Bool). Fails root g env' true (origin + at) (here.path ++ 0 ∷ []) 0 z fault x.0) front x.1)
-    by (inr x) =
+    by : WindowFails root here g env' origin m at (a ++ r) fault reach → ⊥
+    by (window_cut f) = let s = w.size in let l = length-append a r in let t = f.0 in absurd (omega arith)
+    by (content_fails f) =
+        let x = f.1 in
+        excl 0 w.inside.front w.inside.back fault x.0 w.inside.first (subst (λ (z : List Bool). Fails root g env' true (origin + at) (here.path ++ 0 ∷ []) 0 z fault x.0) front x.1)
+    by (content_overlong f) =
+        let x = f.1 in
         let o = x.1 in
         let one = law x.0 0 w.inside.front o.used w.inside.back o.left w.inside.first o.spelled (sym front ∙ o.whole) in
         let rest = (same_front w.inside.front o.used w.inside.back o.left (ap length one.0) (sym front ∙ o.whole)).1 in
@@ -142,27 +147,31 @@ window_excl root here g env env' d origin at n m same excl law a r fault reach w
         let byte = o.byte in
         absurd (omega arith)
 
-abbrev WindowFails : Grammar → Here → Grammar → Env → (origin n : ℕ) → Failing
-WindowFails root here g env origin n at back fault reach =
-    Short here (8 * n) at back fault reach
-    ⊎ ((8 * n ≤ length back) × (((inner : ℕ) × Fails root g env true (origin + at) (here.path ++ 0 ∷ []) 0 (take (8 * n) back) fault inner) ⊎ ((d : Data) × Overlong root here n (Spell root Any g env d) (take (8 * n) back) fault)) × (reach ≡ 8 * n))
-
 window_same : (root : Grammar) (here : Here) (g : Grammar) (env env' : Env) (origin n : ℕ)
     → ((path : List ℕ) (o : ℕ) → Same (Fails root g env true o path) (Fails root g env' true o path)) → ((d : Data) (path : List ℕ) (o : ℕ) → Excl (Spell root Any g env d) (Fails root g env' true o path)) → ((d : Data) (path : List ℕ) (o : ℕ) → Excl (Spell root Any g env' d) (Fails root g env true o path))
     → ((d d' : Data) → Law (Spell root Any g env d) (Spell root Any g env' d') (d ≡ d')) → Same (WindowFails root here g env origin n) (WindowFails root here g env' origin n)
-window_same root here g env env' origin n same x y law at rest f g' m k (inl p) (inl q) = (p.1 ∙ sym q.1, p.2 ∙ sym q.2)
-window_same root here g env env' origin n same x y law at rest f g' m k (inl p) (inr q) = let a = p.0 in let b = q.0 in absurd (omega arith)
-window_same root here g env env' origin n same x y law at rest f g' m k (inr p) (inl q) = let a = p.0 in let b = q.0 in absurd (omega arith)
-window_same root here g env env' origin n same x y law at rest f g' m k (inr p) (inr q) = (by p.1 q.1, p.2 ∙ sym q.2)
-  where
-    by : ((inner : ℕ) × Fails root g env true (origin + at) (here.path ++ 0 ∷ []) 0 (take (8 * n) rest) f inner) ⊎ ((d : Data) × Overlong root here n (Spell root Any g env d) (take (8 * n) rest) f)
-        → ((inner : ℕ) × Fails root g env' true (origin + at) (here.path ++ 0 ∷ []) 0 (take (8 * n) rest) g' inner) ⊎ ((d : Data) × Overlong root here n (Spell root Any g env' d) (take (8 * n) rest) g') → f ≡ g'
-    by (inl u) (inl v) = (same (here.path ++ 0 ∷ []) (origin + at) 0 (take (8 * n) rest) f g' u.0 v.0 u.1 v.1).0
-    by (inl u) (inr v) = absurd (y v.0 (here.path ++ 0 ∷ []) (origin + at) 0 v.1.used v.1.left f u.0 v.1.spelled (subst (λ (z : List Bool). Fails root g env true (origin + at) (here.path ++ 0 ∷ []) 0 z f u.0) v.1.whole u.1))
-    by (inr u) (inl v) = absurd (x u.0 (here.path ++ 0 ∷ []) (origin + at) 0 u.1.used u.1.left g' v.0 u.1.spelled (subst (λ (z : List Bool). Fails root g env' true (origin + at) (here.path ++ 0 ∷ []) 0 z g' v.0) u.1.whole v.1))
-    by (inr u) (inr v) =
-        let one = law u.0 v.0 0 u.1.used v.1.used u.1.left v.1.left u.1.spelled v.1.spelled (sym u.1.whole ∙ v.1.whole) in
-        u.1.says ∙ (ap (λ l. record { path = here.path; reason = seen here.inside (content_size n l); at = here.place }) (ap length one.0) ∙ sym v.1.says)
+window_same root here g env env' origin n same x y law at rest f g' m k (window_cut p) (window_cut q) = (p.1 ∙ sym q.1, p.2 ∙ sym q.2)
+window_same root here g env env' origin n same x y law at rest f g' m k (window_cut p) (content_fails q) = let a = p.0 in let b = q.0 in absurd (omega arith)
+window_same root here g env env' origin n same x y law at rest f g' m k (window_cut p) (content_overlong q) = let a = p.0 in let b = q.0 in absurd (omega arith)
+window_same root here g env env' origin n same x y law at rest f g' m k (content_fails p) (window_cut q) = let a = p.0 in let b = q.0 in absurd (omega arith)
+window_same root here g env env' origin n same x y law at rest f g' m k (content_overlong p) (window_cut q) = let a = p.0 in let b = q.0 in absurd (omega arith)
+window_same root here g env env' origin n same x y law at rest f g' m k (content_fails p) (content_fails q) =
+    let u = p.1 in
+    let v = q.1 in
+    ((same (here.path ++ 0 ∷ []) (origin + at) 0 (take (8 * n) rest) f g' u.0 v.0 u.1 v.1).0, p.2 ∙ sym q.2)
+window_same root here g env env' origin n same x y law at rest f g' m k (content_fails p) (content_overlong q) =
+    let u = p.1 in
+    let v = q.1 in
+    absurd (y v.0 (here.path ++ 0 ∷ []) (origin + at) 0 v.1.used v.1.left f u.0 v.1.spelled (subst (λ (z : List Bool). Fails root g env true (origin + at) (here.path ++ 0 ∷ []) 0 z f u.0) v.1.whole u.1))
+window_same root here g env env' origin n same x y law at rest f g' m k (content_overlong p) (content_fails q) =
+    let u = p.1 in
+    let v = q.1 in
+    absurd (x u.0 (here.path ++ 0 ∷ []) (origin + at) 0 u.1.used u.1.left g' v.0 u.1.spelled (subst (λ (z : List Bool). Fails root g env' true (origin + at) (here.path ++ 0 ∷ []) 0 z g' v.0) u.1.whole v.1))
+window_same root here g env env' origin n same x y law at rest f g' m k (content_overlong p) (content_overlong q) =
+    let u = p.1 in
+    let v = q.1 in
+    let one = law u.0 v.0 0 u.1.used v.1.used u.1.left v.1.left u.1.spelled v.1.spelled (sym u.1.whole ∙ v.1.whole) in
+    (u.1.says ∙ (ap (λ l. record { path = here.path; reason = seen here.inside (content_size n l); at = here.place }) (ap length one.0) ∙ sym v.1.says), p.2 ∙ sym q.2)
 
 -- Which alternative.
 
@@ -226,20 +235,20 @@ module _ (root : Grammar) (leaf_excl : LeafExcl) (leaf_same : LeafSame) (text_ex
       sized_same root here leaf.sized ks known env env' same (CharactersFail here leaf) (CharactersFail here leaf) (λ m n e. subst (λ (k : ℕ). Same (CharactersFail here leaf m) (CharactersFail here leaf k)) e (characters_same here leaf m))
   text_part_same leaf (Some end) ks known env env' same here = text_same here leaf end env env'
 
-  leaf_part : (align : ℕ) (leaf : NumLeaf) → IsTrue (num_fine leaf) → (here : Here) (x : ℤ) → Excl (λ at bs. Code Any leaf x bs) (λ at rest fault reach. (r : Reason) × LeafFails leaf rest r reach × Says here r fault)
-  leaf_part align leaf fine here x at a r fault reach c f = leaf_excl leaf fine x a r f.0 reach c f.1
+  leaf_part : (align : ℕ) (leaf : NumLeaf) → IsTrue (num_fine leaf) → (here : Here) (x : ℤ) → Excl (λ at bs. Code Any leaf x bs) (λ at rest fault reach. NumberFails here leaf rest fault reach)
+  leaf_part align leaf fine here x at a r fault reach c f = leaf_excl leaf fine x a r f.reason reach c f.fails
 
   -- before a node
   padded_excl : (align : ℕ) (P : Part) (origin : ℕ) (path : List ℕ) (inside : Bool) (at : ℕ) (F : Failing) → Excl P F → (a r : List Bool) (fault : Fault) (reach : ℕ) → (Padding Any align then P) at a
-      → Short (record { path = path; place = origin + at; inside = inside }) (padding align at) at (a ++ r) fault reach ⊎ Behind (Padding Any align) F at (a ++ r) fault reach → ⊥
-  padded_excl align P origin path inside at F h a r fault reach t (inl f) =
+      → PaddedFails (record { path = path; place = origin + at; inside = inside }) align F at (a ++ r) fault reach → ⊥
+  padded_excl align P origin path inside at F h a r fault reach t (padding_cut f) =
       let l = padding_long align at t.front t.first in
       let s = f.0 in
       let w = ap length t.whole in
       let x = length-append t.front t.back in
       let y = length-append a r in
       absurd (omega arith)
-  padded_excl align P origin path inside at F h a r fault reach t (inr f) = excl_behind (padding_law Any align) (λ _. h) at a r fault reach t f
+  padded_excl align P origin path inside at F h a r fault reach t (fails_behind_padding f) = excl_behind (padding_law Any align) (λ _. h) at a r fault reach t f
 
   slot_excl : (align : ℕ) (leaf : NumLeaf) → IsTrue (num_fine leaf) → (env : Env) (s : ℕ) (inside : Bool) (origin : ℕ) (path : List ℕ) (at : ℕ) (a r : List Bool) (fault : Fault) (reach : ℕ) (env' : Env) → SlotField root Any (node align (num leaf)) env s at a → Fails root (node align (num leaf)) env' inside origin path at (a ++ r) fault reach → ⊥
   slot_excl align leaf fine env s inside origin path at a r fault reach env' t f =
@@ -277,7 +286,7 @@ module _ (root : Grammar) (leaf_excl : LeafExcl) (leaf_same : LeafSame) (text_ex
         padded_excl align (FormPart root Any form env d) origin path inside at (FormFails root form env' here origin) (form_excl form ks fine env env' ok same here origin d) a r fault reach t f
 
     form_excl : (form : Form) (ks : Known) → FormScoped root ks form → (env env' : Env) → Permitted root env → Agree ks env env' → (here : Here) (origin : ℕ) (d : Data) → Excl (FormPart root Any form env d) (FormFails root form env' here origin)
-    form_excl (num leaf) ks fine env env' ok same here origin d at a r fault reach t f = leaf_excl leaf fine t.0 a r f.0 reach t.2 f.1
+    form_excl (num leaf) ks fine env env' ok same here origin d at a r fault reach t f = leaf_excl leaf fine t.0 a r f.reason reach t.2 f.fails
     form_excl (octets sizing) ks fine env env' ok same here origin (octet_string os) at a r fault reach t f =
         sized_excl root here sizing ks fine env env' same (length os) (Where (IsTrue (are_octets os)) (Exactly (bits_of os))) (λ n. Short here (8 * n))
         (λ m e. excl_given (Short here (8 * m)) (excl_short here (8 * m) (λ at' a' p. let l = ap length p ∙ bits-length os in omega arith))) at a r fault reach t f
@@ -287,7 +296,7 @@ module _ (root : Grammar) (leaf_excl : LeafExcl) (leaf_same : LeafSame) (text_ex
     form_excl (bits sizing) ks fine env env' ok same here origin _ at a r fault reach t f = absurd t.0
     form_excl (text leaf) ks fine env env' ok same here origin (characters cs) at a r fault reach t f = text_part_excl leaf leaf.ended refl fine.1 ks fine.0 env env' same here cs at a r fault reach t f
     form_excl (text leaf) ks fine env env' ok same here origin _ at a r fault reach t f = absurd t.0
-    form_excl (seq fields home) ks fine env env' ok same here origin (record_of ps) at a r fault reach t (inl f) =
+    form_excl (seq fields home) ks fine env env' ok same here origin (record_of ps) at a r fault reach t (presence_cut f) =
         let c = count_flags root fields (with_home home t.numbers env) ps (at + length t.spelled.front) t.spelled.back t.spelled.second in
         let l = ap length t.spelled.first in
         let w = ap length t.spelled.whole in
@@ -295,14 +304,14 @@ module _ (root : Grammar) (leaf_excl : LeafExcl) (leaf_same : LeafSame) (text_ex
         let y = length-append a r in
         let s = f.0 in
         absurd (omega arith)
-    form_excl (seq fields home) ks fine env env' ok same here origin (record_of ps) at a r fault reach t (inr f) =
+    form_excl (seq fields home) ks fine env env' ok same here origin (record_of ps) at a r fault reach t (fails_behind_presence f) =
         let c = count_flags root fields (with_home home t.numbers env) ps (at + length t.spelled.front) t.spelled.back t.spelled.second in
         let flags : take (presence_count fields) (a ++ r) ≡ presence_bits fields ps =
         ap (take (presence_count fields)) (whole_of a t.spelled.front t.spelled.back r t.spelled.whole) ∙ (take_n (presence_count fields) t.spelled.front (t.spelled.back ++ r) (ap length t.spelled.first ∙ c) ∙ t.spelled.first) in
-        after_excl (presence_count fields) {P = Exactly (presence_bits fields ps)} {P2 = FieldsPart root Any fields (with_home home t.numbers env) ps} (FieldsFail root fields (with_home home f.0 env') (take (presence_count fields) (a ++ r)) here origin 0)
+        after_excl (presence_count fields) {P = Exactly (presence_bits fields ps)} {P2 = FieldsPart root Any fields (with_home home t.numbers env) ps} (FieldsFail root fields (with_home home f.numbers env') (take (presence_count fields) (a ++ r)) here origin 0)
         (λ at' a' p. ap length p ∙ c)
-        (fields_excl fields ks fine.1 (with_home home t.numbers env) (with_home home f.0 env') (permitted_home root home t.numbers env t.fine.permitted ok) (agree_inside ks home t.numbers f.0 env env' fine.0 same) here origin 0 ps (take (presence_count fields) (a ++ r)) flags)
-        at a r fault reach t.spelled f.3
+        (fields_excl fields ks fine.1 (with_home home t.numbers env) (with_home home f.numbers env') (permitted_home root home t.numbers env t.fine.permitted ok) (agree_inside ks home t.numbers f.numbers env env' fine.0 same) here origin 0 ps (take (presence_count fields) (a ++ r)) flags)
+        at a r fault reach t.spelled f.behind
     form_excl (seq _ home) ks fine env env' ok same here origin _ at a r fault reach t f = absurd t.0
     form_excl (list sizing g) ks fine env env' ok same here origin (list_of es) at a r fault reach t f =
         list_excl (ending sizing.rule) sizing g ks fine.0 fine.2 fine.1 env env' same here (λ k. Fails root g env' here.inside origin (here.path ++ k ∷ []))
@@ -311,67 +320,68 @@ module _ (root : Grammar) (leaf_excl : LeafExcl) (leaf_same : LeafSame) (text_ex
     form_excl (contained sizing g) ks fine env env' ok same here origin d at a r fault reach t f =
         sized_excl root here sizing ks fine.0 env env' same t.some (Window (Spell root Any g env d) (Fill Any) t.some) (WindowFails root here g env' origin)
         (λ m e at' a' r' fault' reach' w x. window_excl root here g env env' d origin at' t.some m e (node_excl g ks fine.1 env env' ok same true (origin + at') (here.path ++ 0 ∷ []) d) (λ d'. element_law g ks fine.1 env env' ok same d d') a' r' fault' reach' w x) at a r fault reach t.spelled f
-    form_excl (choice cases (Index width)) ks fine env env' ok same here origin (alt i d) at a r fault reach t (inl (inl f)) =
+    form_excl (choice cases (Index width)) ks fine env env' ok same here origin (alt i d) at a r fault reach t (fails_at_index (index_cut f)) =
         let l = t.first.width in
         let w = ap length t.whole in
         let x = length-append t.front t.back in
         let y = length-append a r in
         let s = f.0 in
         absurd (omega arith)
-    form_excl (choice cases (Index width)) ks fine env env' ok same here origin (alt i d) at a r fault reach t (inl (inr f)) =
+    form_excl (choice cases (Index width)) ks fine env env' ok same here origin (alt i d) at a r fault reach t (fails_at_index (index_too_great f)) =
         let is : number (take width (a ++ r)) ≡ i = ap number (ap (take width) (whole_of a t.front t.back r t.whole) ∙ take_n width t.front (t.back ++ r) t.first.width) ∙ t.first.value in
         let below = below_spelled root cases (Index width) env i d (at + length t.front) t.back t.second in
         let many = f.1 in
         absurd (omega arith)
-    form_excl (choice cases (Index width)) ks fine env env' ok same here origin (alt i d) at a r fault reach t (inr f) =
+    form_excl (choice cases (Index width)) ks fine env env' ok same here origin (alt i d) at a r fault reach t (fails_at_alternative f) =
         let is : number (take width (a ++ r)) ≡ i = ap number (ap (take width) (whole_of a t.front t.back r t.whole) ∙ take_n width t.front (t.back ++ r) t.first.width) ∙ t.first.value in
-        let same_index : i ≡ f.0 = sym is ∙ f.1 in
-        after_excl width {P2 = AlternativePart root Any cases (Index width) env i d} (AlternativeFails root cases (Index width) env' here origin f.0 f.0) (λ at' a' p. p.width)
-        (subst (λ (j : ℕ). Excl (AlternativePart root Any cases (Index width) env i d) (AlternativeFails root cases (Index width) env' here origin j j)) same_index (alternative_excl cases ks fine (Index width) env env' ok same here origin i i d)) at a r fault reach t f.2
-    form_excl (choice cases Tests) ks fine env env' ok same here origin (alt i d) at a r fault reach t (inl f) =
-        none_spelled root cases Tests env env' (transfers_tests root cases ks env env' same fine.1) f.0 i d (at + length t.front) t.back t.second
-    form_excl (choice cases Tests) ks fine env env' ok same here origin (alt i d) at a r fault reach t (inr f) =
+        let same_index : i ≡ f.index = sym is ∙ f.stands in
+        after_excl width {P2 = AlternativePart root Any cases (Index width) env i d} (AlternativeFails root cases (Index width) env' here origin f.index f.index) (λ at' a' p. p.width)
+        (subst (λ (j : ℕ). Excl (AlternativePart root Any cases (Index width) env i d) (AlternativeFails root cases (Index width) env' here origin j j)) same_index (alternative_excl cases ks fine (Index width) env env' ok same here origin i i d)) at a r fault reach t f.behind
+    form_excl (choice cases Tests) ks fine env env' ok same here origin (alt i d) at a r fault reach t (fails_at_index f) =
+        none_spelled root cases Tests env env' (transfers_tests root cases ks env env' same fine.1) f.none i d (at + length t.front) t.back t.second
+    form_excl (choice cases Tests) ks fine env env' ok same here origin (alt i d) at a r fault reach t (fails_at_alternative f) =
         let mine = chosen_at root cases env i d (at + length t.front) t.back t.second in
-        let fails = f.2.1.1 in
-        let other = fails_tests root cases env' here origin f.0 f.0 (at + 0) (drop 0 (a ++ r)) fault f.2.1.0 fails in
-        let below = below_fails root cases Tests env' here origin f.0 f.0 (at + 0) (drop 0 (a ++ r)) fault f.2.1.0 fails in
-        let same_index : i ≡ f.0 = fine.2 env ok i f.0 mine.0 below mine.1 (all_hold_too ks env env' same (tests_at cases f.0) (fine.1 f.0) other) in
-        after_excl 0 {P2 = AlternativePart root Any cases Tests env i d} (AlternativeFails root cases Tests env' here origin f.0 f.0) (λ at' a' p. ap length p)
-        (subst (λ (j : ℕ). Excl (AlternativePart root Any cases Tests env i d) (AlternativeFails root cases Tests env' here origin j j)) same_index (alternative_excl cases ks fine.0 Tests env env' ok same here origin i i d)) at a r fault reach t f.2
-    form_excl (choice cases (Item s)) ks fine env env' ok same here origin (alt i d) at a r fault reach t (inl f) =
-        none_spelled root cases (Item s) env env' (transfers_item root cases s env env' (same s fine.1)) f.0 i d (at + length t.front) t.back t.second
-    form_excl (choice cases (Item s)) ks fine env env' ok same here origin (alt i d) at a r fault reach t (inr f) =
+        let fails = f.behind.fails in
+        let other = fails_tests root cases env' here origin f.index f.index (at + 0) (drop 0 (a ++ r)) fault f.behind.more fails in
+        let below = below_fails root cases Tests env' here origin f.index f.index (at + 0) (drop 0 (a ++ r)) fault f.behind.more fails in
+        let same_index : i ≡ f.index = fine.2 env ok i f.index mine.0 below mine.1 (all_hold_too ks env env' same (tests_at cases f.index) (fine.1 f.index) other) in
+        after_excl 0 {P2 = AlternativePart root Any cases Tests env i d} (AlternativeFails root cases Tests env' here origin f.index f.index) (λ at' a' p. ap length p)
+        (subst (λ (j : ℕ). Excl (AlternativePart root Any cases Tests env i d) (AlternativeFails root cases Tests env' here origin j j)) same_index (alternative_excl cases ks fine.0 Tests env env' ok same here origin i i d)) at a r fault reach t f.behind
+    form_excl (choice cases (Item s)) ks fine env env' ok same here origin (alt i d) at a r fault reach t (fails_at_index f) =
+        none_spelled root cases (Item s) env env' (transfers_item root cases s env env' (same s fine.1)) f.none i d (at + length t.front) t.back t.second
+    form_excl (choice cases (Item s)) ks fine env env' ok same here origin (alt i d) at a r fault reach t (fails_at_alternative f) =
         let mine = item_at root cases s env i d (at + length t.front) t.back t.second in
-        let other = fails_item root cases s env' here origin f.0 f.0 (at + 0) (drop 0 (a ++ r)) fault f.2.1.0 f.2.1.1 in
+        let other = fails_item root cases s env' here origin f.index f.index (at + 0) (drop 0 (a ++ r)) fault f.behind.more f.behind.fails in
         let name = same_item_name root (items_of root s) mine.1 other.1 mine.0 other.0 mine.2 other.2 (at_slot env s) (at_slot env' s) (same s fine.1) mine.4 other.4 mine.5 other.5 in
-        let same_index : i ≡ f.0 = names_one (names_of cases) i f.0 mine.0 fine.2 mine.3 (other.3 ∙ ap Some (sym name)) in
-        after_excl 0 {P2 = AlternativePart root Any cases (Item s) env i d} (AlternativeFails root cases (Item s) env' here origin f.0 f.0) (λ at' a' p. ap length p)
-        (subst (λ (j : ℕ). Excl (AlternativePart root Any cases (Item s) env i d) (AlternativeFails root cases (Item s) env' here origin j j)) same_index (alternative_excl cases ks fine.0 (Item s) env env' ok same here origin i i d)) at a r fault reach t f.2
+        let same_index : i ≡ f.index = names_one (names_of cases) i f.index mine.0 fine.2 mine.3 (other.3 ∙ ap Some (sym name)) in
+        after_excl 0 {P2 = AlternativePart root Any cases (Item s) env i d} (AlternativeFails root cases (Item s) env' here origin f.index f.index) (λ at' a' p. ap length p)
+        (subst (λ (j : ℕ). Excl (AlternativePart root Any cases (Item s) env i d) (AlternativeFails root cases (Item s) env' here origin j j)) same_index (alternative_excl cases ks fine.0 (Item s) env env' ok same here origin i i d)) at a r fault reach t f.behind
     form_excl (choice cases (Index width)) ks fine env env' ok same here origin _ at a r fault reach t f = absurd t.0
     form_excl (choice cases Tests) ks fine env env' ok same here origin _ at a r fault reach t f = absurd t.0
     form_excl (choice cases (Item s)) ks fine env env' ok same here origin _ at a r fault reach t f = absurd t.0
 
     fields_excl : (fs : Fields) (ks : Known) → FieldsScoped root ks fs → (env env' : Env) → Permitted root env → Agree ks env env' → (here : Here) (origin k : ℕ) (ps : Places) (flags : List Bool) → flags ≡ presence_bits fs ps → Excl (FieldsPart root Any fs env ps) (FieldsFail root fs env' flags here origin k)
     fields_excl no_fields ks fine env env' ok same here origin k ps flags e at a r fault reach t f = absurd f
-    fields_excl (component name g presence default own fs) ks fine env env' ok same here origin k (filled d ps) flags e at a r fault reach t (inl (there, inl f)) =
+    fields_excl (component name g presence default own fs) ks fine env env' ok same here origin k (filled d ps) flags e at a r fault reach t (fails_at_component f) =
         excl_first {P = Where (MayBeThere env presence × Carries env own d) (Spell root Any g env d)} {P2 = FieldsPart root Any fs env ps} (Fails root g env' here.inside origin (here.path ++ k ∷ []))
-        (excl_given (Fails root g env' here.inside origin (here.path ++ k ∷ [])) (node_excl g ks fine.1 env env' ok same here.inside origin (here.path ++ k ∷ []) d)) at a r fault reach t f
-    fields_excl (component name g presence default own fs) ks fine env env' ok same here origin k (filled d ps) flags e at a r fault reach t (inl (there, inr f)) =
-        excl_behind (own_law root own (after ks g) env env' d f.0 (λ x. x.1) (λ x. x) (spell_law root g ks fine.1 env env' ok same d f.0))
-        (λ h. fields_excl fs (choose_known presence ks (with_own own (after ks g))) fine.2 env env' ok (after_there root presence ks (with_own own (after ks g)) env env' same h.1) here origin (suc k) ps (flags_behind presence flags) (flags_rest presence true flags (presence_bits fs ps) e)) at a r fault reach t f.1
-    fields_excl (component name g presence default own fs) ks fine env env' ok same here origin k (filled d ps) flags e at a r fault reach t (inr f) = f.0 (is_there ks env env' same presence fine.0 flags (presence_bits fs ps) e t.first.given.0)
-    fields_excl (component name g presence default own fs) ks fine env env' ok same here origin k (empty ps) flags e at a r fault reach t (inl f) = not_there ks env env' same presence fine.0 flags (presence_bits fs ps) e t.given f.0
-    fields_excl (component name g presence default own fs) ks fine env env' ok same here origin k (empty ps) flags e at a r fault reach t (inr f) =
+        (excl_given (Fails root g env' here.inside origin (here.path ++ k ∷ [])) (node_excl g ks fine.1 env env' ok same here.inside origin (here.path ++ k ∷ []) d)) at a r fault reach t f.1
+    fields_excl (component name g presence default own fs) ks fine env env' ok same here origin k (filled d ps) flags e at a r fault reach t (fails_behind_component f) =
+        excl_behind (own_law root own (after ks g) env env' d f.1.0 (λ x. x.1) (λ x. x) (spell_law root g ks fine.1 env env' ok same d f.1.0))
+        (λ h. fields_excl fs (choose_known presence ks (with_own own (after ks g))) fine.2 env env' ok (after_there root presence ks (with_own own (after ks g)) env env' same h.1) here origin (suc k) ps (flags_behind presence flags) (flags_rest presence true flags (presence_bits fs ps) e)) at a r fault reach t f.1.1
+    fields_excl (component name g presence default own fs) ks fine env env' ok same here origin k (filled d ps) flags e at a r fault reach t (fails_behind_absent f) = f.0 (is_there ks env env' same presence fine.0 flags (presence_bits fs ps) e t.first.given.0)
+    fields_excl (component name g presence default own fs) ks fine env env' ok same here origin k (empty ps) flags e at a r fault reach t (fails_at_component f) = not_there ks env env' same presence fine.0 flags (presence_bits fs ps) e t.given f.0
+    fields_excl (component name g presence default own fs) ks fine env env' ok same here origin k (empty ps) flags e at a r fault reach t (fails_behind_component f) = not_there ks env env' same presence fine.0 flags (presence_bits fs ps) e t.given f.0
+    fields_excl (component name g presence default own fs) ks fine env env' ok same here origin k (empty ps) flags e at a r fault reach t (fails_behind_absent f) =
         fields_excl fs (choose_known presence ks (with_own own (after ks g))) fine.2 env env' ok (after_away root presence ks (with_own own (after ks g)) env env' t.given same) here origin (suc k) ps (flags_behind presence flags) (flags_rest presence false flags (presence_bits fs ps) e) at a r fault reach t.spelled f.1
     fields_excl (component name g presence default own fs) ks fine env env' ok same here origin k no_places flags e at a r fault reach t f = absurd t.0
-    fields_excl (inserted name (node align (num leaf)) (Some s) fs) ks fine env env' ok same here origin k ps flags e at a r fault reach t (inl f) =
+    fields_excl (inserted name (node align (num leaf)) (Some s) fs) ks fine env env' ok same here origin k ps flags e at a r fault reach t (fails_at_inserted f) =
         slot_excl align leaf fine.0 env s here.inside origin (here.path ++ k ∷ []) at t.front (t.back ++ r) fault reach env' t.first (subst (λ (x : List Bool). Fails root (node align (num leaf)) env' here.inside origin (here.path ++ k ∷ []) at x fault reach) (whole_of a t.front t.back r t.whole) f)
-    fields_excl (inserted name (node align (num leaf)) (Some s) fs) ks fine env env' ok same here origin k ps flags e at a r fault reach t (inr f) =
+    fields_excl (inserted name (node align (num leaf)) (Some s) fs) ks fine env env' ok same here origin k ps flags e at a r fault reach t (fails_behind_inserted f) =
         excl_behind (slot_law root (node align (num leaf)) fine.0 ks env env' s same) (λ more. fields_excl fs (with_slot s ks) fine.1 env env' ok more here origin (suc k) ps flags e) at a r fault reach t f
     fields_excl (inserted name (node align _) (Some s) fs) ks fine env env' ok same here origin k ps flags e at a r fault reach t f = absurd fine.0
-    fields_excl (inserted name g None fs) ks fine env env' ok same here origin k ps flags e at a r fault reach t (inl f) =
+    fields_excl (inserted name g None fs) ks fine env env' ok same here origin k ps flags e at a r fault reach t (fails_at_inserted f) =
         excl_first {P = Spell root Any g env null} {P2 = FieldsPart root Any fs env ps} (Fails root g env' here.inside origin (here.path ++ k ∷ [])) (node_excl g ks fine.0 env env' ok same here.inside origin (here.path ++ k ∷ []) null) at a r fault reach t f
-    fields_excl (inserted name g None fs) ks fine env env' ok same here origin k ps flags e at a r fault reach t (inr f) =
+    fields_excl (inserted name g None fs) ks fine env env' ok same here origin k ps flags e at a r fault reach t (fails_behind_inserted f) =
         excl_behind (spell_law root g ks fine.0 env env' ok same null null) (λ h. fields_excl fs ks fine.1 env env' ok same here origin (suc k) ps flags e) at a r fault reach t f
 
     alternative_excl : (cases : Alternatives) (ks : Known) → AlternativesScoped root ks cases → (rule : ChoiceRule) (env env' : Env) → Permitted root env → Agree ks env env' → (here : Here) (origin i j : ℕ) (d : Data) → Excl (AlternativePart root Any cases rule env j d) (AlternativeFails root cases rule env' here origin i j)
@@ -382,18 +392,17 @@ module _ (root : Grammar) (leaf_excl : LeafExcl) (leaf_same : LeafSame) (text_ex
   -- Two failures.
 
   padded_same : (align : ℕ) (origin : ℕ) (path : List ℕ) (inside : Bool) (at : ℕ) (F G : Failing) → Same F G → (rest : List Bool) (f g : Fault) (m n : ℕ)
-      → Short (record { path = path; place = origin + at; inside = inside }) (padding align at) at rest f m ⊎ Behind (Padding Any align) F at rest f m
-      → Short (record { path = path; place = origin + at; inside = inside }) (padding align at) at rest g n ⊎ Behind (Padding Any align) G at rest g n → (f ≡ g) × (m ≡ n)
-  padded_same align origin path inside at F G h rest f g m n (inl p) (inl q) = (p.1 ∙ sym q.1, p.2 ∙ sym q.2)
-  padded_same align origin path inside at F G h rest f g m n (inl p) (inr q) = let l = padding_long align at q.front q.spelled in let s = p.0 in let w = ap length q.whole in let x = length-append q.front q.back in absurd (omega arith)
-  padded_same align origin path inside at F G h rest f g m n (inr p) (inl q) = let l = padding_long align at p.front p.spelled in let s = q.0 in let w = ap length p.whole in let x = length-append p.front p.back in absurd (omega arith)
-  padded_same align origin path inside at F G h rest f g m n (inr p) (inr q) = same_behind (padding_law Any align) (λ _. h) at rest f g m n p q
+      → PaddedFails (record { path = path; place = origin + at; inside = inside }) align F at rest f m → PaddedFails (record { path = path; place = origin + at; inside = inside }) align G at rest g n → (f ≡ g) × (m ≡ n)
+  padded_same align origin path inside at F G h rest f g m n (padding_cut p) (padding_cut q) = (p.1 ∙ sym q.1, p.2 ∙ sym q.2)
+  padded_same align origin path inside at F G h rest f g m n (padding_cut p) (fails_behind_padding q) = let l = padding_long align at q.front q.spelled in let s = p.0 in let w = ap length q.whole in let x = length-append q.front q.back in absurd (omega arith)
+  padded_same align origin path inside at F G h rest f g m n (fails_behind_padding p) (padding_cut q) = let l = padding_long align at p.front p.spelled in let s = q.0 in let w = ap length p.whole in let x = length-append p.front p.back in absurd (omega arith)
+  padded_same align origin path inside at F G h rest f g m n (fails_behind_padding p) (fails_behind_padding q) = same_behind (padding_law Any align) (λ _. h) at rest f g m n p q
 
   slot_same : (align : ℕ) (leaf : NumLeaf) → IsTrue (num_fine leaf) → (env env' : Env) (inside : Bool) (origin : ℕ) (path : List ℕ) → Same (Fails root (node align (num leaf)) env inside origin path) (Fails root (node align (num leaf)) env' inside origin path)
   slot_same align leaf fine env env' inside origin path at rest f g m n p q =
       let here : Here = record { path = path; place = origin + at; inside = inside } in
       padded_same align origin path inside at (FormFails root (num leaf) env here origin) (FormFails root (num leaf) env' here origin)
-      (λ at' rest' f' g' m' n' p' q'. let one = leaf_same leaf fine rest' p'.0 q'.0 m' n' p'.1 q'.1 in (p'.2 ∙ (ap (λ r. record { path = path; reason = seen inside r; at = origin + at }) one.0 ∙ sym q'.2), one.1)) rest f g m n p q
+      (λ at' rest' f' g' m' n' p' q'. let one = leaf_same leaf fine rest' p'.reason q'.reason m' n' p'.fails q'.fails in (p'.says ∙ (ap (λ r. record { path = path; reason = seen inside r; at = origin + at }) one.0 ∙ sym q'.says), one.1)) rest f g m n p q
 
   chosen_same : (cases : Alternatives) (rule : ChoiceRule) (env env' : Env) (here : Here) (origin i j : ℕ) → i ≡ j → Same (AlternativeFails root cases rule env here origin i i) (AlternativeFails root cases rule env' here origin i i)
       → Same (After (index_width rule) (AlternativeFails root cases rule env here origin i i)) (After (index_width rule) (AlternativeFails root cases rule env' here origin j j))
@@ -409,19 +418,19 @@ module _ (root : Grammar) (leaf_excl : LeafExcl) (leaf_same : LeafSame) (text_ex
 
     form_same : (form : Form) (ks : Known) → FormScoped root ks form → (env env' : Env) → Permitted root env → Permitted root env' → Agree ks env env' → (here : Here) (origin : ℕ) → Same (FormFails root form env here origin) (FormFails root form env' here origin)
     form_same (num leaf) ks fine env env' ok ok' same here origin at rest f g m n p q =
-        let one = leaf_same leaf fine rest p.0 q.0 m n p.1 q.1 in
-        (p.2 ∙ (ap (λ r. record { path = here.path; reason = seen here.inside r; at = here.place }) one.0 ∙ sym q.2), one.1)
+        let one = leaf_same leaf fine rest p.reason q.reason m n p.fails q.fails in
+        (p.says ∙ (ap (λ r. record { path = here.path; reason = seen here.inside r; at = here.place }) one.0 ∙ sym q.says), one.1)
     form_same (octets sizing) ks fine env env' ok ok' same here origin at rest f g m n p q =
         sized_same root here sizing ks fine env env' same (λ n. Short here (8 * n)) (λ n. Short here (8 * n)) (λ i j e. subst (λ (k : ℕ). Same (Short here (8 * i)) (Short here (8 * k))) e (same_short here (8 * i))) at rest f g m n p q
     form_same (bits sizing) ks fine env env' ok ok' same here origin at rest f g m n p q =
         sized_same root here sizing ks fine env env' same (λ n. Short here (1 * n)) (λ n. Short here (1 * n)) (λ i j e. subst (λ (k : ℕ). Same (Short here (1 * i)) (Short here (1 * k))) e (same_short here (1 * i))) at rest f g m n p q
     form_same (text leaf) ks fine env env' ok ok' same here origin at rest f g m n p q = text_part_same leaf leaf.ended ks fine.0 env env' same here at rest f g m n p q
-    form_same (seq _ home) ks fine env env' ok ok' same here origin at rest f g m n (inl p) (inl q) = (p.1 ∙ sym q.1, p.2 ∙ sym q.2)
-    form_same (seq _ home) ks fine env env' ok ok' same here origin at rest f g m n (inl p) (inr q) = let a = p.0 in let b = q.3.0 in absurd (omega arith)
-    form_same (seq _ home) ks fine env env' ok ok' same here origin at rest f g m n (inr p) (inl q) = let a = p.3.0 in let b = q.0 in absurd (omega arith)
-    form_same (seq fields home) ks fine env env' ok ok' same here origin at rest f g m n (inr p) (inr q) =
-        after_same (presence_count fields) (FieldsFail root fields (with_home home p.0 env) (take (presence_count fields) rest) here origin 0) (FieldsFail root fields (with_home home q.0 env') (take (presence_count fields) rest) here origin 0)
-        (fields_same fields ks fine.1 (with_home home p.0 env) (with_home home q.0 env') (permitted_home root home p.0 env p.2 ok) (permitted_home root home q.0 env' q.2 ok') (agree_inside ks home p.0 q.0 env env' fine.0 same) here origin 0 (take (presence_count fields) rest)) at rest f g m n p.3 q.3
+    form_same (seq _ home) ks fine env env' ok ok' same here origin at rest f g m n (presence_cut p) (presence_cut q) = (p.1 ∙ sym q.1, p.2 ∙ sym q.2)
+    form_same (seq _ home) ks fine env env' ok ok' same here origin at rest f g m n (presence_cut p) (fails_behind_presence q) = let a = p.0 in let b = q.behind.there in absurd (omega arith)
+    form_same (seq _ home) ks fine env env' ok ok' same here origin at rest f g m n (fails_behind_presence p) (presence_cut q) = let a = p.behind.there in let b = q.0 in absurd (omega arith)
+    form_same (seq fields home) ks fine env env' ok ok' same here origin at rest f g m n (fails_behind_presence p) (fails_behind_presence q) =
+        after_same (presence_count fields) (FieldsFail root fields (with_home home p.numbers env) (take (presence_count fields) rest) here origin 0) (FieldsFail root fields (with_home home q.numbers env') (take (presence_count fields) rest) here origin 0)
+        (fields_same fields ks fine.1 (with_home home p.numbers env) (with_home home q.numbers env') (permitted_home root home p.numbers env p.permitted ok) (permitted_home root home q.numbers env' q.permitted ok') (agree_inside ks home p.numbers q.numbers env env' fine.0 same) here origin 0 (take (presence_count fields) rest)) at rest f g m n p.behind q.behind
     form_same (list sizing g') ks fine env env' ok ok' same here origin at rest f g m n p q =
         list_same (ending sizing.rule) sizing g' ks fine.0 fine.2 fine.1 env env' same here (λ k. Fails root g' env here.inside origin (here.path ++ k ∷ [])) (λ k. Fails root g' env' here.inside origin (here.path ++ k ∷ []))
         (λ k. node_same g' ks fine.1 env env' ok ok' same here.inside origin (here.path ++ k ∷ [])) (λ d k. node_excl g' ks fine.1 env env' ok same here.inside origin (here.path ++ k ∷ []) d) (λ d k. node_excl g' ks fine.1 env' env ok' (agree_back ks env env' same) here.inside origin (here.path ++ k ∷ []) d)
@@ -430,39 +439,39 @@ module _ (root : Grammar) (leaf_excl : LeafExcl) (leaf_same : LeafSame) (text_ex
         sized_same root here sizing ks fine.0 env env' same (WindowFails root here g' env origin) (WindowFails root here g' env' origin)
         (λ i j e. subst (λ (l : ℕ). Same (WindowFails root here g' env origin i) (WindowFails root here g' env' origin l)) e
         (window_same root here g' env env' origin i (λ path o. node_same g' ks fine.1 env env' ok ok' same true o path) (λ d path o. node_excl g' ks fine.1 env env' ok same true o path d) (λ d path o. node_excl g' ks fine.1 env' env ok' (agree_back ks env env' same) true o path d) (λ d d'. element_law g' ks fine.1 env env' ok same d d'))) at rest f g m n p q
-    form_same (choice cases (Index width)) ks fine env env' ok ok' same here origin at rest f g m n (inl (inl p)) (inl (inl q)) = (p.1 ∙ sym q.1, p.2 ∙ sym q.2)
-    form_same (choice cases (Index width)) ks fine env env' ok ok' same here origin at rest f g m n (inl (inl p)) (inl (inr q)) = let a = p.0 in let b = q.0 in absurd (omega arith)
-    form_same (choice cases (Index width)) ks fine env env' ok ok' same here origin at rest f g m n (inl (inr p)) (inl (inl q)) = let a = p.0 in let b = q.0 in absurd (omega arith)
-    form_same (choice cases (Index width)) ks fine env env' ok ok' same here origin at rest f g m n (inl (inr p)) (inl (inr q)) = (p.2 ∙ sym q.2, p.3 ∙ sym q.3)
-    form_same (choice cases (Index width)) ks fine env env' ok ok' same here origin at rest f g m n (inl (inl p)) (inr q) = let a = p.0 in let b = q.2.0 in absurd (omega arith)
-    form_same (choice cases (Index width)) ks fine env env' ok ok' same here origin at rest f g m n (inr p) (inl (inl q)) = let a = p.2.0 in let b = q.0 in absurd (omega arith)
-    form_same (choice cases (Index width)) ks fine env env' ok ok' same here origin at rest f g m n (inl (inr p)) (inr q) =
-        let below = below_fails root cases (Index width) env' here origin q.0 q.0 (at + width) (drop width rest) g q.2.1.0 q.2.1.1 in let is = q.1 in let many = p.1 in absurd (omega arith)
-    form_same (choice cases (Index width)) ks fine env env' ok ok' same here origin at rest f g m n (inr p) (inl (inr q)) =
-        let below = below_fails root cases (Index width) env here origin p.0 p.0 (at + width) (drop width rest) f p.2.1.0 p.2.1.1 in let is = p.1 in let many = q.1 in absurd (omega arith)
-    form_same (choice cases (Index width)) ks fine env env' ok ok' same here origin at rest f g m n (inr p) (inr q) =
-        chosen_same cases (Index width) env env' here origin p.0 q.0 (sym p.1 ∙ q.1) (alternative_same cases ks fine (Index width) env env' ok ok' same here origin p.0 p.0) at rest f g m n p.2 q.2
-    form_same (choice cases Tests) ks fine env env' ok ok' same here origin at rest f g m n (inl p) (inl q) = (p.1 ∙ sym q.1, p.2 ∙ sym q.2)
-    form_same (choice cases Tests) ks fine env env' ok ok' same here origin at rest f g m n (inl p) (inr q) =
-        absurd (none_fails root cases Tests env' env (transfers_tests root cases ks env' env (agree_back ks env env' same) fine.1) p.0 here origin q.0 q.0 (at + 0) (drop 0 rest) g q.2.1.0 q.2.1.1)
-    form_same (choice cases Tests) ks fine env env' ok ok' same here origin at rest f g m n (inr p) (inl q) =
-        absurd (none_fails root cases Tests env env' (transfers_tests root cases ks env env' same fine.1) q.0 here origin p.0 p.0 (at + 0) (drop 0 rest) f p.2.1.0 p.2.1.1)
-    form_same (choice cases Tests) ks fine env env' ok ok' same here origin at rest f g m n (inr p) (inr q) =
-        let mine = fails_tests root cases env here origin p.0 p.0 (at + 0) (drop 0 rest) f p.2.1.0 p.2.1.1 in
-        let other = fails_tests root cases env' here origin q.0 q.0 (at + 0) (drop 0 rest) g q.2.1.0 q.2.1.1 in
-        let below = below_fails root cases Tests env here origin p.0 p.0 (at + 0) (drop 0 rest) f p.2.1.0 p.2.1.1 in
-        let below' = below_fails root cases Tests env' here origin q.0 q.0 (at + 0) (drop 0 rest) g q.2.1.0 q.2.1.1 in
-        chosen_same cases Tests env env' here origin p.0 q.0 (fine.2 env ok p.0 q.0 below below' mine (all_hold_too ks env env' same (tests_at cases q.0) (fine.1 q.0) other)) (alternative_same cases ks fine.0 Tests env env' ok ok' same here origin p.0 p.0) at rest f g m n p.2 q.2
-    form_same (choice cases (Item s)) ks fine env env' ok ok' same here origin at rest f g m n (inl p) (inl q) = (p.1 ∙ sym q.1, p.2 ∙ sym q.2)
-    form_same (choice cases (Item s)) ks fine env env' ok ok' same here origin at rest f g m n (inl p) (inr q) =
-        absurd (none_fails root cases (Item s) env' env (transfers_item root cases s env' env (sym (same s fine.1))) p.0 here origin q.0 q.0 (at + 0) (drop 0 rest) g q.2.1.0 q.2.1.1)
-    form_same (choice cases (Item s)) ks fine env env' ok ok' same here origin at rest f g m n (inr p) (inl q) =
-        absurd (none_fails root cases (Item s) env env' (transfers_item root cases s env env' (same s fine.1)) q.0 here origin p.0 p.0 (at + 0) (drop 0 rest) f p.2.1.0 p.2.1.1)
-    form_same (choice cases (Item s)) ks fine env env' ok ok' same here origin at rest f g m n (inr p) (inr q) =
-        let mine = fails_item root cases s env here origin p.0 p.0 (at + 0) (drop 0 rest) f p.2.1.0 p.2.1.1 in
-        let other = fails_item root cases s env' here origin q.0 q.0 (at + 0) (drop 0 rest) g q.2.1.0 q.2.1.1 in
+    form_same (choice cases (Index width)) ks fine env env' ok ok' same here origin at rest f g m n (fails_at_index (index_cut p)) (fails_at_index (index_cut q)) = (p.1 ∙ sym q.1, p.2 ∙ sym q.2)
+    form_same (choice cases (Index width)) ks fine env env' ok ok' same here origin at rest f g m n (fails_at_index (index_cut p)) (fails_at_index (index_too_great q)) = let a = p.0 in let b = q.0 in absurd (omega arith)
+    form_same (choice cases (Index width)) ks fine env env' ok ok' same here origin at rest f g m n (fails_at_index (index_too_great p)) (fails_at_index (index_cut q)) = let a = p.0 in let b = q.0 in absurd (omega arith)
+    form_same (choice cases (Index width)) ks fine env env' ok ok' same here origin at rest f g m n (fails_at_index (index_too_great p)) (fails_at_index (index_too_great q)) = (p.2 ∙ sym q.2, p.3 ∙ sym q.3)
+    form_same (choice cases (Index width)) ks fine env env' ok ok' same here origin at rest f g m n (fails_at_index (index_cut p)) (fails_at_alternative q) = let a = p.0 in let b = q.behind.there in absurd (omega arith)
+    form_same (choice cases (Index width)) ks fine env env' ok ok' same here origin at rest f g m n (fails_at_alternative p) (fails_at_index (index_cut q)) = let a = p.behind.there in let b = q.0 in absurd (omega arith)
+    form_same (choice cases (Index width)) ks fine env env' ok ok' same here origin at rest f g m n (fails_at_index (index_too_great p)) (fails_at_alternative q) =
+        let below = below_fails root cases (Index width) env' here origin q.index q.index (at + width) (drop width rest) g q.behind.more q.behind.fails in let is = q.stands in let many = p.1 in absurd (omega arith)
+    form_same (choice cases (Index width)) ks fine env env' ok ok' same here origin at rest f g m n (fails_at_alternative p) (fails_at_index (index_too_great q)) =
+        let below = below_fails root cases (Index width) env here origin p.index p.index (at + width) (drop width rest) f p.behind.more p.behind.fails in let is = p.stands in let many = q.1 in absurd (omega arith)
+    form_same (choice cases (Index width)) ks fine env env' ok ok' same here origin at rest f g m n (fails_at_alternative p) (fails_at_alternative q) =
+        chosen_same cases (Index width) env env' here origin p.index q.index (sym p.stands ∙ q.stands) (alternative_same cases ks fine (Index width) env env' ok ok' same here origin p.index p.index) at rest f g m n p.behind q.behind
+    form_same (choice cases Tests) ks fine env env' ok ok' same here origin at rest f g m n (fails_at_index p) (fails_at_index q) = (p.says ∙ sym q.says, p.reaches ∙ sym q.reaches)
+    form_same (choice cases Tests) ks fine env env' ok ok' same here origin at rest f g m n (fails_at_index p) (fails_at_alternative q) =
+        absurd (none_fails root cases Tests env' env (transfers_tests root cases ks env' env (agree_back ks env env' same) fine.1) p.none here origin q.index q.index (at + 0) (drop 0 rest) g q.behind.more q.behind.fails)
+    form_same (choice cases Tests) ks fine env env' ok ok' same here origin at rest f g m n (fails_at_alternative p) (fails_at_index q) =
+        absurd (none_fails root cases Tests env env' (transfers_tests root cases ks env env' same fine.1) q.none here origin p.index p.index (at + 0) (drop 0 rest) f p.behind.more p.behind.fails)
+    form_same (choice cases Tests) ks fine env env' ok ok' same here origin at rest f g m n (fails_at_alternative p) (fails_at_alternative q) =
+        let mine = fails_tests root cases env here origin p.index p.index (at + 0) (drop 0 rest) f p.behind.more p.behind.fails in
+        let other = fails_tests root cases env' here origin q.index q.index (at + 0) (drop 0 rest) g q.behind.more q.behind.fails in
+        let below = below_fails root cases Tests env here origin p.index p.index (at + 0) (drop 0 rest) f p.behind.more p.behind.fails in
+        let below' = below_fails root cases Tests env' here origin q.index q.index (at + 0) (drop 0 rest) g q.behind.more q.behind.fails in
+        chosen_same cases Tests env env' here origin p.index q.index (fine.2 env ok p.index q.index below below' mine (all_hold_too ks env env' same (tests_at cases q.index) (fine.1 q.index) other)) (alternative_same cases ks fine.0 Tests env env' ok ok' same here origin p.index p.index) at rest f g m n p.behind q.behind
+    form_same (choice cases (Item s)) ks fine env env' ok ok' same here origin at rest f g m n (fails_at_index p) (fails_at_index q) = (p.says ∙ sym q.says, p.reaches ∙ sym q.reaches)
+    form_same (choice cases (Item s)) ks fine env env' ok ok' same here origin at rest f g m n (fails_at_index p) (fails_at_alternative q) =
+        absurd (none_fails root cases (Item s) env' env (transfers_item root cases s env' env (sym (same s fine.1))) p.none here origin q.index q.index (at + 0) (drop 0 rest) g q.behind.more q.behind.fails)
+    form_same (choice cases (Item s)) ks fine env env' ok ok' same here origin at rest f g m n (fails_at_alternative p) (fails_at_index q) =
+        absurd (none_fails root cases (Item s) env env' (transfers_item root cases s env env' (same s fine.1)) q.none here origin p.index p.index (at + 0) (drop 0 rest) f p.behind.more p.behind.fails)
+    form_same (choice cases (Item s)) ks fine env env' ok ok' same here origin at rest f g m n (fails_at_alternative p) (fails_at_alternative q) =
+        let mine = fails_item root cases s env here origin p.index p.index (at + 0) (drop 0 rest) f p.behind.more p.behind.fails in
+        let other = fails_item root cases s env' here origin q.index q.index (at + 0) (drop 0 rest) g q.behind.more q.behind.fails in
         let name = same_item_name root (items_of root s) mine.1 other.1 mine.0 other.0 mine.2 other.2 (at_slot env s) (at_slot env' s) (same s fine.1) mine.4 other.4 mine.5 other.5 in
-        chosen_same cases (Item s) env env' here origin p.0 q.0 (names_one (names_of cases) p.0 q.0 mine.0 fine.2 mine.3 (other.3 ∙ ap Some (sym name))) (alternative_same cases ks fine.0 (Item s) env env' ok ok' same here origin p.0 p.0) at rest f g m n p.2 q.2
+        chosen_same cases (Item s) env env' here origin p.index q.index (names_one (names_of cases) p.index q.index mine.0 fine.2 mine.3 (other.3 ∙ ap Some (sym name))) (alternative_same cases ks fine.0 (Item s) env env' ok ok' same here origin p.index p.index) at rest f g m n p.behind q.behind
 
     alternative_same : (cases : Alternatives) (ks : Known) → AlternativesScoped root ks cases → (rule : ChoiceRule) (env env' : Env) → Permitted root env → Permitted root env' → Agree ks env env' → (here : Here) (origin i j : ℕ) → Same (AlternativeFails root cases rule env here origin i j) (AlternativeFails root cases rule env' here origin i j)
     alternative_same no_alternatives ks fine rule env env' ok ok' same here origin i j at rest f g m n p q = absurd p
@@ -471,29 +480,31 @@ module _ (root : Grammar) (leaf_excl : LeafExcl) (leaf_same : LeafSame) (text_ex
 
     fields_same : (fs : Fields) (ks : Known) → FieldsScoped root ks fs → (env env' : Env) → Permitted root env → Permitted root env' → Agree ks env env' → (here : Here) (origin k : ℕ) (flags : List Bool) → Same (FieldsFail root fs env flags here origin k) (FieldsFail root fs env' flags here origin k)
     fields_same no_fields ks fine env env' ok ok' same here origin k flags at rest f g m n p q = absurd p
-    fields_same (component name g' presence default own fs) ks fine env env' ok ok' same here origin k flags at rest f g m n (inl (there, inl p)) (inl (there', inl q)) = node_same g' ks fine.1 env env' ok ok' same here.inside origin (here.path ++ k ∷ []) at rest f g m n p q
-    fields_same (component name g' presence default own fs) ks fine env env' ok ok' same here origin k flags at rest f g m n (inl (there, inl p)) (inl (there', inr q)) =
-        absurd (clash_behind (Fails root g' env here.inside origin (here.path ++ k ∷ [])) (excl_given (Fails root g' env here.inside origin (here.path ++ k ∷ [])) (node_excl g' ks fine.1 env' env ok' (agree_back ks env env' same) here.inside origin (here.path ++ k ∷ []) q.0)) at rest f g m n p q.1)
-    fields_same (component name g' presence default own fs) ks fine env env' ok ok' same here origin k flags at rest f g m n (inl (there, inr p)) (inl (there', inl q)) =
-        absurd (clash_behind (Fails root g' env' here.inside origin (here.path ++ k ∷ [])) (excl_given (Fails root g' env' here.inside origin (here.path ++ k ∷ [])) (node_excl g' ks fine.1 env env' ok same here.inside origin (here.path ++ k ∷ []) p.0)) at rest g f n m q p.1)
-    fields_same (component name g' presence default own fs) ks fine env env' ok ok' same here origin k flags at rest f g m n (inl (there, inr p)) (inl (there', inr q)) =
-        same_behind (own_law root own (after ks g') env env' p.0 q.0 (λ x. x) (λ x. x) (spell_law root g' ks fine.1 env env' ok same p.0 q.0)) (λ h. fields_same fs (choose_known presence ks (with_own own (after ks g'))) fine.2 env env' ok ok' (after_there root presence ks (with_own own (after ks g')) env env' same h.1) here origin (suc k) (flags_behind presence flags)) at rest f g m n p.1 q.1
-    fields_same (component name g' presence default own fs) ks fine env env' ok ok' same here origin k flags at rest f g m n (inl (there, p)) (inr q) = absurd (q.0 (there_too ks env env' same presence fine.0 flags there))
-    fields_same (component name g' presence default own fs) ks fine env env' ok ok' same here origin k flags at rest f g m n (inr p) (inl (there', q)) = absurd (p.0 (there_too ks env' env (agree_back ks env env' same) presence fine.0 flags there'))
-    fields_same (component name g' presence default own fs) ks fine env env' ok ok' same here origin k flags at rest f g m n (inr p) (inr q) =
+    fields_same (component name g' presence default own fs) ks fine env env' ok ok' same here origin k flags at rest f g m n (fails_at_component p) (fails_at_component q) = node_same g' ks fine.1 env env' ok ok' same here.inside origin (here.path ++ k ∷ []) at rest f g m n p.1 q.1
+    fields_same (component name g' presence default own fs) ks fine env env' ok ok' same here origin k flags at rest f g m n (fails_at_component p) (fails_behind_component q) =
+        absurd (clash_behind (Fails root g' env here.inside origin (here.path ++ k ∷ [])) (excl_given (Fails root g' env here.inside origin (here.path ++ k ∷ [])) (node_excl g' ks fine.1 env' env ok' (agree_back ks env env' same) here.inside origin (here.path ++ k ∷ []) q.1.0)) at rest f g m n p.1 q.1.1)
+    fields_same (component name g' presence default own fs) ks fine env env' ok ok' same here origin k flags at rest f g m n (fails_behind_component p) (fails_at_component q) =
+        absurd (clash_behind (Fails root g' env' here.inside origin (here.path ++ k ∷ [])) (excl_given (Fails root g' env' here.inside origin (here.path ++ k ∷ [])) (node_excl g' ks fine.1 env env' ok same here.inside origin (here.path ++ k ∷ []) p.1.0)) at rest g f n m q.1 p.1.1)
+    fields_same (component name g' presence default own fs) ks fine env env' ok ok' same here origin k flags at rest f g m n (fails_behind_component p) (fails_behind_component q) =
+        same_behind (own_law root own (after ks g') env env' p.1.0 q.1.0 (λ x. x) (λ x. x) (spell_law root g' ks fine.1 env env' ok same p.1.0 q.1.0)) (λ h. fields_same fs (choose_known presence ks (with_own own (after ks g'))) fine.2 env env' ok ok' (after_there root presence ks (with_own own (after ks g')) env env' same h.1) here origin (suc k) (flags_behind presence flags)) at rest f g m n p.1.1 q.1.1
+    fields_same (component name g' presence default own fs) ks fine env env' ok ok' same here origin k flags at rest f g m n (fails_at_component p) (fails_behind_absent q) = absurd (q.0 (there_too ks env env' same presence fine.0 flags p.0))
+    fields_same (component name g' presence default own fs) ks fine env env' ok ok' same here origin k flags at rest f g m n (fails_behind_component p) (fails_behind_absent q) = absurd (q.0 (there_too ks env env' same presence fine.0 flags p.0))
+    fields_same (component name g' presence default own fs) ks fine env env' ok ok' same here origin k flags at rest f g m n (fails_behind_absent p) (fails_at_component q) = absurd (p.0 (there_too ks env' env (agree_back ks env env' same) presence fine.0 flags q.0))
+    fields_same (component name g' presence default own fs) ks fine env env' ok ok' same here origin k flags at rest f g m n (fails_behind_absent p) (fails_behind_component q) = absurd (p.0 (there_too ks env' env (agree_back ks env env' same) presence fine.0 flags q.0))
+    fields_same (component name g' presence default own fs) ks fine env env' ok ok' same here origin k flags at rest f g m n (fails_behind_absent p) (fails_behind_absent q) =
         fields_same fs (choose_known presence ks (with_own own (after ks g'))) fine.2 env env' ok ok' (after_missing presence ks (with_own own (after ks g')) env env' flags p.0 same) here origin (suc k) (flags_behind presence flags) at rest f g m n p.1 q.1
-    fields_same (inserted name (node align (num leaf)) (Some s) fs) ks fine env env' ok ok' same here origin k flags at rest f g m n (inl p) (inl q) = slot_same align leaf fine.0 env env' here.inside origin (here.path ++ k ∷ []) at rest f g m n p q
-    fields_same (inserted name (node align (num leaf)) (Some s) fs) ks fine env env' ok ok' same here origin k flags at rest f g m n (inl p) (inr q) =
+    fields_same (inserted name (node align (num leaf)) (Some s) fs) ks fine env env' ok ok' same here origin k flags at rest f g m n (fails_at_inserted p) (fails_at_inserted q) = slot_same align leaf fine.0 env env' here.inside origin (here.path ++ k ∷ []) at rest f g m n p q
+    fields_same (inserted name (node align (num leaf)) (Some s) fs) ks fine env env' ok ok' same here origin k flags at rest f g m n (fails_at_inserted p) (fails_behind_inserted q) =
         absurd (slot_excl align leaf fine.0 env' s here.inside origin (here.path ++ k ∷ []) at q.front q.back f m env q.spelled (subst (λ (x : List Bool). Fails root (node align (num leaf)) env here.inside origin (here.path ++ k ∷ []) at x f m) q.whole p))
-    fields_same (inserted name (node align (num leaf)) (Some s) fs) ks fine env env' ok ok' same here origin k flags at rest f g m n (inr p) (inl q) =
+    fields_same (inserted name (node align (num leaf)) (Some s) fs) ks fine env env' ok ok' same here origin k flags at rest f g m n (fails_behind_inserted p) (fails_at_inserted q) =
         absurd (slot_excl align leaf fine.0 env s here.inside origin (here.path ++ k ∷ []) at p.front p.back g n env' p.spelled (subst (λ (x : List Bool). Fails root (node align (num leaf)) env' here.inside origin (here.path ++ k ∷ []) at x g n) p.whole q))
-    fields_same (inserted name (node align (num leaf)) (Some s) fs) ks fine env env' ok ok' same here origin k flags at rest f g m n (inr p) (inr q) =
+    fields_same (inserted name (node align (num leaf)) (Some s) fs) ks fine env env' ok ok' same here origin k flags at rest f g m n (fails_behind_inserted p) (fails_behind_inserted q) =
         same_behind (slot_law root (node align (num leaf)) fine.0 ks env env' s same) (λ more. fields_same fs (with_slot s ks) fine.1 env env' ok ok' more here origin (suc k) flags) at rest f g m n p q
     fields_same (inserted name (node align _) (Some s) fs) ks fine env env' ok ok' same here origin k flags at rest f g m n p q = absurd fine.0
-    fields_same (inserted name g' None fs) ks fine env env' ok ok' same here origin k flags at rest f g m n (inl p) (inl q) = node_same g' ks fine.0 env env' ok ok' same here.inside origin (here.path ++ k ∷ []) at rest f g m n p q
-    fields_same (inserted name g' None fs) ks fine env env' ok ok' same here origin k flags at rest f g m n (inl p) (inr q) =
+    fields_same (inserted name g' None fs) ks fine env env' ok ok' same here origin k flags at rest f g m n (fails_at_inserted p) (fails_at_inserted q) = node_same g' ks fine.0 env env' ok ok' same here.inside origin (here.path ++ k ∷ []) at rest f g m n p q
+    fields_same (inserted name g' None fs) ks fine env env' ok ok' same here origin k flags at rest f g m n (fails_at_inserted p) (fails_behind_inserted q) =
         absurd (clash_behind (Fails root g' env here.inside origin (here.path ++ k ∷ [])) (node_excl g' ks fine.0 env' env ok' (agree_back ks env env' same) here.inside origin (here.path ++ k ∷ []) null) at rest f g m n p q)
-    fields_same (inserted name g' None fs) ks fine env env' ok ok' same here origin k flags at rest f g m n (inr p) (inl q) =
+    fields_same (inserted name g' None fs) ks fine env env' ok ok' same here origin k flags at rest f g m n (fails_behind_inserted p) (fails_at_inserted q) =
         absurd (clash_behind (Fails root g' env' here.inside origin (here.path ++ k ∷ [])) (node_excl g' ks fine.0 env env' ok same here.inside origin (here.path ++ k ∷ []) null) at rest g f n m q p)
-    fields_same (inserted name g' None fs) ks fine env env' ok ok' same here origin k flags at rest f g m n (inr p) (inr q) =
+    fields_same (inserted name g' None fs) ks fine env env' ok ok' same here origin k flags at rest f g m n (fails_behind_inserted p) (fails_behind_inserted q) =
         same_behind (spell_law root g' ks fine.0 env env' ok same null null) (λ h. fields_same fs ks fine.1 env env' ok ok' same here origin (suc k) flags) at rest f g m n p q

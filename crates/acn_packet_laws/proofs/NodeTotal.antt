@@ -7,7 +7,7 @@ use Rattle.acn_num.specs.Bits.{number}
 use Rattle.acn_num.specs.Ranges.{In, greatest}
 use Rattle.acn_grammar.specs.Code.{Any, NumberOf}
 use Rattle.acn_grammar.specs.Env.{Env, at_slot}
-use Rattle.acn_grammar.specs.Fails.{Failing, Here, Fault, Short, SizeFails, PartsFail, TextFails, presence_count, IsThere, flags_behind, count_of, RunFails, EndFails, EndedFails, ListFails, Overlong, NoneChosen, IndexFails, IndexIs, Fails, FormFails, FieldsFail, AlternativeFails}
+use Rattle.acn_grammar.specs.Fails.{Failing, Here, Fault, SizeFails, PartsFail, TextFails, presence_count, IsThere, flags_behind, count_of, RunFails, EndFails, EndedFails, ListFails, NoneChosen, IndexFails, IndexIs, Fails, FormFails, FieldsFail, AlternativeFails, ContentFails, fails_at_size, fails_behind_size, fails_at_element, fails_behind_element, pattern_cut, pattern_differs, full_not_permitted, full_not_ended, end_not_permitted, next_element_fails, fails_behind_next, index_cut, index_too_great, fails_at_index, fails_at_alternative, padding_cut, fails_behind_padding, presence_cut, fails_behind_presence, fails_at_component, fails_behind_component, fails_behind_absent, fails_at_inserted, fails_behind_inserted, window_cut, content_fails, content_overlong}
 use Rattle.acn_grammar.specs.Grammar.{Grammar, Form, Fields, Alternatives, Data, Places, Elements, node, num, octets, bits, text, seq, list, choice, contained, no_fields, component, inserted, no_alternatives, alternative, null, characters, record_of, list_of, alt, no_places, empty, filled, no_elements, element, element_count}
 use Rattle.acn_grammar.specs.Interval.{size_of}
 use Rattle.acn_grammar.specs.LeafFails.{Reason, short, too_long, size_out_of_range, no_alternative, content_size, LeafFails}
@@ -52,18 +52,18 @@ module _ (root : Grammar) (text_total : TextTotal) where
       by (inl t) =
           let v = value_by leaf leaf.kind t.number (rules_of leaf fine).set t.codes.permitted in
           inl (v.0, record { front = t.code; back = t.behind; whole = t.whole; spelled = (t.number, v.1, t.codes) })
-      by (inr f) = inr (says here f.0, f.1, (f.0, f.2, refl))
+      by (inr f) = inr (says here f.0, f.1, record { reason = f.0; fails = f.2; says = refl })
 
   -- Strings.
 
   parts_total : (each : ℕ) (here : Here) (sizing : Sizing) (env : Env) (P : Data → Part) (at : ℕ) (rest : List Bool) → ((n : ℕ) (bs : List Bool) → length bs ≡ each * n → (d : Data) × ((front : List Bool) → SizePart sizing env n at front → P d at (front ++ bs)))
       → ASize sizing env at rest ⊎ Stuck (SizeFails here sizing env) at rest → ((d : Data) × FrontOf (P d) at rest) ⊎ Stuck (PartsFail here each sizing env) at rest
-  parts_total each here sizing env P at rest make (inr f) = inr (f.0, f.1, inl f.2)
+  parts_total each here sizing env P at rest make (inr f) = inr (f.0, f.1, fails_at_size f.2)
   parts_total each here sizing env P at rest make (inl s) = by (less_or_not (length s.front.back) (each * s.n))
     where
       by : (length s.front.back < each * s.n) ⊎ (each * s.n ≤ length s.front.back) → ((d : Data) × FrontOf (P d) at rest) ⊎ Stuck (PartsFail here each sizing env) at rest
       by (inl h) =
-          inr (says here short, length s.front.front + length s.front.back, inr (record { n = s.n; behind = record { front = s.front.front; back = s.front.back; whole = s.front.whole; spelled = s.front.spelled; more = length s.front.back; fails = (h, refl, refl); reaches = refl } }))
+          inr (says here short, length s.front.front + length s.front.back, fails_behind_size (record { n = s.n; behind = record { front = s.front.front; back = s.front.back; whole = s.front.whole; spelled = s.front.spelled; more = length s.front.back; fails = (h, refl, refl); reaches = refl } }))
       by (inr h) =
           let m = make s.n (take (each * s.n) s.front.back) (length-take-le (each * s.n) s.front.back h) in
           inl (
@@ -103,13 +103,13 @@ module _ (root : Grammar) (text_total : TextTotal) where
     where
       by : (m : Moved root keys none env) → ((d : Data) × FrontOf (Spell root Any g m.now d) at rest) ⊎ Stuck (fails k m.now) at rest
           → ((d : Data) (f : FrontOf (Spell root Any g m.now d) at rest) → RunOutcome keys g fails n (suc k) m.now (at + length f.front) f.back) → RunOutcome keys g fails (suc n) k env at rest
-      by m (inr x) more = record { moved = m; result = inr (x.0, x.1, inl x.2) }
+      by m (inr x) more = record { moved = m; result = inr (x.0, x.1, fails_at_element x.2) }
       by m (inl (d, f)) more = (let r = more d f in record { moved = moved_more root keys none none none env m r.moved none_both; result = ended r.moved r.result })
         where
           ended : (q : Moved root keys none m.now) → ((es : Elements) × (element_count es ≡ n) × FrontOf (RunPart (Spell root Any g q.now) es) (at + length f.front) f.back) ⊎ Stuck (RunFails (Spell root Any g q.now) (λ i. fails i q.now) n (suc k)) (at + length f.front) f.back
               → ((es : Elements) × (element_count es ≡ suc n) × FrontOf (RunPart (Spell root Any g q.now) es) at rest) ⊎ Stuck (RunFails (Spell root Any g q.now) (λ i. fails i q.now) (suc n) k) at rest
           ended q (inl (es, c, h)) = inl (element d es, ap suc c, join_front at rest f.front f.back f.whole (forward m.now q.now (λ s. q.rest s refl) d at f.front f.spelled) h)
-          ended q (inr x) = (let b = join_stuck {P = Spell root Any g q.now d} at rest f.front f.back f.whole (forward m.now q.now (λ s. q.rest s refl) d at f.front f.spelled) x in inr (b.0, b.1, inr (d, b.2)))
+          ended q (inr x) = (let b = join_stuck {P = Spell root Any g q.now d} at rest f.front f.back f.whole (forward m.now q.now (λ s. q.rest s refl) d at f.front f.spelled) x in inr (b.0, b.1, fails_behind_element (d, b.2)))
 
   -- with a pattern behind them
   record EndedOutcome (keys : Known) (here : Here) (p : List Bool) (sizing : Sizing) (g : Grammar) (fails : ℕ → Env → Failing) (n k : ℕ) (env : Env) (at : ℕ) (rest : List Bool) : Type 0 where
@@ -120,7 +120,7 @@ module _ (root : Grammar) (text_total : TextTotal) where
       → ((es : Elements) × In sizing.sizes (pos (k + element_count es)) × FrontOf (RunPart (Spell root Any g env) es then Exactly p) at rest) ⊎ Stuck (EndFails here p sizing k) at rest
   end_here here p sizing g fails n k env at rest e (inl i) =
       inl (no_elements, subst (λ (m : ℕ). In sizing.sizes (pos m)) (omega arith) i, record { front = p; back = drop (length p) rest; whole = sym (take-append-drop (length p) rest) ∙ ap (λ z. z ++ drop (length p) rest) e; spelled = record { front = []; back = p; whole = refl; first = refl; second = refl } })
-  end_here here p sizing g fails n k env at rest e (inr i) = inr (says here (size_out_of_range k), length p, (e, i, refl, refl))
+  end_here here p sizing g fails n k env at rest e (inr i) = inr (says here (size_out_of_range k), length p, record { stands = e; refused = i; says = refl; reaches = refl })
 
   run_ended : (keys : Known) (here : Here) (p : List Bool) (sizing : Sizing) (g : Grammar) (fails : ℕ → Env → Failing) → Each keys g fails → Forward keys g → (n k : ℕ) (env : Env) → Good root keys env → (at : ℕ) (rest : List Bool) → EndedOutcome keys here p sizing g fails n k env at rest
   run_ended keys here p sizing g fails each forward zero k env good at rest = record { moved = unmoved root keys none env good; result = by (same_or_not (take (length p) rest) p) (less_or_not (length rest) (length p)) }
@@ -130,12 +130,12 @@ module _ (root : Grammar) (text_total : TextTotal) where
 
       found : ((es : Elements) × In sizing.sizes (pos (k + element_count es)) × FrontOf (RunPart (Spell root Any g env) es then Exactly p) at rest) ⊎ Stuck (EndFails here p sizing k) at rest → Goal
       found (inl h) = inl h
-      found (inr x) = inr (x.0, x.1, inl x.2)
+      found (inr x) = inr (x.0, x.1, full_not_permitted x.2)
 
       by : (take (length p) rest ≡ p) ⊎ (take (length p) rest ≡ p → ⊥) → (length rest < length p) ⊎ (length p ≤ length rest) → Goal
       by (inl e) l = found (end_here here p sizing g fails zero k env at rest e (in_or_not sizing.sizes (pos k)))
-      by (inr e) (inl l) = inr (says here short, length rest, inr (inl (l, refl, refl)))
-      by (inr e) (inr l) = inr (says here too_long, length p, inr (inr (l, e, refl, refl)))
+      by (inr e) (inl l) = inr (says here short, length rest, full_not_ended (pattern_cut (l, refl, refl)))
+      by (inr e) (inr l) = inr (says here too_long, length p, full_not_ended (pattern_differs (l, e, refl, refl)))
   run_ended keys here p sizing g fails each forward (suc n) k env good at rest =
       let o = each env good k at rest in
       by (same_or_not (take (length p) rest) p) o.moved o.result (λ d f. run_ended keys here p sizing g fails each forward n (suc k) o.moved.now o.moved.good (at + length f.front) f.back)
@@ -143,12 +143,12 @@ module _ (root : Grammar) (text_total : TextTotal) where
       found : ((es : Elements) × In sizing.sizes (pos (k + element_count es)) × FrontOf (RunPart (Spell root Any g env) es then Exactly p) at rest) ⊎ Stuck (EndFails here p sizing k) at rest
           → ((es : Elements) × In sizing.sizes (pos (k + element_count es)) × FrontOf (RunPart (Spell root Any g env) es then Exactly p) at rest) ⊎ Stuck (EndedFails here p sizing (Spell root Any g env) (λ i. fails i env) (suc n) k) at rest
       found (inl h) = inl h
-      found (inr x) = inr (x.0, x.1, inl x.2)
+      found (inr x) = inr (x.0, x.1, end_not_permitted x.2)
 
       by : (take (length p) rest ≡ p) ⊎ (take (length p) rest ≡ p → ⊥) → (m : Moved root keys none env) → ((d : Data) × FrontOf (Spell root Any g m.now d) at rest) ⊎ Stuck (fails k m.now) at rest
           → ((d : Data) (f : FrontOf (Spell root Any g m.now d) at rest) → EndedOutcome keys here p sizing g fails n (suc k) m.now (at + length f.front) f.back) → EndedOutcome keys here p sizing g fails (suc n) k env at rest
       by (inl e) m r more = record { moved = unmoved root keys none env good; result = found (end_here here p sizing g fails (suc n) k env at rest e (in_or_not sizing.sizes (pos k))) }
-      by (inr e) m (inr x) more = record { moved = m; result = inr (x.0, max (length p) x.1, inr (inl (e, (x.1, x.2, refl)))) }
+      by (inr e) m (inr x) more = record { moved = m; result = inr (x.0, max (length p) x.1, next_element_fails (record { differs = e; inner = x.1; fails = x.2; reaches = refl })) }
       by (inr e) m (inl (d, f)) more = (let r = more d f in record { moved = moved_more root keys none none none env m r.moved none_both; result = ended r.moved r.result })
         where
           ended : (q : Moved root keys none m.now) → ((es : Elements) × In sizing.sizes (pos (suc k + element_count es)) × FrontOf (RunPart (Spell root Any g q.now) es then Exactly p) (at + length f.front) f.back) ⊎ Stuck (EndedFails here p sizing (Spell root Any g q.now) (λ i. fails i q.now) n (suc k)) (at + length f.front) f.back
@@ -172,7 +172,7 @@ module _ (root : Grammar) (text_total : TextTotal) where
                   };
                 },
               )
-          ended q (inr x) = (let b = join_stuck {P = Spell root Any g q.now d} at rest f.front f.back f.whole (forward m.now q.now (λ s. q.rest s refl) d at f.front f.spelled) x in inr (b.0, b.1, inr (inr (d, b.2))))
+          ended q (inr x) = (let b = join_stuck {P = Spell root Any g q.now d} at rest f.front f.back f.whole (forward m.now q.now (λ s. q.rest s refl) d at f.front f.spelled) x in inr (b.0, b.1, fails_behind_next (d, b.2)))
 
   -- Slots whose fields stand in a node are keys.
 
@@ -233,10 +233,10 @@ module _ (root : Grammar) (text_total : TextTotal) where
       ended : (now : Env) → length (take (padding align at) rest) ≡ padding align at → ((d : Data) × FrontOf (FormPart root Any form now d) (at + length (take (padding align at) rest)) (drop (padding align at) rest)) ⊎ Stuck (FormFails root form now (record { path = path; place = origin + at; inside = inside }) origin) (at + length (take (padding align at) rest)) (drop (padding align at) rest)
           → ((d : Data) × FrontOf (Spell root Any (node align form) now d) at rest) ⊎ Stuck (Fails root (node align form) now inside origin path) at rest
       ended now l (inl (d, f)) = inl (d, join_front at rest (take (padding align at) rest) (drop (padding align at) rest) (sym (take-append-drop (padding align at) rest)) (padded align at some (take (padding align at) rest) l) f)
-      ended now l (inr x) = (let b = join_stuck {P = Padding Any align} at rest (take (padding align at) rest) (drop (padding align at) rest) (sym (take-append-drop (padding align at) rest)) (padded align at some (take (padding align at) rest) l) x in inr (b.0, b.1, inr b.2))
+      ended now l (inr x) = (let b = join_stuck {P = Padding Any align} at rest (take (padding align at) rest) (drop (padding align at) rest) (sym (take-append-drop (padding align at) rest)) (padded align at some (take (padding align at) rest) l) x in inr (b.0, b.1, fails_behind_padding b.2))
 
       by : (length rest < padding align at) ⊎ (padding align at ≤ length rest) → Outcome keys (form_opens form) env (λ e. Spell root Any (node align form) e) (λ e. Fails root (node align form) e inside origin path) at rest
-      by (inl h) = record { moved = unmoved root keys (form_opens form) env good; result = inr (says (record { path = path; place = origin + at; inside = inside }) short, length rest, inl (h, refl, refl)) }
+      by (inl h) = record { moved = unmoved root keys (form_opens form) env good; result = inr (says (record { path = path; place = origin + at; inside = inside }) short, length rest, padding_cut (h, refl, refl)) }
       by (inr h) = record { moved = o.moved; result = ended o.moved.now (length-take-le (padding align at) rest h) o.result }
 
   -- Lists.
@@ -261,10 +261,10 @@ module _ (root : Grammar) (text_total : TextTotal) where
       ended n f q (inl (es, c, h)) =
           inl (list_of es, join_front at rest f.front f.back f.whole (subst (λ (m : ℕ). SizePart sizing q.now m at f.front) (sym c) (size_moves root sizing ks known env q.now (λ s k. q.rest s refl) n at f.front f.spelled)) h)
       ended n f q (inr x) =
-          (let b = join_stuck {P = SizePart sizing q.now n} at rest f.front f.back f.whole (size_moves root sizing ks known env q.now (λ s k. q.rest s refl) n at f.front f.spelled) x in inr (b.0, b.1, inr (record { n = n; behind = b.2 })))
+          (let b = join_stuck {P = SizePart sizing q.now n} at rest f.front f.back f.whole (size_moves root sizing ks known env q.now (λ s k. q.rest s refl) n at f.front f.spelled) x in inr (b.0, b.1, fails_behind_size (record { n = n; behind = b.2 })))
 
       by : ASize sizing env at rest ⊎ Stuck (SizeFails here sizing env) at rest → Goal
-      by (inr x) = record { moved = unmoved root keys none env good; result = inr (x.0, x.1, inl x.2) }
+      by (inr x) = record { moved = unmoved root keys none env good; result = inr (x.0, x.1, fails_at_size x.2) }
       by (inl s) =
           let o = run_total keys g fails each forward s.n 0 env good (at + length s.front.front) s.front.back in
           record { moved = o.moved; result = ended s.n s.front o.moved o.result }
@@ -294,12 +294,12 @@ module _ (root : Grammar) (text_total : TextTotal) where
       Goal = Outcome keys none env (λ e. FormPart root Any (contained sizing g) e) (λ e. FormFails root (contained sizing g) e here origin) at rest
 
       stuck : (n : ℕ) (f : FrontOf (SizePart sizing env n) at rest) (q : Moved root keys none env) → (fault : Fault) (reach : ℕ)
-          → (Short here (8 * n) (at + length f.front) f.back fault reach ⊎ ((8 * n ≤ length f.back) × (((inner : ℕ) × Fails root g q.now true (origin + (at + length f.front)) (here.path ++ 0 ∷ []) 0 (take (8 * n) f.back) fault inner) ⊎ ((d : Data) × Overlong root here n (Spell root Any g q.now d) (take (8 * n) f.back) fault)) × (reach ≡ 8 * n)))
+          → ContentFails here (Spell root Any g q.now) (λ place. Fails root g q.now true (origin + place) (here.path ++ 0 ∷ [])) n (at + length f.front) f.back fault reach
           → Stuck (FormFails root (contained sizing g) q.now here origin) at rest
       stuck n f q fault reach x = (
         fault,
         length f.front + reach,
-        inr (record {
+        fails_behind_size (record {
           n = n;
           behind = record { front = f.front; back = f.back; whole = f.whole; spelled = size_moves root sizing ks known env q.now (λ s k. q.rest s refl) n at f.front f.spelled; more = reach; fails = x; reaches = refl };
         }),
@@ -308,7 +308,7 @@ module _ (root : Grammar) (text_total : TextTotal) where
       content_read : (n : ℕ) (f : FrontOf (SizePart sizing env n) at rest) (q : Moved root keys none env) → 8 * n ≤ length f.back → (d : Data) (c : FrontOf (Spell root Any g q.now d) 0 (take (8 * n) f.back)) → (length c.back < 8) ⊎ (8 ≤ length c.back)
           → ((d : Data) × FrontOf (FormPart root Any (contained sizing g) q.now d) at rest) ⊎ Stuck (FormFails root (contained sizing g) q.now here origin) at rest
       content_read n f q h d c (inr byte) =
-          inr (stuck n f q (says here (content_size n (length c.front))) (8 * n) (inr (h, inr (d, record { used = c.front; left = c.back; whole = c.whole; spelled = c.spelled; byte = byte; says = refl }), refl)))
+          inr (stuck n f q (says here (content_size n (length c.front))) (8 * n) (content_overlong (h, (d, record { used = c.front; left = c.back; whole = c.whole; spelled = c.spelled; byte = byte; says = refl }), refl)))
       content_read n f q h d c (inl few) =
           let l = length-take-le (8 * n) f.back h in
           inl (
@@ -324,14 +324,14 @@ module _ (root : Grammar) (text_total : TextTotal) where
       ended : (n : ℕ) (f : FrontOf (SizePart sizing env n) at rest) (q : Moved root keys none env) → 8 * n ≤ length f.back → ((d : Data) × FrontOf (Spell root Any g q.now d) 0 (take (8 * n) f.back)) ⊎ Stuck (Fails root g q.now true (origin + (at + length f.front)) (here.path ++ 0 ∷ [])) 0 (take (8 * n) f.back)
           → ((d : Data) × FrontOf (FormPart root Any (contained sizing g) q.now d) at rest) ⊎ Stuck (FormFails root (contained sizing g) q.now here origin) at rest
       ended n f q h (inl (d, c)) = content_read n f q h d c (less_or_not (length c.back) 8)
-      ended n f q h (inr x) = inr (stuck n f q x.0 (8 * n) (inr (h, inl (x.1, x.2), refl)))
+      ended n f q h (inr x) = inr (stuck n f q x.0 (8 * n) (content_fails (h, (x.1, x.2), refl)))
 
       sized : (n : ℕ) (f : FrontOf (SizePart sizing env n) at rest) → (length f.back < 8 * n) ⊎ (8 * n ≤ length f.back) → Goal
-      sized n f (inl h) = (let q = unmoved root keys none env good in record { moved = unmoved root keys none env good; result = inr (stuck n f (unmoved root keys none env good) (says here short) (length f.back) (inl (h, refl, refl))) })
+      sized n f (inl h) = (let q = unmoved root keys none env good in record { moved = unmoved root keys none env good; result = inr (stuck n f (unmoved root keys none env good) (says here short) (length f.back) (window_cut (h, refl, refl))) })
       sized n f (inr h) = (let o = content (at + length f.front) (take (8 * n) f.back) in record { moved = o.moved; result = ended n f o.moved h o.result })
 
       by : ASize sizing env at rest ⊎ Stuck (SizeFails here sizing env) at rest → Goal
-      by (inr x) = record { moved = unmoved root keys none env good; result = inr (x.0, x.1, inl x.2) }
+      by (inr x) = record { moved = unmoved root keys none env good; result = inr (x.0, x.1, fails_at_size x.2) }
       by (inl s) = sized s.n s.front (less_or_not (length s.front.back) (8 * s.n))
 
   -- Alternatives.
@@ -346,7 +346,7 @@ module _ (root : Grammar) (text_total : TextTotal) where
       Goal = Outcome keys none env (λ e. FormPart root Any (choice cases rule) e) (λ e. FormFails root (choice cases rule) e here origin) at rest
 
       failed : Stuck (IndexFails root here rule cases env) at rest → Goal
-      failed x = record { moved = unmoved root keys none env good; result = inr (x.0, x.1, inl x.2) }
+      failed x = record { moved = unmoved root keys none env good; result = inr (x.0, x.1, fails_at_index x.2) }
 
       ended : (i : ℕ) (now : Env) → index_width rule ≤ length rest → IndexIs root rule rest i → IndexPart root rule i at (take (index_width rule) rest) → ((d : Data) × FrontOf (AlternativePart root Any cases rule now i d) (at + index_width rule) (drop (index_width rule) rest)) ⊎ Stuck (AlternativeFails root cases rule now here origin i i) (at + index_width rule) (drop (index_width rule) rest)
           → ((d : Data) × FrontOf (FormPart root Any (choice cases rule) now d) at rest) ⊎ Stuck (FormFails root (choice cases rule) now here origin) at rest
@@ -356,7 +356,7 @@ module _ (root : Grammar) (text_total : TextTotal) where
             join_front at rest (take (index_width rule) rest) (drop (index_width rule) rest) (sym (take-append-drop (index_width rule) rest)) p
                 (subst (λ (n : ℕ). FrontOf (AlternativePart root Any cases rule now i d) (at + n) (drop (index_width rule) rest)) (sym (length-take-le (index_width rule) rest h)) f),
           )
-      ended i now h is p (inr x) = inr (x.0, index_width rule + x.1, inr (i, is, (h, (x.1, x.2, refl))))
+      ended i now h is p (inr x) = inr (x.0, index_width rule + x.1, fails_at_alternative (record { index = i; stands = is; behind = record { there = h; more = x.1; fails = x.2; reaches = refl } }))
 
       go : (i : ℕ) → index_width rule ≤ length rest → IndexIs root rule rest i → IndexPart root rule i at (take (index_width rule) rest) → ChosenAt root cases rule env i → Goal
       go i h is p c = (let o = case i c in record { moved = o.moved; result = ended i o.moved.now h is p o.result })
@@ -365,8 +365,8 @@ module _ (root : Grammar) (text_total : TextTotal) where
       with_rule r e P x = subst P (sym e) x
 
       indexed : (width : ℕ) → rule ≡ Index width → (length rest < width) ⊎ (width ≤ length rest) → (number (take width rest) < count_of cases) ⊎ (count_of cases ≤ number (take width rest)) → Goal
-      indexed width e (inl h) c = failed (with_rule (Index width) e (λ r. Stuck (IndexFails root here r cases env) at rest) (says here short, length rest, inl (h, refl, refl)))
-      indexed width e (inr h) (inr c) = failed (with_rule (Index width) e (λ r. Stuck (IndexFails root here r cases env) at rest) (says here no_alternative, width, inr (h, c, refl, refl)))
+      indexed width e (inl h) c = failed (with_rule (Index width) e (λ r. Stuck (IndexFails root here r cases env) at rest) (says here short, length rest, index_cut (h, refl, refl)))
+      indexed width e (inr h) (inr c) = failed (with_rule (Index width) e (λ r. Stuck (IndexFails root here r cases env) at rest) (says here no_alternative, width, index_too_great (h, c, refl, refl)))
       indexed width e (inr h) (inl c) =
           go (number (take width rest)) (with_rule (Index width) e (λ r. index_width r ≤ length rest) h) (with_rule (Index width) e (λ r. IndexIs root r rest (number (take width rest))) refl)
           (with_rule (Index width) e (λ r. IndexPart root r (number (take width rest)) at (take (index_width r) rest)) (record { width = length-take-le width rest h; value = refl }))
@@ -374,11 +374,11 @@ module _ (root : Grammar) (text_total : TextTotal) where
 
       tested : rule ≡ Tests → ((i : ℕ) × ChosenAt root cases rule env i) ⊎ NoneChosen root cases rule env → Goal
       tested e (inl c) = go c.0 (with_rule Tests e (λ r. index_width r ≤ length rest) (omega arith)) (with_rule Tests e (λ r. IndexIs root r rest c.0) tt) (with_rule Tests e (λ r. IndexPart root r c.0 at (take (index_width r) rest)) refl) c.1
-      tested e (inr n) = failed (with_rule Tests e (λ r. Stuck (IndexFails root here r cases env) at rest) (says here no_alternative, 0, (subst (λ r. NoneChosen root cases r env) e n, refl, refl)))
+      tested e (inr n) = failed (with_rule Tests e (λ r. Stuck (IndexFails root here r cases env) at rest) (says here no_alternative, 0, record { none = subst (λ r. NoneChosen root cases r env) e n; says = refl; reaches = refl }))
 
       by_item : (s : ℕ) → rule ≡ Item s → ((i : ℕ) × ChosenAt root cases rule env i) ⊎ NoneChosen root cases rule env → Goal
       by_item s e (inl c) = go c.0 (with_rule (Item s) e (λ r. index_width r ≤ length rest) (omega arith)) (with_rule (Item s) e (λ r. IndexIs root r rest c.0) tt) (with_rule (Item s) e (λ r. IndexPart root r c.0 at (take (index_width r) rest)) refl) c.1
-      by_item s e (inr n) = failed (with_rule (Item s) e (λ r. Stuck (IndexFails root here r cases env) at rest) (says here no_alternative, 0, (subst (λ r. NoneChosen root cases r env) e n, refl, refl)))
+      by_item s e (inr n) = failed (with_rule (Item s) e (λ r. Stuck (IndexFails root here r cases env) at rest) (says here no_alternative, 0, record { none = subst (λ r. NoneChosen root cases r env) e n; says = refl; reaches = refl }))
 
       by : (r : ChoiceRule) → rule ≡ r → Goal
       by (Index width) e = indexed width e (less_or_not (length rest) width) (less_or_not (number (take width rest)) (count_of cases))
@@ -420,10 +420,10 @@ module _ (root : Grammar) (text_total : TextTotal) where
               };
             },
           )
-      ended ys now h count permitted (inr x) = inr (x.0, presence_count fields + x.1, inr (ys, count, permitted, (h, (x.1, x.2, refl))))
+      ended ys now h count permitted (inr x) = inr (x.0, presence_count fields + x.1, fails_behind_presence (record { numbers = ys; count = count; permitted = permitted; behind = record { there = h; more = x.1; fails = x.2; reaches = refl } }))
 
       by : (length rest < presence_count fields) ⊎ (presence_count fields ≤ length rest) → Outcome keys (form_opens (seq fields home)) env (λ e. FormPart root Any (seq fields home) e) (λ e. FormFails root (seq fields home) e here origin) at rest
-      by (inl h) = record { moved = unmoved root keys (form_opens (seq fields home)) env good; result = inr (says here short, length rest, inl (h, refl, refl)) }
+      by (inl h) = record { moved = unmoved root keys (form_opens (seq fields home)) env good; result = inr (says here short, length rest, presence_cut (h, refl, refl)) }
       by (inr h) =
           let o = inside h in
           let out = outside root keys home n (fields_opens fields) env good apart o.moved in
@@ -507,14 +507,14 @@ module _ (root : Grammar) (text_total : TextTotal) where
             → ((ps : Places) × (presence_bits (component name g presence default own fs) ps ≡ flags) × FrontOf (FieldsPart root Any (component name g presence default own fs) q.now ps) at rest) ⊎ Stuck (FieldsFail root (component name g presence default own fs) q.now flags here origin k) at rest
         by q (inl (ps, e, f)) =
             inl (empty ps, flags_away presence q.now flags (presence_bits fs ps) (flags_left presence name g default own fs flags long).0 (no_more q) e, record { front = f.front; back = f.back; whole = f.whole; spelled = record { given = may_be_away q.now presence flags (no_more q); spelled = f.spelled } })
-        by q (inr x) = inr (x.0, x.1, inr (no_more q, x.2))
+        by q (inr x) = inr (x.0, x.1, fails_behind_absent (no_more q, x.2))
 
     -- it is there
     there_done : IsThere env presence flags → (m : Moved root keys (opens g) env) → ((d : Data) × FrontOf (Spell root Any g m.now d) at rest) ⊎ Stuck (Fails root g m.now here.inside origin (here.path ++ k ∷ [])) at rest
         → ((now : Env) → Good root keys now → (at' : ℕ) (back : List Bool) → Rest now at' back) → Whole
     there_done h m (inr x) more = record {
       moved = moved_as root keys (opens g) (fields_opens (component name g presence default own fs)) env m (λ s e. (each_part s e).1);
-      result = inr (x.0, x.1, inl (is_there_moves root presence flags ks fine.0 env m.now (λ s e. m.rest s (apart_node s e)) h, inl x.2));
+      result = inr (x.0, x.1, fails_at_component (is_there_moves root presence flags ks fine.0 env m.now (λ s e. m.rest s (apart_node s e)) h, x.2));
     }
     there_done h m (inl (d, f)) more =
         let w = own_total keys own g laid.1 m.now m.good d at f.front f.spelled in
@@ -553,7 +553,7 @@ module _ (root : Grammar) (text_total : TextTotal) where
                 inl (filled d ps, flags_there presence q.now flags (presence_bits fs ps) there e, join_front at rest f.front f.back f.whole (record { given = (may_be_there q.now presence flags there, carried); spelled = spelled }) u)
             last (inr x) =
                 let b = join_stuck {P = Where (Carries q.now own d) (Spell root Any g q.now d)} at rest f.front f.back f.whole (record { given = carried; spelled = spelled }) x in
-                inr (b.0, b.1, inl (there, inr (d, b.2)))
+                inr (b.0, b.1, fails_behind_component (there, (d, b.2)))
 
     component_done : IsThere env presence flags ⊎ (IsThere env presence flags → ⊥) → (m : Moved root keys (opens g) env) → ((d : Data) × FrontOf (Spell root Any g m.now d) at rest) ⊎ Stuck (Fails root g m.now here.inside origin (here.path ++ k ∷ [])) at rest
         → ((now : Env) → Good root keys now → (at' : ℕ) (back : List Bool) → Rest now at' back) → Whole
@@ -568,7 +568,7 @@ module _ (root : Grammar) (text_total : TextTotal) where
     slot_done : (s : ℕ) → FieldsLaid root keys (inserted name (node align (num leaf)) (Some s) fs) → (m : Moved root keys none env) → ((d : Data) × FrontOf (Spell root Any (node align (num leaf)) m.now d) at rest) ⊎ Stuck (Fails root (node align (num leaf)) m.now here.inside origin (here.path ++ k ∷ [])) at rest
         → ((now : Env) → Good root keys now → (at' : ℕ) (back : List Bool) → FieldsOutcome keys (fields_opens fs) now fs flags here origin (suc k) at' back)
         → FieldsOutcome keys (fields_opens (inserted name (node align (num leaf)) (Some s) fs)) env (inserted name (node align (num leaf)) (Some s) fs) flags here origin k at rest
-    slot_done s laid m (inr x) more = record { moved = moved_as root keys none (fields_opens (inserted name (node align (num leaf)) (Some s) fs)) env m (λ t e. refl); result = inr (x.0, x.1, inl x.2) }
+    slot_done s laid m (inr x) more = record { moved = moved_as root keys none (fields_opens (inserted name (node align (num leaf)) (Some s) fs)) env m (λ t e. refl); result = inr (x.0, x.1, fails_at_inserted x.2) }
     slot_done s laid m (inl (d, f)) more =
         let c = f.spelled.second in
         let w = move_to root keys s c.0 m.now m.good laid.0.0 (laid.0.1 c.0 c.2.permitted) in
@@ -592,13 +592,13 @@ module _ (root : Grammar) (text_total : TextTotal) where
             last : ((ps : Places) × (presence_bits fs ps ≡ flags) × FrontOf (FieldsPart root Any fs q.now ps) (at + length f.front) f.back) ⊎ Stuck (FieldsFail root fs q.now flags here origin (suc k)) (at + length f.front) f.back
                 → ((ps : Places) × (presence_bits fs ps ≡ flags) × FrontOf (FieldsPart root Any (inserted name (node align (num leaf)) (Some s) fs) q.now ps) at rest) ⊎ Stuck (FieldsFail root (inserted name (node align (num leaf)) (Some s) fs) q.now flags here origin k) at rest
             last (inl (ps, e, u)) = inl (ps, e, join_front at rest f.front f.back f.whole spelled u)
-            last (inr x) = (let b = join_stuck {P = SlotField root Any (node align (num leaf)) q.now s} at rest f.front f.back f.whole spelled x in inr (b.0, b.1, inr b.2))
+            last (inr x) = (let b = join_stuck {P = SlotField root Any (node align (num leaf)) q.now s} at rest f.front f.back f.whole spelled x in inr (b.0, b.1, fails_behind_inserted b.2))
 
     -- one that is always the same
     null_done : leaf.kind ≡ Null → (m : Moved root keys none env) → ((d : Data) × FrontOf (Spell root Any (node align (num leaf)) m.now d) at rest) ⊎ Stuck (Fails root (node align (num leaf)) m.now here.inside origin (here.path ++ k ∷ [])) at rest
         → ((now : Env) → Good root keys now → (at' : ℕ) (back : List Bool) → FieldsOutcome keys (fields_opens fs) now fs flags here origin (suc k) at' back)
         → FieldsOutcome keys (fields_opens (inserted name (node align (num leaf)) None fs)) env (inserted name (node align (num leaf)) None fs) flags here origin k at rest
-    null_done kind m (inr x) more = record { moved = moved_as root keys none (fields_opens (inserted name (node align (num leaf)) None fs)) env m (λ t e. refl); result = inr (x.0, x.1, inl x.2) }
+    null_done kind m (inr x) more = record { moved = moved_as root keys none (fields_opens (inserted name (node align (num leaf)) None fs)) env m (λ t e. refl); result = inr (x.0, x.1, fails_at_inserted x.2) }
     null_done kind m (inl (d, f)) more =
         let o = more m.now m.good (at + length f.front) f.back in
         record {
@@ -620,7 +620,7 @@ module _ (root : Grammar) (text_total : TextTotal) where
             last : ((ps : Places) × (presence_bits fs ps ≡ flags) × FrontOf (FieldsPart root Any fs q.now ps) (at + length f.front) f.back) ⊎ Stuck (FieldsFail root fs q.now flags here origin (suc k)) (at + length f.front) f.back
                 → ((ps : Places) × (presence_bits fs ps ≡ flags) × FrontOf (FieldsPart root Any (inserted name (node align (num leaf)) None fs) q.now ps) at rest) ⊎ Stuck (FieldsFail root (inserted name (node align (num leaf)) None fs) q.now flags here origin k) at rest
             last (inl (ps, e, u)) = inl (ps, e, join_front at rest f.front f.back f.whole spelled u)
-            last (inr x) = (let b = join_stuck {P = Spell root Any (node align (num leaf)) q.now null} at rest f.front f.back f.whole spelled x in inr (b.0, b.1, inr b.2))
+            last (inr x) = (let b = join_stuck {P = Spell root Any (node align (num leaf)) q.now null} at rest f.front f.back f.whole spelled x in inr (b.0, b.1, fails_behind_inserted b.2))
 
   closed : (keys : Known) (g : Grammar) → Shut g → (env : Env) (P : Env → Data → Part) (F : Env → Failing) (at : ℕ) (rest : List Bool) → Outcome keys (λ s. opens g s) env P F at rest → Outcome keys none env P F at rest
   closed keys g shut env P F at rest o = record { moved = moved_as root keys (λ s. opens g s) none env o.moved (λ s h. shut s); result = o.result }

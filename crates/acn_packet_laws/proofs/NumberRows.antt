@@ -8,7 +8,7 @@ use Rattle.acn_num.specs.Ranges.{In, has}
 use Rattle.acn_grammar.specs.Code.{Written, image_in, item_number, nibbles}
 use Rattle.acn_grammar.specs.Front.{IsWritten}
 use Rattle.acn_grammar.specs.Grammar.{int, item}
-use Rattle.acn_grammar.specs.LeafFails.{DigitAt, Negative, short, out_of_range, not_minimal, bad_digit, too_long, says, cut, digit_too_many, end_alone, no_digit_no_end, not_shortest, none_counted, many_counted, octets_cut, octets_to_spare}
+use Rattle.acn_grammar.specs.LeafFails.{DigitAt, Negative, short, out_of_range, not_minimal, bad_digit, too_long, says, cut, digit_too_many, end_alone, no_digit_no_end, not_shortest, none_counted, many_counted, octets_cut, octets_to_spare, code_not_permitted, fails_behind_plus, fails_behind_minus, no_sign_octet}
 use Rattle.acn_grammar.specs.declared.node.NumCoding.{NumCoding}
 use Rattle.acn_grammar.specs.declared.node.NumCoding.TheVariants.{Range, CountedFrom, PosInt, Twos, BcdEnded, AsciiEnded}
 use Rattle.acn_grammar.specs.declared.node.NumKind.TheVariants.{Integer, Enumerated}
@@ -42,7 +42,7 @@ pub little_turns_the_octets_law : rows.LittleTurnsTheOctets
 little_turns_the_octets_law = record {
   tree = refl;
   written = turned;
-  refused = leaf_fails little_leaf _ (out_of_range (pos 1001)) 16 (inr (omega arith, (says (pos 1001) (pos 1001), refl, (none_is (pos 0) (pos 1000) (pos 1001) refl, refl)), refl));
+  refused = leaf_fails little_leaf _ (out_of_range (pos 1001)) 16 (code_not_permitted (omega arith, (says (pos 1001) (pos 1001), refl, (none_is (pos 0) (pos 1000) (pos 1001) refl, refl)), refl));
   never = λ w. not_turned (writing_of_a_tree (rows.little 16) refl (int (pos 258)) _ _ turned w);
   whole = refl;
 }
@@ -60,7 +60,7 @@ twos_complement_has_a_sign_law = record {
   tree = refl;
   written = minus_one;
   refused = leaf_fails (integer (neg_ℤ (pos 2000)) (pos 2047) (Twos 12)) _ (out_of_range (neg_ℤ (pos 2048))) 12
-      (inr (omega arith, (says (neg_ℤ (pos 2048)) (neg_ℤ (pos 2048)), refl, (none_is (neg_ℤ (pos 2000)) (pos 2047) (neg_ℤ (pos 2048)) refl, refl)), refl));
+      (code_not_permitted (omega arith, (says (neg_ℤ (pos 2048)) (neg_ℤ (pos 2048)), refl, (none_is (neg_ℤ (pos 2000)) (pos 2047) (neg_ℤ (pos 2048)) refl, refl)), refl));
   never = λ w. not_one (writing_of_a_tree (rows.signed (neg_ℤ (pos 2048))) refl (int (neg_ℤ (pos 1))) _ _ minus_one w);
   no_room = refl;
 }
@@ -154,12 +154,12 @@ characters_with_an_end_are_least_law = record {
   bounds = refl;
   written = minus_seven;
   positive = forty_two;
-  minus_zero = leaf_fails ended_leaf _ not_minimal 24 (inr (inr (inl (
+  minus_zero = leaf_fails ended_leaf _ not_minimal 24 (fails_behind_minus (
     omega arith,
     refl,
-    (
-      16,
-      record {
+    record {
+      more = 16;
+      fails = record {
         digits = 0 ∷ [];
         behind = low_bits 8 0;
         whole = refl;
@@ -168,16 +168,16 @@ characters_with_an_end_are_least_law = record {
         more = 8;
         fails = not_shortest (omega arith, refl, omega arith, (λ h. no_minus_zero h.1.0 h.1.1), refl, refl);
         reaches = refl;
-      },
-      refl,
-    ),
-  ))));
-  leading_zero = leaf_fails ended_leaf _ not_minimal 32 (inr (inl (
+      };
+      reaches = refl;
+    },
+  ));
+  leading_zero = leaf_fails ended_leaf _ not_minimal 32 (fails_behind_plus (
     omega arith,
     refl,
-    (
-      24,
-      record {
+    record {
+      more = 24;
+      fails = record {
         digits = 0 ∷ 7 ∷ [];
         behind = low_bits 8 0;
         whole = refl;
@@ -186,17 +186,17 @@ characters_with_an_end_are_least_law = record {
         more = 8;
         fails = not_shortest (omega arith, refl, omega arith, (λ h. absurd (omega (arith, h.0))), refl, refl);
         reaches = refl;
-      },
-      refl,
-    ),
-  )));
-  no_sign = leaf_fails ended_leaf _ bad_digit 8 (inr (inr (inr (omega arith, neither_sign 55 (omega arith), refl, refl))));
-  three_digits = leaf_fails ended_leaf _ too_long 32 (inr (inl (
+      };
+      reaches = refl;
+    },
+  ));
+  no_sign = leaf_fails ended_leaf _ bad_digit 8 (no_sign_octet (omega arith, neither_sign 55 (omega arith), refl, refl));
+  three_digits = leaf_fails ended_leaf _ too_long 32 (fails_behind_plus (
     omega arith,
     refl,
-    (
-      24,
-      record {
+    record {
+      more = 24;
+      fails = record {
         digits = 1 ∷ 2 ∷ [];
         behind = bits_of (51 ∷ 0 ∷ []);
         whole = refl;
@@ -205,19 +205,19 @@ characters_with_an_end_are_least_law = record {
         more = 8;
         fails = digit_too_many (omega arith, record { digit = 3; below = omega arith; stands = refl }, refl, refl, refl);
         reaches = refl;
-      },
-      refl,
-    ),
-  )));
-  no_end = leaf_fails ended_leaf _ short 16 (inr (inl (
+      };
+      reaches = refl;
+    },
+  ));
+  no_end = leaf_fails ended_leaf _ short 16 (fails_behind_plus (
     omega arith,
     refl,
-    (
-      8,
-      record { digits = 4 ∷ []; behind = []; whole = refl; are = (omega arith, tt); few = omega arith; more = 0; fails = cut (omega arith, refl, refl); reaches = refl },
-      refl,
-    ),
-  )));
+    record {
+      more = 8;
+      fails = record { digits = 4 ∷ []; behind = []; whole = refl; are = (omega arith, tt); few = omega arith; more = 0; fails = cut (omega arith, refl, refl); reaches = refl };
+      reaches = refl;
+    },
+  ));
   never = λ w. seven_apart (writing_of_a_tree rows.ended_digits refl (int (neg_ℤ (pos 7))) _ _ minus_seven w);
 }
 
@@ -243,10 +243,10 @@ pub items_have_places_and_numbers_law : rows.ItemsHavePlacesAndNumbers
 items_have_places_and_numbers_law = record {
   tree = refl;
   written = leaf_spelled Written (letters_leaf (Range (pos 0) 2) false) (item 2) (pos 2) _ refl (record { permitted = refl; image = pos 2; maps = refl; spelled = (2, refl, record { width = refl; value = refl }) });
-  no_place = leaf_fails (letters_leaf (Range (pos 0) 2) false) _ (out_of_range (pos 3)) 2 (inr (omega arith, (says (pos 3) (pos 3), refl, (none_is (pos 0) (pos 2) (pos 3) refl, refl)), refl));
+  no_place = leaf_fails (letters_leaf (Range (pos 0) 2) false) _ (out_of_range (pos 3)) 2 (code_not_permitted (omega arith, (says (pos 3) (pos 3), refl, (none_is (pos 0) (pos 2) (pos 3) refl, refl)), refl));
   numbered = refl;
   value = a_numbered;
-  no_number = leaf_fails (letters_leaf (PosInt 8) true) _ (out_of_range (pos 2)) 8 (inr (omega arith, (says (pos 2) (pos 2), refl, (no_item, refl)), refl));
+  no_number = leaf_fails (letters_leaf (PosInt 8) true) _ (out_of_range (pos 2)) 8 (code_not_permitted (omega arith, (says (pos 2) (pos 2), refl, (no_item, refl)), refl));
   never = λ w. five_apart (writing_of_a_tree (rows.letters (PosInt 8) true) refl (item 2) _ _ a_numbered w);
 }
 
@@ -324,6 +324,6 @@ a_table_maps_the_numbers_law = record {
   tree = refl;
   written = leaf_spelled Written mapped_leaf (int (pos 3)) (pos 3) _ refl (record { permitted = refl; image = pos 2; maps = refl; spelled = (refl, refl) });
   apart = four_mapped;
-  refused = leaf_fails mapped_leaf _ (out_of_range (pos 3)) 8 (inr (omega arith, (says (pos 3) (pos 3), refl, (unmapped, refl)), refl));
+  refused = leaf_fails mapped_leaf _ (out_of_range (pos 3)) 8 (code_not_permitted (omega arith, (says (pos 3) (pos 3), refl, (unmapped, refl)), refl));
   never = λ w. seven_alone (writing_of_a_tree rows.mapped refl (int (pos 4)) _ _ four_mapped w);
 }

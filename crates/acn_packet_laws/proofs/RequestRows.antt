@@ -1,10 +1,10 @@
 -- Rows of lists that a pattern ends and of components that are determinants.
-use Rattle.std.proofs.Common.{◌≡◌, ℕ, ◌+◌, pos, Bool, false, List, [], ◌∷◌, ◌++◌, Some, None, length, refl, ap, arith, inl, inr, subst, length-append}
+use Rattle.std.proofs.Common.{◌≡◌, ℕ, ◌+◌, pos, Bool, false, List, [], ◌∷◌, ◌++◌, Some, None, length, refl, ap, arith, subst, length-append}
 use Rattle.std.proofs.lemmas.Int.{ints}
 use Rattle.acn_num.specs.Bits.{low_bits, bits as bits_of}
 use Rattle.acn_grammar.specs.Asks.{Moment, asks, Equal}
 use Rattle.acn_grammar.specs.Code.{Mode, Written, Any, Code}
-use Rattle.acn_grammar.specs.Fails.{Refusal, Failing, Behind}
+use Rattle.acn_grammar.specs.Fails.{Refusal, Failing, Behind, fails_behind_padding, end_not_permitted, fails_behind_next, full_not_ended, pattern_differs}
 use Rattle.acn_grammar.specs.Front.{IsWritten}
 use Rattle.acn_grammar.specs.Grammar.{int, octet_string, list_of, element, no_elements}
 use Rattle.acn_grammar.specs.LeafFails.{too_long, size_out_of_range}
@@ -76,37 +76,37 @@ empty_written = record {
 
 -- dec ff, with one element at least
 none_permitted : Refusal (ended_list 1) (low_bits 8 255) (record { path = []; reason = size_out_of_range 0; at = 0 }) 8
-none_permitted = inr (record {
+none_permitted = fails_behind_padding (record {
   front = [];
   back = low_bits 8 255;
   whole = refl;
   spelled = nothing Any 0;
   more = 8;
-  fails = inl (refl, (λ h. cc), refl, refl);
+  fails = end_not_permitted (record { stands = refl; refused = λ h. cc; says = refl; reaches = refl });
   reaches = refl;
 })
 
 -- dec 01 02 03 04: no fourth may come
 too_many : Refusal (ended_list 0) (bits_of (1 ∷ 2 ∷ 3 ∷ 4 ∷ [])) (record { path = []; reason = too_long; at = 0 }) 32
-too_many = inr (record {
+too_many = fails_behind_padding (record {
   front = [];
   back = bits_of (1 ∷ 2 ∷ 3 ∷ 4 ∷ []);
   whole = refl;
   spelled = nothing Any 0;
   more = 32;
-  fails = inr (inr (
+  fails = fails_behind_next (
     int (pos 1),
     behind 0 1 (bits_of (2 ∷ 3 ∷ 4 ∷ [])) 24 (byte 0 1 (record { permitted = refl; image = pos 1; maps = refl; spelled = (1, refl, record { width = refl; value = refl }) }))
-        (inr (inr (
+        (fails_behind_next (
           int (pos 2),
           behind 8 2 (bits_of (3 ∷ 4 ∷ [])) 16 (byte 8 2 (record { permitted = refl; image = pos 2; maps = refl; spelled = (2, refl, record { width = refl; value = refl }) }))
-              (inr (inr (
+              (fails_behind_next (
                 int (pos 3),
                 behind 16 3 (bits_of (4 ∷ [])) 8 (byte 16 3 (record { permitted = refl; image = pos 3; maps = refl; spelled = (3, refl, record { width = refl; value = refl }) }))
-                    (inr (inr (omega arith, (λ e. cc), refl, refl))),
-              ))),
-        ))),
-  ));
+                    (full_not_ended (pattern_differs (omega arith, (λ e. cc), refl, refl))),
+              )),
+        )),
+  );
   reaches = refl;
 })
   where

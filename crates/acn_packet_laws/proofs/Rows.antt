@@ -4,9 +4,8 @@ use Rattle.std.proofs.lemmas.Int.{ints}
 use Rattle.acn_num.specs.Bits.{low_bits, bits as bits_of}
 use Rattle.acn_grammar.specs.Grammar.{Grammar, Data, node, num, octets, seq, no_fields, component, inserted, int, octet_string, record_of, no_places, filled}
 use Rattle.acn_grammar.specs.Code.{Written, Any}
-use Rattle.std.proofs.Common.{inl, inr}
-use Rattle.acn_grammar.specs.Fails.{Refusal}
-use Rattle.acn_grammar.specs.LeafFails.{short}
+use Rattle.acn_grammar.specs.Fails.{Refusal, fails_at_component, fails_behind_component, fails_behind_padding, fails_behind_presence}
+use Rattle.acn_grammar.specs.LeafFails.{short, code_cut}
 use Rattle.acn_grammar.specs.Front.{IsWritten}
 use Rattle.acn_grammar.specs.Interval.{span}
 use Rattle.acn_grammar.specs.Length.{bit_length}
@@ -178,49 +177,56 @@ any_aligned at = record { aligned = omega arith; fewest = omega arith; zeros = �
 
 -- 05 alone is Short at b, which begins at bit 8
 pub one_octet : Refusal first_row (bits_of (5 ∷ [])) (record { path = 1 ∷ []; reason = short; at = 8 }) 8
-one_octet = inr (record {
+one_octet = fails_behind_padding (record {
   front = [];
   back = _;
   whole = refl;
   spelled = any_aligned 0;
   more = 8;
   reaches = refl;
-  fails = inr (
-    [],
-    refl,
-    tt,
-    (
-      omega arith,
-      (
-        8,
-        inl (
-          tt,
-          inr (
-            int (pos 5),
-            record {
-              front = low_bits 8 5;
-              back = [];
-              whole = refl;
-              spelled = record { given = tt; spelled = record { front = []; back = _; whole = refl; first = any_aligned 0; second = (pos 5, refl, record { permitted = refl; image = pos 5; maps = refl; spelled = (5, refl, record { width = refl; value = refl }) }) } };
-              more = 0;
-              reaches = refl;
-              fails = inl (
-                tt,
-                inl (inr (record {
-                  front = [];
-                  back = [];
-                  whole = refl;
-                  spelled = any_aligned 8;
-                  more = 0;
-                  reaches = refl;
-                  fails = (short, inl (omega arith, refl, refl), refl);
-                })),
-              );
-            },
-          ),
+  fails = fails_behind_presence (record {
+    numbers = [];
+    count = refl;
+    permitted = tt;
+    behind = record {
+      there = omega arith;
+      more = 8;
+      fails = fails_behind_component (
+        tt,
+        (
+          int (pos 5),
+          record {
+            front = low_bits 8 5;
+            back = [];
+            whole = refl;
+            spelled = record {
+              given = tt;
+              spelled = record {
+                front = [];
+                back = _;
+                whole = refl;
+                first = any_aligned 0;
+                second = (pos 5, refl, record { permitted = refl; image = pos 5; maps = refl; spelled = (5, refl, record { width = refl; value = refl }) });
+              };
+            };
+            more = 0;
+            reaches = refl;
+            fails = fails_at_component (
+              tt,
+              fails_behind_padding (record {
+                front = [];
+                back = [];
+                whole = refl;
+                spelled = any_aligned 8;
+                more = 0;
+                reaches = refl;
+                fails = record { reason = short; fails = code_cut (omega arith, refl, refl); says = refl };
+              }),
+            );
+          },
         ),
-        refl,
-      ),
-    ),
-  );
+      );
+      reaches = refl;
+    };
+  });
 })

@@ -9,7 +9,7 @@ use Rattle.acn_num.specs.Bits.{number, signed_number, low_bits}
 use Rattle.acn_grammar.specs.Code.{nibbles, digit_octets}
 use Rattle.acn_grammar.specs.Images.{images_of}
 use Rattle.acn_grammar.specs.Interval.{held, span_by, fixed_width, num_span}
-use Rattle.acn_grammar.specs.LeafFails.{Reason, short, not_minimal, bad_digit, bad_pattern, Wire, says, wrong, SignedWire, DigitsWire, PatternWire, OnePatternWire, FixedWire, WireFails, FixedFails, CountedFails, CharacterFails, cut, end_cut, digit_too_many, no_digit_no_end, end_alone, not_shortest, not_permitted, EndedFails, AsciiEndedFails, Positive, Negative, most_digits, CodingFails, LeafFails, octet_values, no_count, none_counted, many_counted, octets_cut, octets_to_spare, counted_not_permitted, plus_digits, minus_digits, minus_nothing, no_signed_digits}
+use Rattle.acn_grammar.specs.LeafFails.{Reason, short, not_minimal, bad_digit, bad_pattern, Wire, says, wrong, SignedWire, DigitsWire, PatternWire, OnePatternWire, FixedWire, WireFails, FixedFails, CountedFails, CharacterFails, cut, end_cut, digit_too_many, no_digit_no_end, end_alone, not_shortest, not_permitted, EndedFails, AsciiEndedFails, Positive, Negative, most_digits, CodingFails, LeafFails, octet_values, no_count, none_counted, many_counted, octets_cut, octets_to_spare, counted_not_permitted, plus_digits, minus_digits, minus_nothing, no_signed_digits, code_cut, code_not_permitted, sign_cut, fails_behind_plus, fails_behind_minus, no_sign_octet}
 use Rattle.acn_grammar.specs.Leaves.{num_fine, coding_fine, is_terminator, is_pattern, begins_number}
 use Rattle.acn_grammar.specs.Length.{digit_count, least_octets, least_signed_octets, flag_width}
 use Rattle.acn_grammar.specs.Spell.{octet_numbers}
@@ -74,8 +74,8 @@ wire_not leaf (says wire image) r n t e = let q = t.1 in cc
 wire_not leaf (wrong f) r n t e = n (sym t ∙ e)
 
 fixed_short : (coding : NumCoding) (leaf : NumLeaf) (width : ℕ) (rest : List Bool) (r : Reason) (reach : ℕ) → FixedFails coding leaf width rest r reach → r ≡ short → length rest < width
-fixed_short coding leaf width rest r reach (inl t) e = t.0
-fixed_short coding leaf width rest r reach (inr t) e =
+fixed_short coding leaf width rest r reach (code_cut t) e = t.0
+fixed_short coding leaf width rest r reach (code_not_permitted t) e =
     let w = t.1 in
     absurd (wire_not leaf w.0 r (wire_said coding leaf.little (take width rest) w.0 w.1) w.2 e)
 
@@ -130,18 +130,18 @@ terminator_few (b ∷ end) h = grind (arith, nat_tests)
 
 ascii_short : (leaf : NumLeaf) (end : List Bool) (signed : Bool) (rest : List Bool) (r : Reason) (reach : ℕ) → length end ≤ 64 → AsciiEndedFails leaf end signed rest r reach → r ≡ short → length rest < 1000
 ascii_short leaf end false rest r reach l t e = let a = ended_short leaf digit_octets 8 end (most_digits (images_of leaf)) Positive rest r reach digit_octets-length (omega arith) (most_few (images_of leaf)) l t e in omega arith
-ascii_short leaf end true rest r reach l (inl t) e = let a = t.0 in omega arith
-ascii_short leaf end true rest r reach l (inr (inl t)) e =
+ascii_short leaf end true rest r reach l (sign_cut t) e = let a = t.0 in omega arith
+ascii_short leaf end true rest r reach l (fails_behind_plus t) e =
     let s = t.2 in
-    let a = ended_short leaf digit_octets 8 end (most_digits (images_of leaf)) Positive (drop 8 rest) r s.0 digit_octets-length (omega arith) (most_few (images_of leaf)) l s.1 e in
+    let a = ended_short leaf digit_octets 8 end (most_digits (images_of leaf)) Positive (drop 8 rest) r s.more digit_octets-length (omega arith) (most_few (images_of leaf)) l s.fails e in
     let d = length-drop 8 rest in
     omega arith
-ascii_short leaf end true rest r reach l (inr (inr (inl t))) e =
+ascii_short leaf end true rest r reach l (fails_behind_minus t) e =
     let s = t.2 in
-    let a = ended_short leaf digit_octets 8 end (most_digits (images_of leaf)) Negative (drop 8 rest) r s.0 digit_octets-length (omega arith) (most_few (images_of leaf)) l s.1 e in
+    let a = ended_short leaf digit_octets 8 end (most_digits (images_of leaf)) Negative (drop 8 rest) r s.more digit_octets-length (omega arith) (most_few (images_of leaf)) l s.fails e in
     let d = length-drop 8 rest in
     omega arith
-ascii_short leaf end true rest r reach l (inr (inr (inr t))) e = let q = t.2 in cc
+ascii_short leaf end true rest r reach l (no_sign_octet t) e = let q = t.2 in cc
 
 width_short : (n m : ℕ) → n < m → held m < 2 ^ 40 → n < held m + 1000
 width_short n m h s = omega arith

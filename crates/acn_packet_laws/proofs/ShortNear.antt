@@ -1,12 +1,12 @@
 -- Bits are wanting only where there are fewer than the greatest packet and the greatest window have.
-use Rattle.std.proofs.Common.{◌≡◌, ℕ, zero, suc, ◌+◌, ◌-◌, ◌*◌, ◌^◌, ◌<◌, ◌≤◌, ℤ, pos, negsuc, Bool, true, false, List, [], ◌∷◌, ◌++◌, length, take, drop, Option, Some, None, refl, sym, ap, ◌∙◌, arith, inl, inr, ◌⊎◌, length-append}
+use Rattle.std.proofs.Common.{◌≡◌, ℕ, zero, suc, ◌+◌, ◌-◌, ◌*◌, ◌^◌, ◌<◌, ◌≤◌, ℤ, pos, negsuc, Bool, true, false, List, [], ◌∷◌, ◌++◌, length, take, drop, Option, Some, None, refl, sym, ap, ◌∙◌, arith, length-append}
 use Rattle.std.proofs.Math.Nat.{mul-le-mul_right, suc-mul}
 use Rattle.std.proofs.lemmas.List.{length-drop}
 use Rattle.acn_num.specs.Ranges.{In, greatest}
 use Rattle.acn_grammar.specs.Check.{too_long as too_long_tree}
 use Rattle.acn_grammar.specs.Code.{Any}
 use Rattle.acn_grammar.specs.Env.{Env}
-use Rattle.acn_grammar.specs.Fails.{Fault, Failing, Behind, Here, Short, Says, seen, RuleFails, SizeFails, Sized, PartsFail, CharactersFail, input_ended, end_too_late, length_not_permitted, character_not_permitted, FoundFails, TextFails, RunFails, EndedFails, ListFails, Fails, FormFails, FieldsFail, AlternativeFails, IndexFails, Overlong, flags_behind, presence_count}
+use Rattle.acn_grammar.specs.Fails.{Fault, Failing, Behind, Here, Short, Says, seen, RuleFails, PartsFail, CharactersFail, input_ended, end_too_late, length_not_permitted, character_not_permitted, FoundFails, TextFails, RunFails, EndedFails, ListFails, Fails, FormFails, FieldsFail, AlternativeFails, IndexFails, flags_behind, presence_count, SizedFails, ContentFails, ElementFails, InsertedFails, prefix_cut, prefix_not_permitted, fails_at_size, fails_behind_size, characters_cut, characters_not_permitted, fails_at_element, fails_behind_element, pattern_cut, pattern_differs, full_not_permitted, full_not_ended, end_not_permitted, next_element_fails, fails_behind_next, index_cut, index_too_great, fails_at_index, fails_at_alternative, padding_cut, fails_behind_padding, presence_cut, fails_behind_presence, fails_at_component, fails_behind_component, fails_behind_absent, fails_at_inserted, fails_behind_inserted, window_cut, content_fails, content_overlong}
 use Rattle.acn_grammar.specs.Grammar.{Grammar, Form, Fields, Alternatives, Data, node, num, octets, bits, text, seq, list, choice, contained, no_fields, component, inserted, no_alternatives, alternative, null}
 use Rattle.acn_grammar.specs.Interval.{held, exactly, plus, times, in_octets, span, form_span, fields_span, alternatives_span, num_span, sizes_of, size_of, end_width, list_around, component_span}
 use Rattle.acn_grammar.specs.LeafFails.{Reason, short, out_of_range, not_minimal, bad_digit, bad_character, bad_pattern, too_long, size_out_of_range, no_alternative, content_size, past_content, octet_values}
@@ -88,23 +88,19 @@ near_more inside b c F h n at rest fault reach t e =
     let m = n at rest fault reach t e in
     (m.0, λ s. let l = h s in omega (arith, m.1 (omega arith)))
 
-either_near : (inside : Bool) (b : Bounds) (F G : Failing) → Near inside b F → Near inside b G → Near inside b (λ at rest fault reach. F at rest fault reach ⊎ G at rest fault reach)
-either_near inside b F G f g at rest fault reach (inl t) e = f at rest fault reach t e
-either_near inside b F G f g at rest fault reach (inr t) e = g at rest fault reach t e
-
 -- Sizes.
 
 rule_near : (here : Here) (sizing : Sizing) (rule : SizeRule) (env : Env) → Near here.inside (exactly (rule_width rule)) (RuleFails here sizing rule env)
-rule_near here sizing (Prefix low width) env at rest fault reach (inl t) e = short_near here width (exactly width) (λ s. omega arith) at rest fault reach t e
-rule_near here sizing (Prefix low width) env at rest fault reach (inr t) e = never here (size_out_of_range _) fault (λ q. cc) t.2 e
-rule_near here sizing (Slot s) env at rest fault reach t e = never here (size_out_of_range _) fault (λ q. cc) t.3 e
+rule_near here sizing (Prefix low width) env at rest fault reach (prefix_cut t) e = short_near here width (exactly width) (λ s. omega arith) at rest fault reach t e
+rule_near here sizing (Prefix low width) env at rest fault reach (prefix_not_permitted t) e = never here (size_out_of_range _) fault (λ q. cc) t.2 e
+rule_near here sizing (Slot s) env at rest fault reach t e = never here (size_out_of_range _) fault (λ q. cc) t.says e
 rule_near here sizing (Ended end) env at rest fault reach t e = absurd t
 
 -- a size in front, and what fails behind it at a permitted size
-sized_near : (here : Here) (sizing : Sizing) (env : Env) (b : Bounds) (F : ℕ → Failing) → ((n : ℕ) → In sizing.sizes (pos n) → Near here.inside b (F n)) → Near here.inside (plus (exactly (rule_width sizing.rule)) b) (λ at rest fault reach. SizeFails here sizing env at rest fault reach ⊎ Sized sizing env F at rest fault reach)
-sized_near here sizing env b F h at rest fault reach (inl t) e =
+sized_near : (here : Here) (sizing : Sizing) (env : Env) (b : Bounds) (F : ℕ → Failing) → ((n : ℕ) → In sizing.sizes (pos n) → Near here.inside b (F n)) → Near here.inside (plus (exactly (rule_width sizing.rule)) b) (SizedFails here sizing env F)
+sized_near here sizing env b F h at rest fault reach (fails_at_size t) e =
     near_more here.inside (exactly (rule_width sizing.rule)) (plus (exactly (rule_width sizing.rule)) b) (RuleFails here sizing sizing.rule env) (λ s. omega arith) (rule_near here sizing sizing.rule env) at rest fault reach t e
-sized_near here sizing env b F h at rest fault reach (inr t) e =
+sized_near here sizing env b F h at rest fault reach (fails_behind_size t) e =
     let k = t.behind in
     let n = h t.n k.spelled.given (at + length k.front) k.back fault k.more k.fails e in
     let f = rule_between sizing.rule env t.n at k.front k.spelled.spelled in
@@ -133,8 +129,8 @@ one_run inside e n more F h at rest fault reach t q =
 
 run_near : (inside : Bool) (e : Bounds) (each : Data → Part) (fails : ℕ → Failing) → ((d : Data) (at : ℕ) (bs : List Bool) → each d at bs → Between e (length bs)) → ((k : ℕ) → Near inside e (fails k)) → (n k : ℕ) → RunNear inside e n 0 (RunFails each fails n k)
 run_near inside e each fails p h zero k at rest fault reach t q = absurd t
-run_near inside e each fails p h (suc n) k at rest fault reach (inl t) q = one_run inside e n 0 (fails k) (h k) at rest fault reach t q
-run_near inside e each fails p h (suc n) k at rest fault reach (inr t) q = behind_run inside e n 0 (each t.0) (RunFails each fails n (suc k)) (p t.0) (run_near inside e each fails p h n (suc k)) at rest fault reach t.1 q
+run_near inside e each fails p h (suc n) k at rest fault reach (fails_at_element t) q = one_run inside e n 0 (fails k) (h k) at rest fault reach t q
+run_near inside e each fails p h (suc n) k at rest fault reach (fails_behind_element t) q = behind_run inside e n 0 (each t.0) (RunFails each fails n (suc k)) (p t.0) (run_near inside e each fails p h n (suc k)) at rest fault reach t.1 q
 
 times_near : (a e : Bounds) (n more l : ℕ) → n ≤ a.greatest → ((0 < n → e.greatest < 2 ^ 40) → l < n * e.greatest + more + 524288) → (times a e).greatest < 2 ^ 40 → l < (times a e).greatest + more + 524288
 times_near a e zero more l h k s = let m = k (λ z. absurd (omega arith)) in omega arith
@@ -145,12 +141,12 @@ times_near a e (suc n) more l h k s =
     omega arith
 
 ended_near : (here : Here) (e : Bounds) (p : List Bool) (sizing : Sizing) (each : Data → Part) (fails : ℕ → Failing) → ((d : Data) (at : ℕ) (bs : List Bool) → each d at bs → Between e (length bs)) → ((k : ℕ) → Near here.inside e (fails k)) → (n k : ℕ) → RunNear here.inside e n (length p) (EndedFails here p sizing each fails n k)
-ended_near here e p sizing each fails f h zero k at rest fault reach (inl t) q = never here (size_out_of_range k) fault (λ x. cc) t.2 q
-ended_near here e p sizing each fails f h zero k at rest fault reach (inr (inl t)) q = let a = t.0 in ((says_short here short fault t.1 q).0, λ s. omega arith)
-ended_near here e p sizing each fails f h zero k at rest fault reach (inr (inr t)) q = never here too_long fault (λ x. cc) t.2 q
-ended_near here e p sizing each fails f h (suc n) k at rest fault reach (inl t) q = never here (size_out_of_range k) fault (λ x. cc) t.2 q
-ended_near here e p sizing each fails f h (suc n) k at rest fault reach (inr (inl t)) q = one_run here.inside e n (length p) (fails k) (h k) at rest fault t.1.0 t.1.1 q
-ended_near here e p sizing each fails f h (suc n) k at rest fault reach (inr (inr t)) q =
+ended_near here e p sizing each fails f h zero k at rest fault reach (full_not_permitted t) q = never here (size_out_of_range k) fault (λ x. cc) t.says q
+ended_near here e p sizing each fails f h zero k at rest fault reach (full_not_ended (pattern_cut t)) q = let a = t.0 in ((says_short here short fault t.1 q).0, λ s. omega arith)
+ended_near here e p sizing each fails f h zero k at rest fault reach (full_not_ended (pattern_differs t)) q = never here too_long fault (λ x. cc) t.2 q
+ended_near here e p sizing each fails f h (suc n) k at rest fault reach (end_not_permitted t) q = never here (size_out_of_range k) fault (λ x. cc) t.says q
+ended_near here e p sizing each fails f h (suc n) k at rest fault reach (next_element_fails t) q = one_run here.inside e n (length p) (fails k) (h k) at rest fault t.inner t.fails q
+ended_near here e p sizing each fails f h (suc n) k at rest fault reach (fails_behind_next t) q =
     behind_run here.inside e n (length p) (each t.0) (EndedFails here p sizing each fails n (suc k)) (f t.0) (ended_near here e p sizing each fails f h n (suc k)) at rest fault reach t.1 q
 
 list_near : (end : Option (List Bool)) (here : Here) (sizing : Sizing) (env : Env) (e : Bounds) (each : Data → Part) (fails : ℕ → Failing) → sizes_fine sizing.sizes ≡ true → ((d : Data) (at : ℕ) (bs : List Bool) → each d at bs → Between e (length bs)) → ((k : ℕ) → Near here.inside e (fails k))
@@ -178,9 +174,9 @@ text_near None here leaf env s f at' rest' fault' reach' t' e' =
     (sized_near here leaf.sized env (times (sizes_of leaf.sized.sizes) (exactly leaf.width)) (CharactersFail here leaf) (λ n p at rest fault reach t e. characters n p at rest fault reach t e)) at' rest' fault' reach' t' e'
   where
     characters : (n : ℕ) → In leaf.sized.sizes (pos n) → Near here.inside (times (sizes_of leaf.sized.sizes) (exactly leaf.width)) (CharactersFail here leaf n)
-    characters n p at rest fault reach (inl t) e =
+    characters n p at rest fault reach (characters_cut t) e =
         short_near here (leaf.width * n) (times (sizes_of leaf.sized.sizes) (exactly leaf.width)) (λ l. let b = same_spans (sizes_of leaf.sized.sizes) n leaf.width (leaf.width * n) (size_has leaf.sized.sizes n s p) refl in omega (arith, b.high l)) at rest fault reach t e
-    characters n p at rest fault reach (inr t) e = never here bad_character fault (λ q. cc) t.2 e
+    characters n p at rest fault reach (characters_not_permitted t) e = never here bad_character fault (λ q. cc) t.2 e
 text_near (Some end) here leaf env s f at rest fault reach t e = by _ t
   where
     eight : leaf.width ≡ 8
@@ -259,61 +255,61 @@ module _ (root : Grammar) where
   padding_front align h at bs p = moved_spans (record { least = 0; greatest = align - 1 }) (length bs) (padding align at) (Padding-length Any align at bs p) (padding_spans align at h)
 
   field_near : (inside : Bool) (presence : Presence) (b : Bounds) (fs : Fields) (P : Part) (F G : Failing) → ((at : ℕ) (bs : List Bool) → P at bs → Between b (length bs)) → Near inside b F → FieldsNear inside fs G → (at : ℕ) (rest : List Bool) (fault : Fault) (reach : ℕ)
-      → F at rest fault reach ⊎ Behind P G at rest fault reach → fault.reason ≡ short → (inside ≡ false) × ((plus (component_span presence b) (fields_span fs)).greatest < 2 ^ 40 → length rest + (bits_in presence + presence_count fs) < (plus (component_span presence b) (fields_span fs)).greatest + 524288)
-  field_near inside presence b fs P F G p h k at rest fault reach (inl t) e =
+      → InsertedFails P F G at rest fault reach → fault.reason ≡ short → (inside ≡ false) × ((plus (component_span presence b) (fields_span fs)).greatest < 2 ^ 40 → length rest + (bits_in presence + presence_count fs) < (plus (component_span presence b) (fields_span fs)).greatest + 524288)
+  field_near inside presence b fs P F G p h k at rest fault reach (fails_at_inserted t) e =
       let m = h at rest fault reach t e in
       (m.0, first_fits presence b (fields_span fs) (length rest) (presence_count fs) m.1 (counts_fit fs))
-  field_near inside presence b fs P F G p h k at rest fault reach (inr t) e =
+  field_near inside presence b fs P F G p h k at rest fault reach (fails_behind_inserted t) e =
       let m = k (at + length t.front) t.back fault t.more t.fails e in
       let f = p at t.front t.spelled in
       (m.0, λ s. omega (arith, ap length t.whole, length-append t.front t.back, behind_fits presence b (fields_span fs) (length t.front) (length t.back) (presence_count fs) f.high m.1 s))
 
   component_near : (inside : Bool) (presence : Presence) (b : Bounds) (fs : Fields) (P : Data → Part) (F G : Failing) → ((d : Data) (at : ℕ) (bs : List Bool) → P d at bs → Between b (length bs)) → Near inside b F → FieldsNear inside fs G → (at : ℕ) (rest : List Bool) (fault : Fault) (reach : ℕ)
-      → F at rest fault reach ⊎ ((d : Data) × Behind (P d) G at rest fault reach) → fault.reason ≡ short → (inside ≡ false) × ((plus (component_span presence b) (fields_span fs)).greatest < 2 ^ 40 → length rest + (bits_in presence + presence_count fs) < (plus (component_span presence b) (fields_span fs)).greatest + 524288)
-  component_near inside presence b fs P F G p h k at rest fault reach (inl t) e = field_near inside presence b fs (P null) F G (p null) h k at rest fault reach (inl t) e
-  component_near inside presence b fs P F G p h k at rest fault reach (inr t) e = field_near inside presence b fs (P t.0) F G (p t.0) h k at rest fault reach (inr t.1) e
+      → ElementFails P F G at rest fault reach → fault.reason ≡ short → (inside ≡ false) × ((plus (component_span presence b) (fields_span fs)).greatest < 2 ^ 40 → length rest + (bits_in presence + presence_count fs) < (plus (component_span presence b) (fields_span fs)).greatest + 524288)
+  component_near inside presence b fs P F G p h k at rest fault reach (fails_at_element t) e = field_near inside presence b fs (P null) F G (p null) h k at rest fault reach (fails_at_inserted t) e
+  component_near inside presence b fs P F G p h k at rest fault reach (fails_behind_element t) e = field_near inside presence b fs (P t.0) F G (p t.0) h k at rest fault reach (fails_behind_inserted t.1) e
 
   mutual
     node_near : (g : Grammar) → Fine g → (env : Env) (inside : Bool) (origin : ℕ) (path : List ℕ) → Near inside (span g) (Fails root g env inside origin path)
-    node_near (node align form) f env inside origin path at rest fault reach (inl t) e =
+    node_near (node align form) f env inside origin path at rest fault reach (padding_cut t) e =
         let here : Here = record { path = path; place = origin + at; inside = inside } in
         let below = padding_spans align at f.0 in
         short_near here (padding align at) (plus (record { least = 0; greatest = align - 1 }) (form_span form)) (λ s. omega (arith, below.high (omega arith))) at rest fault reach t e
-    node_near (node align form) f env inside origin path at rest fault reach (inr t) e =
+    node_near (node align form) f env inside origin path at rest fault reach (fails_behind_padding t) e =
         let here : Here = record { path = path; place = origin + at; inside = inside } in
         behind_near inside (Padding Any align) (FormFails root form env here origin) (record { least = 0; greatest = align - 1 }) (form_span form) (padding_front align f.0) (form_near form (last_two f) env here origin) at rest fault reach t e
 
     form_near : (form : Form) → FormFine form → (env : Env) (here : Here) (origin : ℕ) → Near here.inside (form_span form) (FormFails root form env here origin)
     form_near (num leaf) f env here origin at rest fault reach t e =
-        let r = says_short here t.0 fault t.2 e in
-        (r.0, λ s. omega (arith, leaf_short leaf f rest t.0 reach t.1 r.1 s))
+        let r = says_short here t.reason fault t.says e in
+        (r.0, λ s. omega (arith, leaf_short leaf f rest t.reason reach t.fails r.1 s))
     form_near (octets sizing) f env here origin at rest fault reach t e = parts_near here 8 sizing env (and_parts (sizes_fine sizing.sizes) (rule_fine sizing.sizes sizing.rule) f).0 at rest fault reach t e
     form_near (bits sizing) f env here origin at rest fault reach t e = parts_near here 1 sizing env (and_parts (sizes_fine sizing.sizes) (rule_fine sizing.sizes sizing.rule) f).0 at rest fault reach t e
     form_near (text leaf) f env here origin at rest fault reach t e = text_near leaf.ended here leaf env (text_rules leaf f).sizes (text_rules leaf f).end at rest fault reach t e
-    form_near (seq fields home) f env here origin at rest fault reach (inl t) e =
+    form_near (seq fields home) f env here origin at rest fault reach (presence_cut t) e =
         short_near here (presence_count fields) (fields_span fields) (λ s. let c = counts_fit fields s in omega arith) at rest fault reach t e
-    form_near (seq fields home) f env here origin at rest fault reach (inr t) e =
-        let a = t.3 in
+    form_near (seq fields home) f env here origin at rest fault reach (fails_behind_presence t) e =
+        let a = t.behind in
         let n = presence_count fields in
-        let m = fields_near fields f (with_home home t.0 env) (take (presence_count fields) rest) here origin 0 (at + presence_count fields) (drop (presence_count fields) rest) fault a.1.0 a.1.1 e in
+        let m = fields_near fields f (with_home home t.numbers env) (take (presence_count fields) rest) here origin 0 (at + presence_count fields) (drop (presence_count fields) rest) fault a.more a.fails e in
         let l = length-drop (presence_count fields) rest in
-        let low = a.0 in
+        let low = a.there in
         (m.0, λ s. omega (arith, m.1 s))
     form_near (list sizing g) f env here origin at rest fault reach t e =
         list_near (ending sizing.rule) here sizing env (span g) (Spell root Any g env) (λ k. Fails root g env here.inside origin (here.path ++ k ∷ [])) (and_parts (sizes_fine sizing.sizes) (list_rule_fine (ending sizing.rule) sizing) f.0).0
         (span_between root Any g (last_two f) env) (λ k. node_near g (last_two f) env here.inside origin (here.path ++ k ∷ [])) at rest fault reach t e
-    form_near (choice cases rule) f env here origin at rest fault reach (inl t) e = index_near rule cases at rest fault reach t e
+    form_near (choice cases rule) f env here origin at rest fault reach (fails_at_index t) e = index_near rule cases at rest fault reach t e
       where
         index_near : (rule : ChoiceRule) (cases : Alternatives) → Near here.inside (plus (exactly (index_width rule)) (alternatives_span cases)) (IndexFails root here rule cases env)
-        index_near (Index width) cases at rest fault reach (inl t) e = short_near here width (plus (exactly width) (alternatives_span cases)) (λ s. omega arith) at rest fault reach t e
-        index_near (Index width) cases at rest fault reach (inr t) e = never here no_alternative fault (λ q. cc) t.2 e
-        index_near Tests cases at rest fault reach t e = never here no_alternative fault (λ q. cc) t.1 e
-        index_near (Item s) cases at rest fault reach t e = never here no_alternative fault (λ q. cc) t.1 e
-    form_near (choice cases rule) f env here origin at rest fault reach (inr t) e =
-        let a = t.2 in
-        let m = case_near cases f rule env here origin t.0 t.0 (at + index_width rule) (drop (index_width rule) rest) fault a.1.0 a.1.1 e in
+        index_near (Index width) cases at rest fault reach (index_cut t) e = short_near here width (plus (exactly width) (alternatives_span cases)) (λ s. omega arith) at rest fault reach t e
+        index_near (Index width) cases at rest fault reach (index_too_great t) e = never here no_alternative fault (λ q. cc) t.2 e
+        index_near Tests cases at rest fault reach t e = never here no_alternative fault (λ q. cc) t.says e
+        index_near (Item s) cases at rest fault reach t e = never here no_alternative fault (λ q. cc) t.says e
+    form_near (choice cases rule) f env here origin at rest fault reach (fails_at_alternative t) e =
+        let a = t.behind in
+        let m = case_near cases f rule env here origin t.index t.index (at + index_width rule) (drop (index_width rule) rest) fault a.more a.fails e in
         let l = length-drop (index_width rule) rest in
-        let low = a.0 in
+        let low = a.there in
         (m.0, λ s. omega (arith, m.1 (omega arith)))
     form_near (contained sizing g) f env here origin at rest fault reach t e =
         sized_near here sizing env (in_octets (span g)) _ (λ n p at' back fault' reach' u q.
@@ -323,24 +319,25 @@ module _ (root : Grammar) where
       where
         window : (n at' : ℕ) (back : List Bool) (fault' : Fault) (reach' : ℕ) → size_of (greatest sizing.sizes) ≤ 65536 → n ≤ size_of (greatest sizing.sizes)
             → ((inner : ℕ) → Fails root g env true (origin + at') (here.path ++ 0 ∷ []) 0 (take (8 * n) back) fault' inner → (true ≡ false) × ((span g).greatest < 2 ^ 40 → length (take (8 * n) back) < (span g).greatest + 524288))
-            → Short here (8 * n) at' back fault' reach' ⊎ ((8 * n ≤ length back) × (((inner : ℕ) × Fails root g env true (origin + at') (here.path ++ 0 ∷ []) 0 (take (8 * n) back) fault' inner) ⊎ ((d : Data) × Overlong root here n (Spell root Any g env d) (take (8 * n) back) fault')) × (reach' ≡ 8 * n))
+            → ContentFails here (Spell root Any g env) (λ place. Fails root g env true (origin + place) (here.path ++ 0 ∷ [])) n at' back fault' reach'
             → fault'.reason ≡ short → (here.inside ≡ false) × ((in_octets (span g)).greatest < 2 ^ 40 → length back < (in_octets (span g)).greatest + 524288)
-        window n at' back fault' reach' few has_n inner (inl u) q = short_near here (8 * n) (in_octets (span g)) (λ s. omega arith) at' back fault' reach' u q
-        window n at' back fault' reach' few has_n inner (inr u) q = inside_it u.1
-          where
-            inside_it : ((i : ℕ) × Fails root g env true (origin + at') (here.path ++ 0 ∷ []) 0 (take (8 * n) back) fault' i) ⊎ ((d : Data) × Overlong root here n (Spell root Any g env d) (take (8 * n) back) fault')
-                → (here.inside ≡ false) × ((in_octets (span g)).greatest < 2 ^ 40 → length back < (in_octets (span g)).greatest + 524288)
-            inside_it (inl x) = (let no' = (inner x.0 x.1).0 in cc)
-            inside_it (inr o) = never here (content_size n (length o.1.used)) fault' (λ z. cc) o.1.says q
+        window n at' back fault' reach' few has_n inner (window_cut u) q = short_near here (8 * n) (in_octets (span g)) (λ s. omega arith) at' back fault' reach' u q
+        window n at' back fault' reach' few has_n inner (content_fails u) q = (let no' = (inner u.1.0 u.1.1).0 in cc)
+        window n at' back fault' reach' few has_n inner (content_overlong u) q = never here (content_size n (length u.1.1.used)) fault' (λ z. cc) u.1.1.says q
 
     fields_near : (fs : Fields) → FieldsFine fs → (env : Env) (flags : List Bool) (here : Here) (origin k : ℕ) → FieldsNear here.inside fs (FieldsFail root fs env flags here origin k)
     fields_near no_fields f env flags here origin k at rest fault reach t e = absurd t
-    fields_near (component name g presence default own fs) f env flags here origin k at rest fault reach (inl t) e =
+    fields_near (component name g presence default own fs) f env flags here origin k at rest fault reach (fails_at_component t) e =
         let c = count_is name g presence default own fs in
         let m = component_near here.inside presence (span g) fs (λ d. Where (Carries env own d) (Spell root Any g env d)) (Fails root g env here.inside origin (here.path ++ k ∷ [])) (FieldsFail root fs env (flags_behind presence flags) here origin (suc k))
-        (λ d at' bs p. span_between root Any g f.0 env d at' bs p.spelled) (node_near g f.0 env here.inside origin (here.path ++ k ∷ [])) (fields_near fs f.1 env (flags_behind presence flags) here origin (suc k)) at rest fault reach t.1 e in
+        (λ d at' bs p. span_between root Any g f.0 env d at' bs p.spelled) (node_near g f.0 env here.inside origin (here.path ++ k ∷ [])) (fields_near fs f.1 env (flags_behind presence flags) here origin (suc k)) at rest fault reach (fails_at_element t.1) e in
         (m.0, λ s. omega (arith, m.1 s))
-    fields_near (component name g presence default own fs) f env flags here origin k at rest fault reach (inr t) e =
+    fields_near (component name g presence default own fs) f env flags here origin k at rest fault reach (fails_behind_component t) e =
+        let c = count_is name g presence default own fs in
+        let m = component_near here.inside presence (span g) fs (λ d. Where (Carries env own d) (Spell root Any g env d)) (Fails root g env here.inside origin (here.path ++ k ∷ [])) (FieldsFail root fs env (flags_behind presence flags) here origin (suc k))
+        (λ d at' bs p. span_between root Any g f.0 env d at' bs p.spelled) (node_near g f.0 env here.inside origin (here.path ++ k ∷ [])) (fields_near fs f.1 env (flags_behind presence flags) here origin (suc k)) at rest fault reach (fails_behind_element t.1) e in
+        (m.0, λ s. omega (arith, m.1 s))
+    fields_near (component name g presence default own fs) f env flags here origin k at rest fault reach (fails_behind_absent t) e =
         let c = count_is name g presence default own fs in
         let m = fields_near fs f.1 env (flags_behind presence flags) here origin (suc k) at rest fault reach t.1 e in
         (m.0, λ s. omega (arith, absent_fits presence (span g) (fields_span fs) (length rest) (presence_count fs) m.1 s))

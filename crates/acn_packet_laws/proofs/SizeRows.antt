@@ -1,11 +1,11 @@
 -- Rows of sizes: in front of strings, in an inner SEQUENCE, and one that no number can say.
-use Rattle.std.proofs.Common.{◌≡◌, ℤ, pos, Bool, true, false, List, [], ◌∷◌, ◌++◌, length, replicate, Option, Some, None, refl, sym, ◌∙◌, ap, subst, arith, inl, inr}
+use Rattle.std.proofs.Common.{◌≡◌, ℤ, pos, Bool, true, false, List, [], ◌∷◌, ◌++◌, length, replicate, Option, Some, None, refl, sym, ◌∙◌, ap, subst, arith}
 use Rattle.std.proofs.lemmas.Int.{ints}
 use Rattle.acn_num.specs.Bits.{low_bits, bits as bits_of}
 use Rattle.acn_num.specs.Ranges.{In}
 use Rattle.acn_grammar.specs.Asks.{Moment, Ask, Equal, asks}
 use Rattle.acn_grammar.specs.Code.{Written, Any}
-use Rattle.acn_grammar.specs.Fails.{Refusal}
+use Rattle.acn_grammar.specs.Fails.{Refusal, fails_at_component, fails_behind_component, fails_behind_padding, fails_behind_presence, fails_behind_size, fails_at_size, prefix_not_permitted}
 use Rattle.acn_grammar.specs.Front.{IsWritten}
 use Rattle.acn_grammar.specs.Grammar.{int, bit_string, octet_string, record_of, no_places, filled}
 use Rattle.acn_grammar.specs.LeafFails.{short, size_out_of_range}
@@ -33,14 +33,14 @@ three_bits = record {
 }
 
 six_bits : Refusal up_to_five_bits (bits_of (192 ∷ [])) (record { path = []; reason = size_out_of_range 6; at = 0 }) 3
-six_bits = inr (record {
+six_bits = fails_behind_padding (record {
   front = [];
   back = bits_of (192 ∷ []);
   whole = refl;
   spelled = none Any 0;
   more = 3;
   reaches = refl;
-  fails = inl (inr (omega arith, (λ h. cc), refl, refl));
+  fails = fails_at_size (prefix_not_permitted (omega arith, (λ h. cc), refl, refl));
 })
 
 six_never : (bs : List Bool) → IsWritten up_to_five_bits (bit_string (replicate 6 true)) bs → ⊥
@@ -62,14 +62,14 @@ one_octet = record {
 }
 
 two_cut : Refusal counted_octets (bits_of (128 ∷ 170 ∷ [])) (record { path = []; reason = short; at = 0 }) 16
-two_cut = inr (record {
+two_cut = fails_behind_padding (record {
   front = [];
   back = _;
   whole = refl;
   spelled = none Any 0;
   more = 16;
   reaches = refl;
-  fails = inr (record {
+  fails = fails_behind_size (record {
     n = 2;
     behind = record {
       front = low_bits 2 2;
@@ -167,74 +167,89 @@ head_and_octet = record {
 }
 
 four_octets : Refusal by_head (bits_of (4 ∷ 128 ∷ [])) (record { path = 1 ∷ []; reason = size_out_of_range 4; at = 9 }) 9
-four_octets = inr (record {
+four_octets = fails_behind_padding (record {
   front = [];
   back = _;
   whole = refl;
   spelled = none Any 0;
   more = 9;
   reaches = refl;
-  fails = inr (
-    pos 4 ∷ [],
-    refl,
-    (refl, tt),
-    (
-      omega arith,
-      (
-        9,
-        inl (
-          tt,
-          inr (
-            record_of (filled (int (pos 1)) no_places),
-            record {
-              front = low_bits 8 4 ++ low_bits 1 1;
-              back = low_bits 7 0;
-              whole = refl;
+  fails = fails_behind_presence (record {
+    numbers = pos 4 ∷ [];
+    count = refl;
+    permitted = (refl, tt);
+    behind = record {
+      there = omega arith;
+      more = 9;
+      fails = fails_behind_component (
+        tt,
+        (
+          record_of (filled (int (pos 1)) no_places),
+          record {
+            front = low_bits 8 4 ++ low_bits 1 1;
+            back = low_bits 7 0;
+            whole = refl;
+            spelled = record {
+              given = tt;
               spelled = record {
-                given = tt;
-                spelled = record {
-                  front = [];
-                  back = _;
-                  whole = refl;
-                  first = none Any 0;
-                  second = record {
-                    numbers = [];
-                    fine = record { count = refl; permitted = tt; least = λ _. tt };
-                    spelled = record {
-                      front = [];
-                      back = _;
+                front = [];
+                back = _;
+                whole = refl;
+                first = none Any 0;
+                second = record {
+                  numbers = [];
+                  fine = record { count = refl; permitted = tt; least = λ _. tt };
+                  spelled = record {
+                    front = [];
+                    back = _;
+                    whole = refl;
+                    first = refl;
+                    second = record {
+                      front = low_bits 8 4;
+                      back = low_bits 1 1;
                       whole = refl;
-                      first = refl;
+                      first = (pos 4, refl, record { front = []; back = _; whole = refl; first = none Any 0; second = record { permitted = refl; image = pos 4; maps = refl; spelled = (refl, refl) } });
                       second = record {
-                        front = low_bits 8 4;
-                        back = low_bits 1 1;
+                        front = low_bits 1 1;
+                        back = [];
                         whole = refl;
-                        first = (pos 4, refl, record { front = []; back = _; whole = refl; first = none Any 0; second = record { permitted = refl; image = pos 4; maps = refl; spelled = (refl, refl) } });
-                        second = record {
-                          front = low_bits 1 1;
-                          back = [];
-                          whole = refl;
-                          first = record {
-                            given = (tt, tt);
-                            spelled = record { front = []; back = _; whole = refl; first = none Any 8; second = (pos 1, refl, record { permitted = refl; image = pos 1; maps = refl; spelled = (1, refl, record { width = refl; value = refl }) }) };
+                        first = record {
+                          given = (tt, tt);
+                          spelled = record {
+                            front = [];
+                            back = _;
+                            whole = refl;
+                            first = none Any 8;
+                            second = (pos 1, refl, record { permitted = refl; image = pos 1; maps = refl; spelled = (1, refl, record { width = refl; value = refl }) });
                           };
-                          second = refl;
                         };
+                        second = refl;
                       };
                     };
                   };
                 };
               };
-              more = 0;
-              reaches = refl;
-              fails = inl (tt, inl (inr (record { front = []; back = _; whole = refl; spelled = none Any 9; more = 0; reaches = refl; fails = inl (pos 4, refl, (λ h. cc), refl, refl) })));
-            },
-          ),
+            };
+            more = 0;
+            reaches = refl;
+            fails = fails_at_component (
+              tt,
+              fails_behind_padding (record {
+                front = [];
+                back = _;
+                whole = refl;
+                spelled = none Any 9;
+                more = 0;
+                reaches = refl;
+                fails = fails_at_size (record { number = pos 4; stands = refl; refused = λ h. cc; says = refl; reaches = refl });
+              }),
+            );
+          },
         ),
-        refl,
-      ),
-    ),
-  );
+      );
+      reaches = refl;
+    };
+  });
 })
 
 no_octet : (low_bits 8 1 ++ low_bits 1 1) ++ low_bits 8 170 ≡ low_bits 8 0 ++ low_bits 1 1 → ⊥

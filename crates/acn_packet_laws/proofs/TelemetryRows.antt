@@ -1,14 +1,14 @@
 -- A packet of telemetry: its tree, its bounds, and contents that don't fit their window.
-use Rattle.std.proofs.Common.{◌≡◌, ℕ, pos, Bool, true, false, List, [], ◌∷◌, ◌++◌, take, drop, Some, None, refl, arith, inl, inr}
+use Rattle.std.proofs.Common.{◌≡◌, ℕ, pos, Bool, true, false, List, [], ◌∷◌, ◌++◌, take, drop, Some, None, refl, arith, inr}
 use Rattle.std.specs.Prelude.{neg_ℤ}
 use Rattle.acn_num.specs.Bits.{low_bits, bits as bits_of}
 use Rattle.acn_grammar.specs.Grammar.{Grammar, Data, node, num, seq, contained, inserted, no_fields, int, item, record_of, no_places, filled}
 use Rattle.acn_grammar.specs.Code.{Any}
 use Rattle.acn_grammar.specs.Env.{Env, MayBeThere}
 use Rattle.acn_grammar.specs.Spell.{Part, Where, Carries, Spell, Padding}
-use Rattle.acn_grammar.specs.Fails.{Fails, Refusal}
+use Rattle.acn_grammar.specs.Fails.{Fails, Refusal, content_fails, content_overlong, fails_at_component, fails_at_inserted, fails_behind_component, fails_behind_padding, fails_behind_presence, fails_behind_size, window_cut}
 use Rattle.acn_grammar.specs.Interval.{span}
-use Rattle.acn_grammar.specs.LeafFails.{bad_pattern, content_size, past_content, short, wrong}
+use Rattle.acn_grammar.specs.LeafFails.{bad_pattern, content_size, past_content, short, wrong, code_cut, code_not_permitted}
 use Rattle.acn_grammar.specs.Tree.{is_tree}
 use Rattle.acn_grammar.specs.declared.node.NumKind.TheVariants.{Integer, Enumerated}
 use Rattle.acn_grammar.specs.declared.node.NumCoding.TheVariants.{Range, PosInt, Fixed}
@@ -70,14 +70,14 @@ mode_part : (env : Env) → (where_component packet mode_node env (item 2)) 12 (
 mode_part env = record { given = (tt, tt); spelled = record { front = []; back = _; whole = refl; first = no_padding 12; second = (pos 2, refl, record { permitted = refl; image = pos 2; maps = refl; spelled = (2, refl, record { width = refl; value = refl }) }) } }
 
 pub overlong : Fails packet body ((0, pos 4) ∷ []) false 0 (7 ∷ []) 48 late (record { path = 7 ∷ []; reason = content_size 4 21; at = 48 }) 32
-overlong = inr (record {
+overlong = fails_behind_padding (record {
   front = [];
   back = late;
   whole = refl;
   spelled = no_padding 48;
   more = 32;
   reaches = refl;
-  fails = inr (record {
+  fails = fails_behind_size (record {
     n = 4;
     behind = record {
       front = [];
@@ -86,9 +86,9 @@ overlong = inr (record {
       spelled = record { given = refl; spelled = (refl, refl) };
       more = 32;
       reaches = refl;
-      fails = inr (
+      fails = content_overlong (
         omega arith,
-        inr (
+        (
           telemetry,
           record {
             used = take 21 late;
@@ -121,7 +121,16 @@ overlong = inr (record {
                         front = low_bits 7 41;
                         back = [];
                         whole = refl;
-                        first = record { given = (tt, tt); spelled = record { front = []; back = _; whole = refl; first = no_padding 14; second = (pos 1, refl, record { permitted = refl; image = pos 1; maps = refl; spelled = (41, refl, record { width = refl; value = refl }) }) } };
+                        first = record {
+                          given = (tt, tt);
+                          spelled = record {
+                            front = [];
+                            back = _;
+                            whole = refl;
+                            first = no_padding 14;
+                            second = (pos 1, refl, record { permitted = refl; image = pos 1; maps = refl; spelled = (41, refl, record { width = refl; value = refl }) });
+                          };
+                        };
                         second = refl;
                       };
                     };
@@ -144,66 +153,78 @@ abbrev cut : List Bool
 cut = bits_of (62 ∷ 137 ∷ 72 ∷ [])
 
 pub cut_short : Fails packet body ((0, pos 4) ∷ []) false 0 (7 ∷ []) 48 cut (record { path = 7 ∷ []; reason = short; at = 48 }) 24
-cut_short = inr (record {
+cut_short = fails_behind_padding (record {
   front = [];
   back = cut;
   whole = refl;
   spelled = no_padding 48;
   more = 24;
   reaches = refl;
-  fails = inr (record { n = 4; behind = record { front = []; back = cut; whole = refl; spelled = record { given = refl; spelled = (refl, refl) }; more = 24; reaches = refl; fails = inl (omega arith, refl, refl) } });
+  fails = fails_behind_size (record {
+    n = 4;
+    behind = record { front = []; back = cut; whole = refl; spelled = record { given = refl; spelled = (refl, refl) }; more = 24; reaches = refl; fails = window_cut (omega arith, refl, refl) };
+  });
 })
 
 -- inside a window of two octets temp begins at its bit 14
 past_inside : Fails packet housekeeping ((0, pos 2) ∷ []) true 48 (7 ∷ 0 ∷ []) 0 (bits_of (62 ∷ 137 ∷ [])) (record { path = 7 ∷ 0 ∷ 2 ∷ []; reason = past_content; at = 62 }) 16
-past_inside = inr (record {
+past_inside = fails_behind_padding (record {
   front = [];
   back = _;
   whole = refl;
   spelled = no_padding 0;
   more = 16;
   reaches = refl;
-  fails = inr (
-    [],
-    refl,
-    tt,
-    (
-      omega arith,
-      (
-        16,
-        inl (
-          tt,
-          inr (
-            int (pos 1000),
-            record {
-              front = low_bits 12 1000;
-              back = low_bits 2 2 ++ low_bits 2 1;
-              whole = refl;
-              spelled = record { given = tt; spelled = (time_part []).spelled };
-              more = 4;
-              reaches = refl;
-              fails = inl (
-                tt,
-                inr (
-                  item 2,
-                  record {
-                    front = low_bits 2 2;
-                    back = low_bits 2 1;
-                    whole = refl;
-                    spelled = record { given = tt; spelled = (mode_part []).spelled };
-                    more = 2;
-                    reaches = refl;
-                    fails = inl (tt, inl (inr (record { front = []; back = _; whole = refl; spelled = no_padding 14; more = 2; reaches = refl; fails = (short, inl (omega arith, refl, refl), refl) })));
-                  },
-                ),
-              );
-            },
-          ),
+  fails = fails_behind_presence (record {
+    numbers = [];
+    count = refl;
+    permitted = tt;
+    behind = record {
+      there = omega arith;
+      more = 16;
+      fails = fails_behind_component (
+        tt,
+        (
+          int (pos 1000),
+          record {
+            front = low_bits 12 1000;
+            back = low_bits 2 2 ++ low_bits 2 1;
+            whole = refl;
+            spelled = record { given = tt; spelled = (time_part []).spelled };
+            more = 4;
+            reaches = refl;
+            fails = fails_behind_component (
+              tt,
+              (
+                item 2,
+                record {
+                  front = low_bits 2 2;
+                  back = low_bits 2 1;
+                  whole = refl;
+                  spelled = record { given = tt; spelled = (mode_part []).spelled };
+                  more = 2;
+                  reaches = refl;
+                  fails = fails_at_component (
+                    tt,
+                    fails_behind_padding (record {
+                      front = [];
+                      back = _;
+                      whole = refl;
+                      spelled = no_padding 14;
+                      more = 2;
+                      reaches = refl;
+                      fails = record { reason = short; fails = code_cut (omega arith, refl, refl); says = refl };
+                    }),
+                  );
+                },
+              ),
+            );
+          },
         ),
-        refl,
-      ),
-    ),
-  );
+      );
+      reaches = refl;
+    };
+  });
 })
 
 -- length says 2: the window ends inside temp, which begins at bit 62
@@ -211,14 +232,14 @@ abbrev narrow : List Bool
 narrow = bits_of (62 ∷ 137 ∷ [])
 
 pub past : Fails packet body ((0, pos 2) ∷ []) false 0 (7 ∷ []) 48 narrow (record { path = 7 ∷ 0 ∷ 2 ∷ []; reason = past_content; at = 62 }) 16
-past = inr (record {
+past = fails_behind_padding (record {
   front = [];
   back = narrow;
   whole = refl;
   spelled = no_padding 48;
   more = 16;
   reaches = refl;
-  fails = inr (record {
+  fails = fails_behind_size (record {
     n = 2;
     behind = record {
       front = [];
@@ -227,39 +248,37 @@ past = inr (record {
       spelled = record { given = refl; spelled = (refl, refl) };
       more = 16;
       reaches = refl;
-      fails = inr (omega arith, inl (16, past_inside), refl);
+      fails = content_fails (omega arith, (16, past_inside), refl);
     };
   });
 })
 
 -- the first octet is 20: version isn't 000
 pub bad_version : (rest : List Bool) → Refusal packet (bits_of (32 ∷ []) ++ rest) (record { path = 0 ∷ []; reason = bad_pattern; at = 0 }) 3
-bad_version rest = inr (record {
+bad_version rest = fails_behind_padding (record {
   front = [];
   back = _;
   whole = refl;
   spelled = no_padding 0;
   more = 3;
   reaches = refl;
-  fails = inr (
-    pos 1 ∷ [],
-    refl,
-    (refl, tt),
-    (
-      omega arith,
-      (
-        3,
-        inl (inr (record {
-          front = [];
-          back = _;
-          whole = refl;
-          spelled = no_padding 0;
-          more = 3;
-          reaches = refl;
-          fails = (bad_pattern, inr (omega arith, (wrong bad_pattern, inr ((λ e. cc), refl), refl), refl), refl);
-        })),
-        refl,
-      ),
-    ),
-  );
+  fails = fails_behind_presence (record {
+    numbers = pos 1 ∷ [];
+    count = refl;
+    permitted = (refl, tt);
+    behind = record {
+      there = omega arith;
+      more = 3;
+      fails = fails_at_inserted (fails_behind_padding (record {
+        front = [];
+        back = _;
+        whole = refl;
+        spelled = no_padding 0;
+        more = 3;
+        reaches = refl;
+        fails = record { reason = bad_pattern; fails = code_not_permitted (omega arith, (wrong bad_pattern, inr ((λ e. cc), refl), refl), refl); says = refl };
+      }));
+      reaches = refl;
+    };
+  });
 })

@@ -1,18 +1,18 @@
 -- The failures of texts depend on the bits alone on which they rest.
-use Rattle.std.proofs.Common.{◌≡◌, ℕ, zero, suc, ◌+◌, ◌*◌, ◌<◌, ◌≤◌, Bool, true, false, List, length, take, drop, Option, Some, None, refl, sym, ap, ◌∙◌, arith, inl, inr, IsTrue}
+use Rattle.std.proofs.Common.{◌≡◌, ℕ, zero, suc, ◌+◌, ◌*◌, ◌<◌, ◌≤◌, Bool, true, false, List, length, take, drop, Option, Some, None, refl, sym, ap, ◌∙◌, arith, IsTrue}
 use Rattle.std.specs.Prelude.{if◌then◌else◌}
 use Rattle.std.specs.List.{find, range_with_len}
 use Rattle.std.proofs.lemmas.List.{take-take, length-take, length-drop, drop-take}
 use Rattle.acn_num.specs.Ranges.{greatest}
 use Rattle.acn_grammar.specs.Asks.{same_name}
 use Rattle.acn_grammar.specs.Env.{Env}
-use Rattle.acn_grammar.specs.Fails.{Fault, SizeFails, Sized, CharactersFail, input_ended, end_too_late, length_not_permitted, character_not_permitted, FoundFails, TextFails, found_end}
+use Rattle.acn_grammar.specs.Fails.{Fault, CharactersFail, input_ended, end_too_late, length_not_permitted, character_not_permitted, FoundFails, TextFails, found_end, characters_cut, characters_not_permitted}
 use Rattle.acn_grammar.specs.Interval.{size_of}
 use Rattle.acn_grammar.specs.LeafFails.{short, octet_values}
 use Rattle.acn_grammar.specs.Leaves.{text_fine, end_fine}
 use Rattle.acn_grammar.specs.Spell.{octet_numbers}
 use Rattle.acn_grammar.specs.declared.node.TextLeaf.{TextLeaf}
-use Rattle.acn_packet_laws.proofs.Reaches.{Steady, TextSteady, out, either_steady, sized_steady, rule_steady, same_within, long_enough}
+use Rattle.acn_packet_laws.proofs.Reaches.{Steady, TextSteady, out, size_steady, same_within, long_enough}
 use Rattle.acn_grammar.proofs.Octets.{octets_few, octets_most, octets-take, octets_whole}
 use Rattle.acn_grammar.proofs.Characters.{same_name-is}
 use Rattle.acn_grammar.proofs.FirstPlaces.{find_back}
@@ -99,18 +99,17 @@ module _ (path : List ℕ) (place : ℕ) (leaf : TextLeaf) (end : List Bool) (wh
       moved other (character_not_permitted t) e = character_not_permitted (t.0, rw e t.1, t.2, t.3)
 
 characters_steady : (path : List ℕ) (place : ℕ) (leaf : TextLeaf) (n : ℕ) → Steady (CharactersFail (out path place) leaf n)
-characters_steady path place leaf n at rest fault reach (inl t) r = absurd (r (ap (λ f. f.reason) t.1))
-characters_steady path place leaf n at rest fault reach (inr t) r =
+characters_steady path place leaf n at rest fault reach (characters_cut t) r = absurd (r (ap (λ f. f.reason) t.1))
+characters_steady path place leaf n at rest fault reach (characters_not_permitted t) r =
     λ other e.
     let is = t.3 in
     let same = same_within reach (leaf.width * n) other rest (omega arith) e in
     let far = long_enough (leaf.width * n) other rest t.0 same in
-    inr (far, rw same t.1, t.2, t.3)
+    characters_not_permitted (far, rw same t.1, t.2, t.3)
 
 by_end : (end : Option (List Bool)) (leaf : TextLeaf) → end_fine end leaf ≡ true → (path : List ℕ) (place : ℕ) (env : Env) → Steady (TextFails (out path place) end leaf env)
 by_end None leaf f path place env at rest fault reach t r =
-    either_steady (SizeFails (out path place) leaf.sized env) (Sized leaf.sized env (CharactersFail (out path place) leaf)) (rule_steady path place leaf.sized leaf.sized.rule env)
-    (sized_steady leaf.sized env (CharactersFail (out path place) leaf) (characters_steady path place leaf)) at rest fault reach t r
+    size_steady path place leaf.sized env (CharactersFail (out path place) leaf) (characters_steady path place leaf) at rest fault reach t r
 by_end (Some end) leaf f path place env at rest fault reach t r =
     let q = end_rules leaf end f in
     let w = octets_whole end (omega (arith, q.octets)) in

@@ -1,5 +1,5 @@
 -- Texts and lists: what is written, and what can't be read.
-use Rattle.std.proofs.Common.{◌≡◌, ℕ, pos, true, false, [], ◌∷◌, ◌++◌, Some, None, refl, arith, inl, inr}
+use Rattle.std.proofs.Common.{◌≡◌, ℕ, pos, true, false, [], ◌∷◌, ◌++◌, Some, None, refl, arith}
 use Rattle.std.proofs.Common.{zero, suc, ◌∙◌, sym, ap, ◌&&◌, ◌||◌, Bool}
 use Rattle.std.specs.Prelude.{◌-ℤ◌, int_le, nat_abs}
 use Rattle.std.proofs.lemmas.Int.{ints}
@@ -10,7 +10,7 @@ use Rattle.acn_grammar.proofs.Within.{between}
 use Rattle.acn_grammar.specs.Grammar.{Grammar, node, num, text, list, int, characters, list_of, no_elements, element}
 use Rattle.acn_grammar.specs.Code.{Mode, Written, Any}
 use Rattle.acn_grammar.specs.Spell.{EndsFirst, Padding, place_in}
-use Rattle.acn_grammar.specs.Fails.{NoText, end_too_late, Refusal}
+use Rattle.acn_grammar.specs.Fails.{NoText, end_too_late, Refusal, characters_not_permitted, fails_behind_padding, fails_behind_size, fails_at_size, prefix_not_permitted}
 use Rattle.acn_grammar.specs.LeafFails.{bad_character, size_out_of_range, too_long}
 use Rattle.acn_grammar.specs.Front.{IsWritten}
 use Rattle.acn_grammar.specs.Meets.{breach, bad_character as wrong_character, terminator_inside}
@@ -90,7 +90,7 @@ zero_inside = refl
 
 -- 61 62 63 64 00: no end among the first four octets
 pub no_end : Refusal ended (bits_of (97 ∷ 98 ∷ 99 ∷ 100 ∷ 0 ∷ [])) (record { path = []; reason = too_long; at = 0 }) 32
-no_end = inr (record { front = []; back = _; whole = refl; spelled = no_padding Any 0; more = 32; reaches = refl; fails = end_too_late (omega arith, refl, refl) })
+no_end = fails_behind_padding (record { front = []; back = _; whole = refl; spelled = no_padding Any 0; more = 32; reaches = refl; fails = end_too_late (omega arith, refl, refl) })
 
 -- SEQUENCE (SIZE (0..5)) OF INTEGER (0..15)
 abbrev small_leaf : NumLeaf
@@ -138,7 +138,7 @@ two_written = record {
 
 -- c0: the size is 6
 pub six : Refusal few (bits_of (192 ∷ [])) (record { path = []; reason = size_out_of_range 6; at = 0 }) 3
-six = inr (record { front = []; back = _; whole = refl; spelled = no_padding Any 0; more = 3; reaches = refl; fails = inl (inr (omega arith, (λ h. cc), refl, refl)) })
+six = fails_behind_padding (record { front = []; back = _; whole = refl; spelled = no_padding Any 0; more = 3; reaches = refl; fails = fails_at_size (prefix_not_permitted (omega arith, (λ h. cc), refl, refl)) })
 
 -- "ab" is 61 62 00
 zero_first : EndsFirst (0 ∷ []) (97 ∷ 98 ∷ [])
@@ -192,14 +192,14 @@ three_ones (c ∷ cs) at t =
     no_fourth c t.first.given (sym s.value ∙ ap number (sym f.0))
 
 pub bad_pair : Refusal pair (bits_of (192 ∷ [])) (record { path = []; reason = bad_character; at = 0 }) 4
-bad_pair = inr (record {
+bad_pair = fails_behind_padding (record {
   front = [];
   back = _;
   whole = refl;
   spelled = no_padding Any 0;
   more = 4;
   reaches = refl;
-  fails = inr (record {
+  fails = fails_behind_size (record {
     n = 2;
     behind = record {
       front = [];
@@ -208,7 +208,7 @@ bad_pair = inr (record {
       spelled = record { given = refl; spelled = record { given = omega arith; spelled = record { width = refl; value = refl } } };
       more = 4;
       reaches = refl;
-      fails = inr (omega arith, three_ones, refl, refl);
+      fails = characters_not_permitted (omega arith, three_ones, refl, refl);
     };
   });
 })

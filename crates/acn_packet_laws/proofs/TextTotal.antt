@@ -7,7 +7,7 @@ use Rattle.std.proofs.lemmas.List.{length-take-le, length-drop}
 use Rattle.acn_num.specs.Bits.{number}
 use Rattle.acn_num.specs.Ranges.{In, has, are_ranges, are_ranges_above, all_within, greatest, count}
 use Rattle.acn_grammar.specs.Env.{Env}
-use Rattle.acn_grammar.specs.Fails.{Here, Fault, SizeFails, NoText, CharactersFail, TextFails}
+use Rattle.acn_grammar.specs.Fails.{Here, Fault, SizeFails, NoText, CharactersFail, TextFails, fails_at_size, fails_behind_size, characters_cut, characters_not_permitted}
 use Rattle.acn_grammar.specs.Interval.{size_of}
 use Rattle.acn_grammar.specs.LeafFails.{short, bad_character}
 use Rattle.acn_grammar.specs.Leaves.{width_fine, holds_characters, same_truth, is_beyond}
@@ -180,14 +180,14 @@ abbrev pub Result : Here → Option (List Bool) → TextLeaf → Env → ℕ →
 Result here end leaf env at rest = ((cs : List ℕ) × FrontOf (EndedPart end leaf env cs) at rest) ⊎ Stuck (TextFails here end leaf env) at rest
 
 pub sized_total : (here : Here) (leaf : TextLeaf) → all_within (pos 0) (pos 127) leaf.alphabet ≡ true → (leaf.width ≡ 0 → (c : ℕ) × IsChar leaf 0 c) → (env : Env) (at : ℕ) (rest : List Bool) → ASize leaf.sized env at rest ⊎ Stuck (SizeFails here leaf.sized env) at rest → Result here None leaf env at rest
-sized_total here leaf within some env at rest (inr f) = inr (f.0, f.1, inl f.2)
+sized_total here leaf within some env at rest (inr f) = inr (f.0, f.1, fails_at_size f.2)
 sized_total here leaf within some env at rest (inl s) = by (less_or_not (length s.front.back) (leaf.width * s.n))
   where
     stuck : (fault : Fault) (reach : ℕ) → CharactersFail here leaf s.n (at + length s.front.front) s.front.back fault reach → Result here None leaf env at rest
-    stuck fault reach f = inr (fault, length s.front.front + reach, inr (record { n = s.n; behind = record { front = s.front.front; back = s.front.back; whole = s.front.whole; spelled = s.front.spelled; more = reach; fails = f; reaches = refl } }))
+    stuck fault reach f = inr (fault, length s.front.front + reach, fails_behind_size (record { n = s.n; behind = record { front = s.front.front; back = s.front.back; whole = s.front.whole; spelled = s.front.spelled; more = reach; fails = f; reaches = refl } }))
 
     read : leaf.width * s.n ≤ length s.front.back → ((cs : List ℕ) × (length cs ≡ s.n) × ((at' : ℕ) → CharactersPart leaf cs at' (take (leaf.width * s.n) s.front.back))) ⊎ NoText leaf (take (leaf.width * s.n) s.front.back) → Result here None leaf env at rest
-    read h (inr n) = stuck (says here bad_character) (leaf.width * s.n) (inr (h, n, refl, refl))
+    read h (inr n) = stuck (says here bad_character) (leaf.width * s.n) (characters_not_permitted (h, n, refl, refl))
     read h (inl c) = inl (
       c.0,
       record {
@@ -205,5 +205,5 @@ sized_total here leaf within some env at rest (inl s) = by (less_or_not (length 
     )
 
     by : (length s.front.back < leaf.width * s.n) ⊎ (leaf.width * s.n ≤ length s.front.back) → Result here None leaf env at rest
-    by (inl h) = stuck (says here short) (length s.front.back) (inl (h, refl, refl))
+    by (inl h) = stuck (says here short) (length s.front.back) (characters_cut (h, refl, refl))
     by (inr h) = read h (chars_total leaf within some s.n (take (leaf.width * s.n) s.front.back) (length-take-le (leaf.width * s.n) s.front.back h))

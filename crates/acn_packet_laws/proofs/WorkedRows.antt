@@ -1,12 +1,12 @@
 -- The worked packets: each as it is stated, and why its last case can't hold.
-use Rattle.std.proofs.Common.{◌≡◌, ℕ, suc, ◌+◌, ◌<◌, ◌≤◌, pos, Bool, true, false, List, [], ◌∷◌, ◌++◌, length, take, replicate, Some, None, refl, sym, ap, inl, inr, subst, ◌∙◌, arith}
+use Rattle.std.proofs.Common.{◌≡◌, ℕ, suc, ◌+◌, ◌<◌, ◌≤◌, pos, Bool, true, false, List, [], ◌∷◌, ◌++◌, length, take, replicate, Some, None, refl, sym, ap, subst, ◌∙◌, arith}
 use Rattle.std.proofs.lemmas.Int.{ints}
 use Rattle.std.proofs.lemmas.List.{append-nil, length-take-le}
 use Rattle.acn_num.specs.Bits.{low_bits, bits as bits_of}
 use Rattle.acn_num.specs.Ranges.{In}
 use Rattle.acn_grammar.specs.Code.{Mode, Written, Any, Code}
 use Rattle.acn_grammar.specs.Env.{Env}
-use Rattle.acn_grammar.specs.Fails.{Fault, Fails, Refusal}
+use Rattle.acn_grammar.specs.Fails.{Fault, Fails, Refusal, fails_at_component, fails_behind_component, fails_behind_inserted, fails_behind_padding, fails_behind_presence, fails_at_size}
 use Rattle.acn_grammar.specs.LeafFails.{short, size_out_of_range, content_size}
 use Rattle.acn_grammar.specs.declared.node.NumKind.TheVariants.{Integer, Null}
 use Rattle.acn_grammar.specs.declared.node.NumCoding.TheVariants.{PosInt, Fixed}
@@ -58,34 +58,43 @@ seventeen_never : (bs : List Bool) → IsWritten sized_octets (record_of (filled
 seventeen_never bs w = let g = w.second.spelled.second.second.first.spelled.second.first.given in cc
 
 seventeen_refused : Refusal sized_octets (bits_of (17 ∷ replicate 17 0)) (record { path = 1 ∷ []; reason = size_out_of_range 17; at = 8 }) 8
-seventeen_refused = inr (record {
+seventeen_refused = fails_behind_padding (record {
   front = [];
   back = _;
   whole = refl;
   spelled = none Any 0;
   more = 8;
   reaches = refl;
-  fails = inr (
-    pos 17 ∷ [],
-    refl,
-    (refl, tt),
-    (
-      omega arith,
-      (
-        8,
-        inr (record {
-          front = low_bits 8 17;
-          back = bits_of (replicate 17 0);
-          whole = refl;
-          spelled = (pos 17, refl, record { front = []; back = _; whole = refl; first = none Any 0; second = record { permitted = refl; image = pos 17; maps = refl; spelled = (refl, refl) } });
-          more = 0;
-          reaches = refl;
-          fails = inl (tt, inl (inr (record { front = []; back = _; whole = refl; spelled = none Any 8; more = 0; reaches = refl; fails = inl (pos 17, refl, (λ h. cc), refl, refl) })));
-        }),
-        refl,
-      ),
-    ),
-  );
+  fails = fails_behind_presence (record {
+    numbers = pos 17 ∷ [];
+    count = refl;
+    permitted = (refl, tt);
+    behind = record {
+      there = omega arith;
+      more = 8;
+      fails = fails_behind_inserted (record {
+        front = low_bits 8 17;
+        back = bits_of (replicate 17 0);
+        whole = refl;
+        spelled = (pos 17, refl, record { front = []; back = _; whole = refl; first = none Any 0; second = record { permitted = refl; image = pos 17; maps = refl; spelled = (refl, refl) } });
+        more = 0;
+        reaches = refl;
+        fails = fails_at_component (
+          tt,
+          fails_behind_padding (record {
+            front = [];
+            back = _;
+            whole = refl;
+            spelled = none Any 8;
+            more = 0;
+            reaches = refl;
+            fails = fails_at_size (record { number = pos 17; stands = refl; refused = λ h. cc; says = refl; reaches = refl });
+          }),
+        );
+      });
+      reaches = refl;
+    };
+  });
 })
 
 pub a_size_stands_in_its_field_law : rows.ASizeStandsInItsField
@@ -363,94 +372,110 @@ LengthCode k = Code Any (record { kind = Integer; set = (pos 1, pos 65536) ∷ [
 -- what fails in the body fails in the packet, behind a header that says k and one more octets
 pub in_packet : (k : ℕ) → LengthCode k → (behind : List Bool) (fault : Fault) (more : ℕ) → Fails telemetry body ((0, pos (suc k)) ∷ []) false 0 (7 ∷ []) 48 behind fault more
     → Refusal telemetry (bits_of (0 ∷ 100 ∷ 192 ∷ 7 ∷ []) ++ (low_bits 16 k ++ behind)) fault (48 + more)
-in_packet k code behind fault more f = inr (record {
+in_packet k code behind fault more f = fails_behind_padding (record {
   front = [];
   back = _;
   whole = refl;
   spelled = none Any 0;
   more = 48 + more;
   reaches = omega arith;
-  fails = inr (
-    pos (suc k) ∷ [],
-    refl,
-    (code.permitted, tt),
-    (
-      omega arith,
-      (
-        48 + more,
-        inr (record {
-          front = false ∷ false ∷ false ∷ [];
+  fails = fails_behind_presence (record {
+    numbers = pos (suc k) ∷ [];
+    count = refl;
+    permitted = (code.permitted, tt);
+    behind = record {
+      there = omega arith;
+      more = 48 + more;
+      fails = fails_behind_inserted (record {
+        front = false ∷ false ∷ false ∷ [];
+        back = _;
+        whole = refl;
+        spelled = fixed_part telemetry Any ((0, pos (suc k)) ∷ []) (false ∷ false ∷ false ∷ []) 0;
+        more = 45 + more;
+        reaches = omega arith;
+        fails = fails_behind_inserted (record {
+          front = false ∷ [];
           back = _;
           whole = refl;
-          spelled = fixed_part telemetry Any ((0, pos (suc k)) ∷ []) (false ∷ false ∷ false ∷ []) 0;
-          more = 45 + more;
+          spelled = fixed_part telemetry Any ((0, pos (suc k)) ∷ []) (false ∷ []) 3;
+          more = 44 + more;
           reaches = omega arith;
-          fails = inr (record {
+          fails = fails_behind_inserted (record {
             front = false ∷ [];
             back = _;
             whole = refl;
-            spelled = fixed_part telemetry Any ((0, pos (suc k)) ∷ []) (false ∷ []) 3;
-            more = 44 + more;
+            spelled = fixed_part telemetry Any ((0, pos (suc k)) ∷ []) (false ∷ []) 4;
+            more = 43 + more;
             reaches = omega arith;
-            fails = inr (record {
-              front = false ∷ [];
-              back = _;
-              whole = refl;
-              spelled = fixed_part telemetry Any ((0, pos (suc k)) ∷ []) (false ∷ []) 4;
-              more = 43 + more;
-              reaches = omega arith;
-              fails = inl (
-                tt,
-                inr (
-                  int (pos 100),
-                  record {
-                    front = low_bits 11 100;
-                    back = _;
-                    whole = refl;
-                    spelled = record { given = tt; spelled = record { front = []; back = _; whole = refl; first = none Any 5; second = (pos 100, refl, record { permitted = refl; image = pos 100; maps = refl; spelled = (refl, refl) }) } };
-                    more = 32 + more;
-                    reaches = omega arith;
-                    fails = inr (record {
-                      front = true ∷ true ∷ [];
+            fails = fails_behind_component (
+              tt,
+              (
+                int (pos 100),
+                record {
+                  front = low_bits 11 100;
+                  back = _;
+                  whole = refl;
+                  spelled = record {
+                    given = tt;
+                    spelled = record {
+                      front = [];
                       back = _;
                       whole = refl;
-                      spelled = fixed_part telemetry Any ((0, pos (suc k)) ∷ []) (true ∷ true ∷ []) 16;
-                      more = 30 + more;
-                      reaches = omega arith;
-                      fails = inl (
-                        tt,
-                        inr (
-                          int (pos 7),
-                          record {
-                            front = low_bits 14 7;
-                            back = _;
-                            whole = refl;
-                            spelled = record { given = tt; spelled = record { front = []; back = _; whole = refl; first = none Any 18; second = (pos 7, refl, record { permitted = refl; image = pos 7; maps = refl; spelled = (refl, refl) }) } };
-                            more = 16 + more;
-                            reaches = omega arith;
-                            fails = inr (record {
-                              front = low_bits 16 k;
-                              back = behind;
+                      first = none Any 5;
+                      second = (pos 100, refl, record { permitted = refl; image = pos 100; maps = refl; spelled = (refl, refl) });
+                    };
+                  };
+                  more = 32 + more;
+                  reaches = omega arith;
+                  fails = fails_behind_inserted (record {
+                    front = true ∷ true ∷ [];
+                    back = _;
+                    whole = refl;
+                    spelled = fixed_part telemetry Any ((0, pos (suc k)) ∷ []) (true ∷ true ∷ []) 16;
+                    more = 30 + more;
+                    reaches = omega arith;
+                    fails = fails_behind_component (
+                      tt,
+                      (
+                        int (pos 7),
+                        record {
+                          front = low_bits 14 7;
+                          back = _;
+                          whole = refl;
+                          spelled = record {
+                            given = tt;
+                            spelled = record {
+                              front = [];
+                              back = _;
                               whole = refl;
-                              spelled = (pos (suc k), refl, record { front = []; back = _; whole = refl; first = none Any 32; second = code });
-                              more = more;
-                              reaches = omega arith;
-                              fails = inl (tt, inl f);
-                            });
-                          },
-                        ),
-                      );
-                    });
-                  },
-                ),
-              );
-            });
+                              first = none Any 18;
+                              second = (pos 7, refl, record { permitted = refl; image = pos 7; maps = refl; spelled = (refl, refl) });
+                            };
+                          };
+                          more = 16 + more;
+                          reaches = omega arith;
+                          fails = fails_behind_inserted (record {
+                            front = low_bits 16 k;
+                            back = behind;
+                            whole = refl;
+                            spelled = (pos (suc k), refl, record { front = []; back = _; whole = refl; first = none Any 32; second = code });
+                            more = more;
+                            reaches = omega arith;
+                            fails = fails_at_component (tt, f);
+                          });
+                        },
+                      ),
+                    );
+                  });
+                },
+              ),
+            );
           });
-        }),
-        omega arith,
-      ),
-    ),
-  );
+        });
+      });
+      reaches = omega arith;
+    };
+  });
 })
 
 -- the contents never stand in another number of bits than three octets

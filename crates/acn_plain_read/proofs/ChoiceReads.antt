@@ -9,7 +9,7 @@ use Rattle.std.proofs.Math.Nat.{pow-le-pow_right}
 use Rattle.acn_num.specs.Bits.{number, is_least_width}
 use Rattle.acn_bits.specs.Reading.{Reading, passed}
 use Rattle.acn_grammar.specs.Code.{Any}
-use Rattle.acn_grammar.specs.Fails.{Fault, Here, Fails, FormFails, IndexFails, AlternativeFails}
+use Rattle.acn_grammar.specs.Fails.{Fault, Here, Fails, FormFails, IndexFails, AlternativeFails, index_cut, index_too_great, fails_at_alternative, fails_at_index}
 use Rattle.acn_grammar.specs.Grammar.{Form, Data, choice, alt}
 use Rattle.acn_grammar.specs.ItemsNamed.{ItemsNamed, FormItemsNamed, AlternativesItemsNamed, items_named, alternatives_items_named}
 use Rattle.acn_grammar.specs.LeafFails.{Reason, short, no_alternative}
@@ -278,13 +278,13 @@ module _ (root : Grammar) where
       })
 
   pub index_none : (cases : Alternatives) (rule : ChoiceRule) (width : ℕ) (t : Env) (a : Reading) (v : ℕ) → rule ≡ Index width → width ≤ length a.rest → v ≡ number (take width a.rest) → count_of cases ≤ v → NoCase root cases rule t a no_alternative
-  index_none cases rule width t a v e room value more = subst (λ (r : ChoiceRule). NoCase root cases r t a no_alternative) (sym e) (record { reach = width; fails = λ here env f. inr (room, subst (λ (n : ℕ). count_of cases ≤ n) value more, none here.inside here, refl) })
+  index_none cases rule width t a v e room value more = subst (λ (r : ChoiceRule). NoCase root cases r t a no_alternative) (sym e) (record { reach = width; fails = λ here env f. index_too_great (room, subst (λ (n : ℕ). count_of cases ≤ n) value more, none here.inside here, refl) })
     where
       none : (b : Bool) (here : Here) → fault_here here no_alternative ≡ fault_here here no_alternative
       none b here = refl
 
   pub index_short : (cases : Alternatives) (rule : ChoiceRule) (width : ℕ) (t : Env) (a : Reading) → rule ≡ Index width → length a.rest < width → NoCase root cases rule t a short
-  index_short cases rule width t a e few = subst (λ (r : ChoiceRule). NoCase root cases r t a short) (sym e) (record { reach = length a.rest; fails = λ here env f. inl (few, refl, refl) })
+  index_short cases rule width t a e few = subst (λ (r : ChoiceRule). NoCase root cases r t a short) (sym e) (record { reach = length a.rest; fails = λ here env f. index_cut (few, refl, refl) })
 
   pub rule_picked : (cases : Alternatives) (rule : ChoiceRule) (t : Env) (a : Reading) (i : ℕ) → ((width : ℕ) → rule ≡ Index width → ⊥) → Choosing root cases rule t i → Picked root cases rule t a a i
   rule_picked cases (Index width) t a i plain c = absurd (plain width refl)
@@ -293,8 +293,8 @@ module _ (root : Grammar) where
 
   pub rule_none : (cases : Alternatives) (rule : ChoiceRule) (t : Env) (a : Reading) → ((width : ℕ) → rule ≡ Index width → ⊥) → Unchosen root cases rule t → NoCase root cases rule t a no_alternative
   rule_none cases (Index width) t a plain c = absurd (plain width refl)
-  rule_none cases Tests t a plain c = record { reach = 0; fails = λ here env f. (c env f, refl, refl) }
-  rule_none cases (Item s) t a plain c = record { reach = 0; fails = λ here env f. (c env f, refl, refl) }
+  rule_none cases Tests t a plain c = record { reach = 0; fails = λ here env f. record { none = c env f; says = refl; reaches = refl } }
+  rule_none cases (Item s) t a plain c = record { reach = 0; fails = λ here env f. record { none = c env f; says = refl; reaches = refl } }
 
   -- A CHOICE.
 
@@ -338,25 +338,23 @@ module _ (root : Grammar) where
     fine = s.fine;
     within = λ around st. (let q = case_sound root (suc st.0) around st.1.known cases i g e st.1.is.3 in s.within around (suc st.0, record { known = st.1.known; noted = st.1.noted; is = q.1 }));
     reach = index_width rule + s.reach;
-    fails = λ env f. inr (
-      i,
-      p.is,
-      (
-        p.room,
-        (
-          s.reach,
-          case_fails root rule env here a.origin cases i i g (a.at + index_width rule) (drop (index_width rule) a.rest) (record { path = path; reason = r; at = at }) s.reach e (p.chosen env (s.grown env f))
-              (subst (λ (x : Reading). Fails root g env here.inside x.origin (here.path ++ i ∷ []) x.at x.rest (record { path = path; reason = r; at = at }) s.reach) p.moved (s.fails env f)),
-          refl,
-        ),
-      ),
-    );
+    fails = λ env f. fails_at_alternative (record {
+      index = i;
+      stands = p.is;
+      behind = record {
+        there = p.room;
+        more = s.reach;
+        fails = case_fails root rule env here a.origin cases i i g (a.at + index_width rule) (drop (index_width rule) a.rest) (record { path = path; reason = r; at = at }) s.reach e (p.chosen env (s.grown env f))
+            (subst (λ (x : Reading). Fails root g env here.inside x.origin (here.path ++ i ∷ []) x.at x.rest (record { path = path; reason = r; at = at }) s.reach) p.moved (s.fails env f));
+        reaches = refl;
+      };
+    });
   }
 
   pub choice_none : (here : Here) (cases : Alternatives) (rule : ChoiceRule) (t : Env) (a : Reading) (r : Reason) (at : ℕ) → Fine root t → Named here.inside here.place (NoCase root cases rule t a) r at → FormStops root (choice cases rule) here a.origin t a here.path r at
   choice_none here cases rule t a r at m n =
       here_stops root (λ around. (k : ℕ) × FormStands root k (choice cases rule) t around) (λ env. FormFails root (choice cases rule) env here a.origin) t a (record { path = here.path; reason = r; at = at }) n.1.2.reach m (form_within root (choice cases rule) t)
-      (λ env f. inl (subst (λ (x : Fault). IndexFails root here rule cases env a.at a.rest x n.1.2.reach) (sym says) (n.1.2.fails here env f)))
+      (λ env f. fails_at_index (subst (λ (x : Fault). IndexFails root here rule cases env a.at a.rest x n.1.2.reach) (sym says) (n.1.2.fails here env f)))
     where
       says : ◌≡◌ {A = Fault} (record { path = here.path; reason = r; at = at }) (fault_here here n.1.0)
       says = (let e = n.0 in let q = n.1.1 in rw (e, q) refl)

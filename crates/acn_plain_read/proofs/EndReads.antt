@@ -1,5 +1,5 @@
 -- Lists that a pattern ends.
-use Rattle.std.proofs.Common.{◌≡◌, ℕ, zero, suc, ◌+◌, ◌-◌, ◌<◌, ◌≤◌, max, pos, Bool, List, [], ◌∷◌, ◌++◌, length, take, drop, Option, refl, sym, ap, ◌∙◌, arith, inl, inr, subst, append_assoc, length-append, take-append-drop, append-nil}
+use Rattle.std.proofs.Common.{◌≡◌, ℕ, zero, suc, ◌+◌, ◌-◌, ◌<◌, ◌≤◌, max, pos, Bool, List, [], ◌∷◌, ◌++◌, length, take, drop, Option, refl, sym, ap, ◌∙◌, arith, subst, append_assoc, length-append, take-append-drop, append-nil}
 use Rattle.std.proofs.lemmas.List.{length-take-le}
 use Rattle.acn_num.specs.Bits.{number}
 use Rattle.acn_num.specs.Ranges.{In, greatest}
@@ -7,7 +7,7 @@ use Rattle.acn_num.proofs.BitLists.{number_same}
 use Rattle.acn_bits.specs.Reading.{Reading, passed}
 use Rattle.acn_grammar.specs.Code.{Any}
 use Rattle.acn_grammar.specs.Env.{Env}
-use Rattle.acn_grammar.specs.Fails.{Fault, Here, Fails, ListFails, EndFails}
+use Rattle.acn_grammar.specs.Fails.{Fault, Here, Fails, ListFails, EndFails, pattern_cut, pattern_differs, full_not_permitted, end_not_permitted, full_not_ended, next_element_fails}
 use Rattle.acn_grammar.specs.Grammar.{Grammar, Data, Elements, list, list_of, no_elements}
 use Rattle.acn_grammar.specs.Interval.{size_of}
 use Rattle.acn_grammar.specs.LeafFails.{Reason, short, too_long, size_out_of_range}
@@ -35,13 +35,13 @@ stands_at p bits a ahead v n same copied room value count e =
     subst (λ (x : List Bool). take (length x) a.rest ≡ x) same (subst (λ (x : Reading). take (length bits) x.rest ≡ bits) copied (stands_there bits ahead.rest v room value (e ∙ count)))
 
 pub unpermitted : (p : List Bool) (sizing : Sizing) (n : ℕ) (rest : List Bool) → take (length p) rest ≡ p → (In sizing.sizes (pos n) → ⊥) → Unpermitted p sizing n rest (size_out_of_range n)
-unpermitted p sizing n rest there out = record { reach = length p; fails = λ here at. (there, out, refl, refl) }
+unpermitted p sizing n rest there out = record { reach = length p; fails = λ here at. record { stands = there; refused = out; says = refl; reaches = refl } }
 
 pub unended_short : (p rest : List Bool) → length rest < length p → Unended p rest short
-unended_short p rest few = record { reach = length rest; fails = λ here at. inl (few, refl, refl) }
+unended_short p rest few = record { reach = length rest; fails = λ here at. pattern_cut (few, refl, refl) }
 
 pub unended_long : (p rest : List Bool) → length p ≤ length rest → (take (length p) rest ≡ p → ⊥) → Unended p rest too_long
-unended_long p rest room away = record { reach = length p; fails = λ here at. inr (room, away, refl, refl) }
+unended_long p rest room away = record { reach = length p; fails = λ here at. pattern_differs (room, away, refl, refl) }
 
 module _ (root : Grammar) where
   -- what fails behind some elements, with room for m more
@@ -57,8 +57,8 @@ module _ (root : Grammar) where
   }
 
   end_fails : (here : Here) (origin : ℕ) (g : Grammar) (p : List Bool) (sizing : Sizing) (env : Env) (m k at : ℕ) (rest : List Bool) (fault : Fault) (reach : ℕ) → EndFails here p sizing k at rest fault reach → TailFails root (ended p sizing) here origin g env m k at rest fault reach
-  end_fails here origin g p sizing env zero k at rest fault reach h = inl h
-  end_fails here origin g p sizing env (suc m) k at rest fault reach h = inl h
+  end_fails here origin g p sizing env zero k at rest fault reach h = full_not_permitted h
+  end_fails here origin g p sizing env (suc m) k at rest fault reach h = end_not_permitted h
 
   pub end_stops : (place : ℕ) (inside : Bool) (path path' : List ℕ) (origin : ℕ) (g : Grammar) (p : List Bool) (sizing : Sizing) (n i : ℕ) (done : List Data) (t t' : Env) (a b : Reading) (r : Reason) (at : ℕ) → path' ≡ path → length done ≡ i → i ≤ n → RunTurn root (record { path = path; place = place; inside = inside }) origin g 0 done t t' a b
       → Named inside place (Unpermitted p sizing i b.rest) r at → TailStops root (ended p sizing) (record { path = path; place = place; inside = inside }) origin g n 0 t a path' r at
@@ -77,7 +77,7 @@ module _ (root : Grammar) where
   none_stops place inside path path' origin g p sizing n done t t' a b r at e count run q =
       subst (λ (x : Fault). Stops root (λ around. (depth : ℕ) × InnerStands root depth g t around) (λ env. TailFails root (ended p sizing) (record { path = path; place = place; inside = inside }) origin g env n 0) t a x) (sym (says q))
       (tail_stops (record { path = path; place = place; inside = inside }) origin g (ended p sizing) n 0 done t t' a b (fault_here (record { path = path; place = place; inside = inside }) q.1.0) q.1.2.reach (omega (arith, count)) run
-      (λ env f. inr (q.1.2.fails (record { path = path; place = place; inside = inside }) b.at)))
+      (λ env f. full_not_ended (q.1.2.fails (record { path = path; place = place; inside = inside }) b.at)))
     where
       says : (q : Named inside place (Unended p b.rest) r at) → ◌≡◌ {A = Fault} (record { path = path'; reason = r; at = at }) (fault_here (record { path = path; place = place; inside = inside }) q.1.0)
       says q = (let x = q.0 in let y = q.1.1 in rw (x, y, e) refl)
@@ -95,15 +95,13 @@ module _ (root : Grammar) where
         fails = λ env f.
             subst (λ (x : ℕ). TailFails root (ended p sizing) (record { path = start; place = place; inside = inside }) origin g env x 0 a.at a.rest (record { path = path; reason = r; at = at }) (length run.front + max (length p) s.reach)) (gap n i count less)
             (run.stops env (s.grown env f) (ended p sizing) (suc (n - suc i)) (record { path = path; reason = r; at = at }) (max (length p) s.reach)
-            (inr (inl (
-              away,
-              (
-                s.reach,
-                subst (λ (x : ℕ). Fails root g env inside origin (start ++ x ∷ []) b.at b.rest (record { path = path; reason = r; at = at }) s.reach) (index count)
-                    (subst (λ (o : ℕ). Fails root g env inside o (start ++ i ∷ []) b.at b.rest (record { path = path; reason = r; at = at }) s.reach) same (s.fails env f)),
-                refl,
-              ),
-            ))));
+            (next_element_fails (record {
+              differs = away;
+              inner = s.reach;
+              fails = subst (λ (x : ℕ). Fails root g env inside origin (start ++ x ∷ []) b.at b.rest (record { path = path; reason = r; at = at }) s.reach) (index count)
+                  (subst (λ (o : ℕ). Fails root g env inside o (start ++ i ∷ []) b.at b.rest (record { path = path; reason = r; at = at }) s.reach) same (s.fails env f));
+              reaches = refl;
+            })));
       }
     where
       gap : (n i : ℕ) → length done ≡ i → i < n → length done + suc (n - suc i) ≡ n

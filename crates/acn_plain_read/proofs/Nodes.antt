@@ -1,12 +1,12 @@
 -- Parts that were read, and what fails behind them.
-use Rattle.std.proofs.Common.{◌≡◌, ℕ, zero, suc, ◌+◌, ◌<◌, ℤ, Bool, true, false, List, ◌++◌, length, None, refl, sym, ap, ◌∙◌, arith, inl, inr, subst, append_assoc, length-append}
+use Rattle.std.proofs.Common.{◌≡◌, ℕ, zero, suc, ◌+◌, ◌<◌, ℤ, Bool, true, false, List, ◌++◌, length, None, refl, sym, ap, ◌∙◌, arith, subst, append_assoc, length-append}
 use Rattle.std.specs.Prelude.{Result, Ok, Err, IfOk, IfErr, OnOk}
 use Rattle.acn_bits.specs.Reading.{Reading}
 use Rattle.acn_bits.specs.Reading.{Reads}
 use Rattle.acn_ints.specs.Reads as readings
 use Rattle.acn_grammar.specs.Code.{Any, Code, NumberOf}
 use Rattle.acn_grammar.specs.Env.{Env, at_slot}
-use Rattle.acn_grammar.specs.Fails.{Fault, Failing, Here, Behind, Fails, FormFails}
+use Rattle.acn_grammar.specs.Fails.{Fault, Failing, Here, Behind, Fails, FormFails, padding_cut, fails_behind_padding}
 use Rattle.acn_grammar.specs.Grammar.{Grammar, Form, Data, node, num}
 use Rattle.acn_grammar.specs.LeafFails.{Reason, short}
 use Rattle.acn_grammar.specs.Length.{padding}
@@ -93,7 +93,7 @@ node_fails root align form inside path path' before a b from r at e p s =
     behind root (λ around. (k : ℕ) × NodeStands root k (node align form) before around) (λ around. (k : ℕ) × FormStands root k form before around) (λ env. Padding Any align) (λ env. FormFails root form env (record { path = path; place = a.origin + a.at; inside = inside }) a.origin) (λ env. Fails root (node align form) env inside a.origin path) before before a b (record { path = path'; reason = r; at = at })
     (λ env f. f) (pad_under align before a b p) (λ around st. (st.0, record { known = st.1.known; noted = st.1.noted; is = st.1.is.2 }))
     (subst (λ (n : ℕ). FormStops root form (record { path = path; place = n; inside = inside }) a.origin before b path' r at) e (subst (λ (o : ℕ). FormStops root form (record { path = path; place = from; inside = inside }) o before b path' r at) p.window s))
-    (λ env reach h. inr h)
+    (λ env reach h. fails_behind_padding h)
 
 -- nothing was read but what is there
 pub here_stops : (root : Grammar) (stands : List ℕ → Type 0) (G : Env → Failing) (before : Env) (a : Reading) (fault : Fault) (reach : ℕ) → Fine root before → ((around : List ℕ) → stands around → Within around before) → ((env : Env) → Follows before env → G env a.at a.rest fault reach) → Stops root stands G before a fault
@@ -108,7 +108,7 @@ pub node_short : (root : Grammar) (align : ℕ) (form : Form) (inside : Bool) (p
     → NodeStops root (node align form) inside path before a path r from
 node_short root align form inside path before a r from e q m h =
     here_stops root (λ around. (k : ℕ) × NodeStands root k (node align form) before around) (λ env. Fails root (node align form) env inside a.origin path) before a (record { path = path; reason = r; at = from }) (length a.rest) m (node_within root (node align form) before)
-    (λ env f. inl (h, says, refl))
+    (λ env f. padding_cut (h, says, refl))
   where
     says : ◌≡◌ {A = Fault} (record { path = path; reason = r; at = from }) (record { path = path; reason = seen inside short; at = a.origin + a.at })
     says = rw (e, q) refl
@@ -130,7 +130,7 @@ num_read root leaf d before a b m p = record {
 pub num_fails : (root : Grammar) (leaf : NumLeaf) (here : Here) (origin : ℕ) (before : Env) (a : Reading) (r : Reason) (at : ℕ) → Fine root before → Named here.inside here.place (readings.Refused leaf a.rest) r at → FormStops root (num leaf) here origin before a here.path r at
 num_fails root leaf here origin before a r at m n =
     here_stops root (λ around. (k : ℕ) × FormStands root k (num leaf) before around) (λ env. FormFails root (num leaf) env here origin) before a (record { path = here.path; reason = r; at = at }) n.1.2.0 m (form_within root (num leaf) before)
-    (λ env f. (n.1.0, n.1.2.1, says))
+    (λ env f. record { reason = n.1.0; fails = n.1.2.1; says = says })
   where
     says : ◌≡◌ {A = Fault} (record { path = here.path; reason = r; at = at }) (record { path = here.path; reason = seen here.inside n.1.0; at = here.place })
     says = (let e = n.0 in let q = n.1.1 in rw (e, q) refl)

@@ -1,11 +1,11 @@
 -- Elements that were read, one behind another, and contents in their window.
-use Rattle.std.proofs.Common.{◌≡◌, ℕ, suc, ◌+◌, ◌-◌, ◌*◌, ◌%◌, ◌<◌, ◌≤◌, Bool, true, false, List, [], ◌∷◌, ◌++◌, length, map, take, Option, Some, None, refl, sym, ap, ◌∙◌, arith, inl, inr, ◌⊎◌, subst, append_assoc, length-append, take-append-drop, append-nil, rules, IsTrue, ◌&&◌}
+use Rattle.std.proofs.Common.{◌≡◌, ℕ, suc, ◌+◌, ◌-◌, ◌*◌, ◌%◌, ◌<◌, ◌≤◌, Bool, true, false, List, [], ◌∷◌, ◌++◌, length, map, take, Option, Some, None, refl, sym, ap, ◌∙◌, arith, subst, append_assoc, length-append, take-append-drop, append-nil, rules, IsTrue, ◌&&◌}
 use Rattle.std.proofs.lemmas.List.{length-take-le}
 use Rattle.std.proofs.lemmas.Bool.{and_parts}
 use Rattle.acn_bits.specs.Reading.{Reading, passed, window_of}
 use Rattle.acn_grammar.specs.Code.{Any}
 use Rattle.acn_grammar.specs.Env.{Env}
-use Rattle.acn_grammar.specs.Fails.{Fault, Failing, Here, Behind, Short, Overlong, ListFails, Fails, FormFails, SizeFails, seen}
+use Rattle.acn_grammar.specs.Fails.{Fault, Failing, Here, Behind, Overlong, ListFails, Fails, FormFails, SizeFails, seen, ContentFails, fails_at_element, fails_behind_element, fails_behind_next, fails_at_size, fails_behind_size, window_cut, content_fails, content_overlong}
 use Rattle.acn_grammar.specs.Grammar.{Grammar, Data, Elements, list, contained, list_of, no_elements, element, element_count}
 use Rattle.acn_grammar.specs.LeafFails.{Reason, short, content_size}
 use Rattle.acn_grammar.specs.Leaves.{sizing_fine, list_fine, sizes_fine, list_rule_fine}
@@ -46,11 +46,11 @@ mapped_length (v ∷ vs) = ap suc (mapped_length vs)
 module _ (root : Grammar) where
   -- one element in front of others that fail
   into_tail : (tail : Tail) (here : Here) (origin : ℕ) (g : Grammar) (env : Env) (n k at : ℕ) (rest : List Bool) (fault : Fault) (reach : ℕ) → ((d : Data) × Behind (Spell root Any g env d) (TailFails root tail here origin g env n (suc k)) at rest fault reach) → TailFails root tail here origin g env (suc n) k at rest fault reach
-  into_tail counted here origin g env n k at rest fault reach h = inr h
-  into_tail (ended p sizing) here origin g env n k at rest fault reach h = inr (inr h)
+  into_tail counted here origin g env n k at rest fault reach h = fails_behind_element h
+  into_tail (ended p sizing) here origin g env n k at rest fault reach h = fails_behind_next h
 
   fails_tail : (here : Here) (origin : ℕ) (g : Grammar) (env : Env) (n k at : ℕ) (rest : List Bool) (fault : Fault) (reach : ℕ) → Fails root g env here.inside origin (here.path ++ k ∷ []) at rest fault reach → TailFails root counted here origin g env (suc n) k at rest fault reach
-  fails_tail here origin g env n k at rest fault reach h = inl h
+  fails_tail here origin g env n k at rest fault reach h = fails_at_element h
 
   pub no_run : (here : Here) (origin : ℕ) (g : Grammar) (k : ℕ) (t : Env) (a : Reading) → Fine root t → RunTurn root here origin g k [] t t a a
   no_run here origin g k t a m = record {
@@ -127,7 +127,7 @@ module _ (root : Grammar) where
         fails = λ env f.
             subst (λ (x : ℕ). TailFails root counted here origin g env x 0 a.at a.rest (record { path = path; reason = r; at = at }) (length p.front + s.reach)) (let e = m.1 in omega (arith, e, place))
             (p.stops env (s.grown env f) counted (suc m.0) (record { path = path; reason = r; at = at }) s.reach
-            (inl (subst (λ (x : ℕ). Fails root g env here.inside origin (here.path ++ x ∷ []) b.at b.rest (record { path = path; reason = r; at = at }) s.reach) (omega (arith, place))
+            (fails_at_element (subst (λ (x : ℕ). Fails root g env here.inside origin (here.path ++ x ∷ []) b.at b.rest (record { path = path; reason = r; at = at }) s.reach) (omega (arith, place))
             (subst (λ (o : ℕ). Fails root g env here.inside o (here.path ++ i ∷ []) b.at b.rest (record { path = path; reason = r; at = at }) s.reach) same (s.fails env f)))));
       }
     where
@@ -206,14 +206,14 @@ module _ (root : Grammar) where
       behind root (λ around. (k : ℕ) × FormStands root k (list sizing g) t around) (λ around. (depth : ℕ) × InnerStands root depth g t around) (λ env. SizePart sizing env n) (λ env. TailFails root counted here a.origin g env n 0) (λ env. FormFails root (list sizing g) env here a.origin) t t a b (record { path = path; reason = r; at = at })
       (λ env f. f) p (λ around st. (suc st.0, record { known = st.1.known; noted = st.1.noted; is = (st.1.is.3, st.1.is.4) }))
       (subst (λ (o : ℕ). TailStops root counted here o g n 0 t b path r at) p.window s)
-      (λ env reach h. sized_fails (ending sizing.rule) here sizing env (Spell root Any g env) (λ k. Fails root g env here.inside a.origin (here.path ++ k ∷ [])) a.at a.rest (record { path = path; reason = r; at = at }) reach none (inr (record { n = n; behind = h })))
+      (λ env reach h. sized_fails (ending sizing.rule) here sizing env (Spell root Any g env) (λ k. Fails root g env here.inside a.origin (here.path ++ k ∷ [])) a.at a.rest (record { path = path; reason = r; at = at }) reach none (fails_behind_size (record { n = n; behind = h })))
 
   pub list_unsized : (here : Here) (sizing : Sizing) (g : Grammar) (t items : Env) (a : Reading) (r : Reason) (at : ℕ) → ending sizing.rule ≡ None → items ≡ t → Fine root t → Named here.inside here.place (NoSize sizing items a) r at → FormStops root (list sizing g) here a.origin t a here.path r at
   list_unsized here sizing g t items a r at none i m n' =
       let n : Named here.inside here.place (NoSize sizing t a) r at = subst (λ (x : Env). Named here.inside here.place (NoSize sizing x a) r at) i n' in
       here_stops root (λ around. (k : ℕ) × FormStands root k (list sizing g) t around) (λ env. FormFails root (list sizing g) env here a.origin) t a (record { path = here.path; reason = r; at = at }) n.1.2.reach m (form_within root (list sizing g) t)
       (λ env f. sized_fails (ending sizing.rule) here sizing env (Spell root Any g env) (λ k. Fails root g env here.inside a.origin (here.path ++ k ∷ [])) a.at a.rest (record { path = here.path; reason = r; at = at }) n.1.2.reach none
-      (inl (subst (λ (x : Fault). SizeFails here sizing env a.at a.rest x n.1.2.reach) (sym (says_so n)) (n.1.2.fails here env f))))
+      (fails_at_size (subst (λ (x : Fault). SizeFails here sizing env a.at a.rest x n.1.2.reach) (sym (says_so n)) (n.1.2.fails here env f))))
     where
       says_so : (n : Named here.inside here.place (NoSize sizing t a) r at) → ◌≡◌ {A = Fault} (record { path = here.path; reason = r; at = at }) (fault_here here n.1.0)
       says_so n = (let e = n.0 in let q = n.1.1 in rw (e, q) refl)
@@ -267,20 +267,19 @@ module _ (root : Grammar) where
       }
 
   -- what fails behind the size
+  abbrev InWindow : Here → (origin : ℕ) → Grammar → Env → (n : ℕ) → Failing
+  InWindow here origin g env n = ContentFails here (Spell root Any g env) (λ place. Fails root g env true (origin + place) (here.path ++ 0 ∷ [])) n
+
   sized_stops : (here : Here) (sizing : Sizing) (g : Grammar) (n : ℕ) (t : Env) (a b : Reading) (fault : Fault) (reach : ℕ) → Passes (λ env. SizePart sizing env n) t a b → Fine root t
-      → ((env : Env) → Follows t env → Short here (8 * n) b.at b.rest fault reach ⊎ ((8 * n ≤ length b.rest) × (((inner : ℕ) × Fails root g env true (a.origin + b.at) (here.path ++ 0 ∷ []) 0 (take (8 * n) b.rest) fault inner) ⊎ ((d : Data) × Overlong root here n (Spell root Any g env d) (take (8 * n) b.rest) fault)) × (reach ≡ 8 * n)))
+      → ((env : Env) → Follows t env → InWindow here a.origin g env n b.at b.rest fault reach)
       → Stops root (λ around. (k : ℕ) × FormStands root k (contained sizing g) t around) (λ env. FormFails root (contained sizing g) env here a.origin) t a fault
   sized_stops here sizing g n t a b fault reach p m h =
       here_stops root (λ around. (k : ℕ) × FormStands root k (contained sizing g) t around) (λ env. FormFails root (contained sizing g) env here a.origin) t a fault (length p.front + reach) m (form_within root (contained sizing g) t)
-      (λ env f. inr (record { n = n; behind = record { front = p.front; back = b.rest; whole = p.split; spelled = p.holds env f; more = reach; fails = moved env (h env f); reaches = refl } }))
-    where
-      moved : (env : Env) → Short here (8 * n) b.at b.rest fault reach ⊎ ((8 * n ≤ length b.rest) × (((inner : ℕ) × Fails root g env true (a.origin + b.at) (here.path ++ 0 ∷ []) 0 (take (8 * n) b.rest) fault inner) ⊎ ((d : Data) × Overlong root here n (Spell root Any g env d) (take (8 * n) b.rest) fault)) × (reach ≡ 8 * n))
-          → Short here (8 * n) (a.at + length p.front) b.rest fault reach ⊎ ((8 * n ≤ length b.rest) × (((inner : ℕ) × Fails root g env true (a.origin + (a.at + length p.front)) (here.path ++ 0 ∷ []) 0 (take (8 * n) b.rest) fault inner) ⊎ ((d : Data) × Overlong root here n (Spell root Any g env d) (take (8 * n) b.rest) fault)) × (reach ≡ 8 * n))
-      moved env x = subst (λ (at : ℕ). Short here (8 * n) at b.rest fault reach ⊎ ((8 * n ≤ length b.rest) × (((inner : ℕ) × Fails root g env true (a.origin + at) (here.path ++ 0 ∷ []) 0 (take (8 * n) b.rest) fault inner) ⊎ ((d : Data) × Overlong root here n (Spell root Any g env d) (take (8 * n) b.rest) fault)) × (reach ≡ 8 * n))) p.moved x
+      (λ env f. fails_behind_size (record { n = n; behind = record { front = p.front; back = b.rest; whole = p.split; spelled = p.holds env f; more = reach; fails = subst (λ (at : ℕ). InWindow here a.origin g env n at b.rest fault reach) p.moved (h env f); reaches = refl } }))
 
   pub contained_short : (here : Here) (sizing : Sizing) (g : Grammar) (n : ℕ) (t items : Env) (a b : Reading) (r : Reason) → items ≡ t → Passes (λ env. SizePart sizing env n) items a b → Fine root t → r ≡ seen here.inside short → length b.rest < 8 * n → FormStops root (contained sizing g) here a.origin t a here.path r here.place
   contained_short here sizing g n t items a b r i p m e h =
-      sized_stops here sizing g n t a b (record { path = here.path; reason = r; at = here.place }) (length b.rest) (subst (λ (x : Env). Passes (λ env. SizePart sizing env n) x a b) i p) m (λ env f. inl (h, rw e refl, refl))
+      sized_stops here sizing g n t a b (record { path = here.path; reason = r; at = here.place }) (length b.rest) (subst (λ (x : Env). Passes (λ env. SizePart sizing env n) x a b) i p) m (λ env f. window_cut (h, rw e refl, refl))
 
   pub contained_overlong : (here : Here) (sizing : Sizing) (g : Grammar) (n used : ℕ) (d : Data) (t t' items : Env) (a b w w' : Reading) → items ≡ t → Passes (λ env. SizePart sizing env n) items a b → Fine root t → 8 * n ≤ length b.rest → w ≡ window_of (8 * n) b → NodeRead root g d t t' w w' → 8 ≤ length w'.rest → used ≡ w'.at
       → FormStops root (contained sizing g) here a.origin t a here.path (content_size n used) here.place
@@ -290,7 +289,7 @@ module _ (root : Grammar) where
     fine = q.fine;
     within = λ around st. at_within around st;
     reach = length p.front + 8 * n;
-    fails = λ env f. inr (record { n = n; behind = record { front = p.front; back = b.rest; whole = p.split; spelled = p.holds env (q.grown env f); more = 8 * n; fails = inr (room, inr (d, over env f), refl); reaches = refl } });
+    fails = λ env f. fails_behind_size (record { n = n; behind = record { front = p.front; back = b.rest; whole = p.split; spelled = p.holds env (q.grown env f); more = 8 * n; fails = content_overlong (room, (d, over env f), refl); reaches = refl } });
   }
     where
       p : Passes (λ env. SizePart sizing env n) t a b
@@ -299,7 +298,7 @@ module _ (root : Grammar) where
       at_within : (around : List ℕ) → ((k : ℕ) × FormStands root k (contained sizing g) t around) → Within around t'
       at_within around st = Rattle.acn_plain_read.proofs.Nodes.noted_within around (after st.1.known g) t' (q.known (suc st.0) around (record { known = st.1.known; noted = st.1.noted; is = st.1.is.3 }))
 
-      over : (env : Env) → Follows t' env → Overlong root here n (Spell root Any g env d) (take (8 * n) b.rest) (record { path = here.path; reason = content_size n used; at = here.place })
+      over : (env : Env) → Follows t' env → Overlong here n (Spell root Any g env d) (take (8 * n) b.rest) (record { path = here.path; reason = content_size n used; at = here.place })
       over env f = record {
         used = q.spelled.front;
         left = w'.rest;
@@ -323,7 +322,7 @@ module _ (root : Grammar) where
     fine = s.fine;
     within = λ around st. s.within around (suc st.0, record { known = st.1.known; noted = st.1.noted; is = st.1.is.3 });
     reach = length p.front + 8 * n;
-    fails = λ env f. inr (record { n = n; behind = record { front = p.front; back = b.rest; whole = p.split; spelled = p.holds env (s.grown env f); more = 8 * n; fails = inr (room, inl (s.reach, inner env f), refl); reaches = refl } });
+    fails = λ env f. fails_behind_size (record { n = n; behind = record { front = p.front; back = b.rest; whole = p.split; spelled = p.holds env (s.grown env f); more = 8 * n; fails = content_fails (room, (s.reach, inner env f), refl); reaches = refl } });
   }
     where
       p : Passes (λ env. SizePart sizing env n) t a b
@@ -338,7 +337,7 @@ module _ (root : Grammar) where
   contained_unsized here sizing g t items a r at i m n' =
       let n : Named here.inside here.place (NoSize sizing t a) r at = subst (λ (x : Env). Named here.inside here.place (NoSize sizing x a) r at) i n' in
       here_stops root (λ around. (k : ℕ) × FormStands root k (contained sizing g) t around) (λ env. FormFails root (contained sizing g) env here a.origin) t a (record { path = here.path; reason = r; at = at }) n.1.2.reach m (form_within root (contained sizing g) t)
-      (λ env f. inl (subst (λ (x : Fault). SizeFails here sizing env a.at a.rest x n.1.2.reach) (sym (says_so n)) (n.1.2.fails here env f)))
+      (λ env f. fails_at_size (subst (λ (x : Fault). SizeFails here sizing env a.at a.rest x n.1.2.reach) (sym (says_so n)) (n.1.2.fails here env f)))
     where
       says_so : (n : Named here.inside here.place (NoSize sizing t a) r at) → ◌≡◌ {A = Fault} (record { path = here.path; reason = r; at = at }) (fault_here here n.1.0)
       says_so n = (let e = n.0 in let q = n.1.1 in rw (e, q) refl)

@@ -1,12 +1,12 @@
 -- An inserted field whose number was read.
-use Rattle.std.proofs.Common.{◌≡◌, ℕ, suc, ◌+◌, ℤ, Bool, true, false, ◌||◌, List, [], ◌∷◌, ◌++◌, Option, Some, None, refl, sym, ap, ◌∙◌, arith, inl, inr, nat_eq, subst, if◌then◌else◌}
+use Rattle.std.proofs.Common.{◌≡◌, ℕ, suc, ◌+◌, ℤ, Bool, true, false, ◌||◌, List, [], ◌∷◌, ◌++◌, Option, Some, None, refl, sym, ap, ◌∙◌, arith, nat_eq, subst, if◌then◌else◌}
 use Rattle.std.proofs.lemmas.Bool.Decides.{nat_tests}
 use Rattle.acn_num.specs.Ranges.{In}
 use Rattle.acn_bits.specs.Reading.{Reading}
 use Rattle.acn_bits.specs.Reading.{Reads}
 use Rattle.acn_grammar.specs.Code.{Any, Code}
 use Rattle.acn_grammar.specs.Env.{Env, at_slot}
-use Rattle.acn_grammar.specs.Fails.{Here, Fails, FieldsFail}
+use Rattle.acn_grammar.specs.Fails.{Here, Fails, FieldsFail, fails_at_inserted, fails_behind_inserted, fails_behind_component}
 use Rattle.acn_grammar.specs.Grammar.{Grammar, Fields, Data, node, num, inserted, component, null}
 use Rattle.acn_grammar.specs.Leaves.{num_fine}
 use Rattle.acn_grammar.specs.declared.node.NumKind.TheVariants.{Null}
@@ -118,7 +118,7 @@ module _ (root : Grammar) where
     moved = r.moved;
     window = r.window;
     goes = λ env f ps bs h. record { front = r.front; back = bs; whole = refl; first = (x, f s x (at_none t s x s none ∙ its_own s x), r.holds); second = subst (λ (n : ℕ). FieldsPart root Any fs env ps n bs) r.moved h };
-    stops = λ env f fault reach h. inr (record { front = r.front; back = b.rest; whole = r.split; spelled = (x, f s x (at_none t s x s none ∙ its_own s x), r.holds); more = reach; fails = subst (λ (n : ℕ). FieldsFail root fs env flags here origin (suc k) n b.rest fault reach) r.moved h; reaches = refl });
+    stops = λ env f fault reach h. fails_behind_inserted (record { front = r.front; back = b.rest; whole = r.split; spelled = (x, f s x (at_none t s x s none ∙ its_own s x), r.holds); more = reach; fails = subst (λ (n : ℕ). FieldsFail root fs env flags here origin (suc k) n b.rest fault reach) r.moved h; reaches = refl });
   }
 
   pub slot_stops : (here : Here) (origin k : ℕ) (name : List ℕ) (g : Grammar) (s : ℕ) (fs : Fields) (t : Env) (flags : List Bool) (a : Reading) (path : List ℕ) (r : Reason) (at : ℕ) → a.origin ≡ origin → NodeStops root g here.inside (here.path ++ k ∷ []) t a path r at → FieldsStop root (inserted name g (Some s) fs) flags here origin k t a path r at
@@ -128,7 +128,7 @@ module _ (root : Grammar) where
     fine = n.fine;
     within = λ around st. n.within around (st.0, record { known = st.1.known; noted = st.1.noted; is = st.1.is.2 });
     reach = n.reach;
-    fails = λ env f. inl (subst (λ (o : ℕ). Fails root g env here.inside o (here.path ++ k ∷ []) a.at a.rest (record { path = path; reason = r; at = at }) n.reach) same (n.fails env f));
+    fails = λ env f. fails_at_inserted (subst (λ (o : ℕ). Fails root g env here.inside o (here.path ++ k ∷ []) a.at a.rest (record { path = path; reason = r; at = at }) n.reach) same (n.fails env f));
   }
 
   -- an inserted NULL
@@ -147,7 +147,7 @@ module _ (root : Grammar) where
     moved = r.moved;
     window = r.window;
     goes = λ env f ps bs h. record { front = r.front; back = bs; whole = refl; first = spelled env; second = subst (λ (n : ℕ). FieldsPart root Any fs env ps n bs) r.moved h };
-    stops = λ env f fault reach h. inr (record { front = r.front; back = b.rest; whole = r.split; spelled = spelled env; more = reach; fails = subst (λ (n : ℕ). FieldsFail root fs env flags here origin (suc k) n b.rest fault reach) r.moved h; reaches = refl });
+    stops = λ env f fault reach h. fails_behind_inserted (record { front = r.front; back = b.rest; whole = r.split; spelled = spelled env; more = reach; fails = subst (λ (n : ℕ). FieldsFail root fs env flags here origin (suc k) n b.rest fault reach) r.moved h; reaches = refl });
   }
     where
       spelled : (env : Env) → Spell root Any (node align (num leaf)) env null a.at r.front
@@ -160,7 +160,7 @@ module _ (root : Grammar) where
     fine = n.fine;
     within = λ around st. n.within around (st.0, record { known = st.1.known; noted = st.1.noted; is = st.1.is.1 });
     reach = n.reach;
-    fails = λ env f. inl (subst (λ (o : ℕ). Fails root g env here.inside o (here.path ++ k ∷ []) a.at a.rest (record { path = path; reason = r; at = at }) n.reach) same (n.fails env f));
+    fails = λ env f. fails_at_inserted (subst (λ (o : ℕ). Fails root g env here.inside o (here.path ++ k ∷ []) a.at a.rest (record { path = path; reason = r; at = at }) n.reach) same (n.fails env f));
   }
 
   -- A component whose number is a slot's.
@@ -212,9 +212,9 @@ module _ (root : Grammar) where
           first = record { given = (tt, carries env f); spelled = n.spelled.holds env (grows_more t' s (number_of d) env f) };
           second = subst (λ (m : ℕ). FieldsPart root Any fs env ps m bs) n.spelled.moved h;
         };
-        stops = λ env f fault reach h. inl (
+        stops = λ env f fault reach h. fails_behind_component (
           tt,
-          inr (
+          (
             d,
             record {
               front = n.spelled.front;

@@ -14,7 +14,7 @@ use Rattle.acn_num.proofs.BitLists.{number_below, low_bits-number, length-bits, 
 use Rattle.acn_bits.specs.Reading.{Reading, Reads, passed}
 use Rattle.acn_grammar.specs.Code.{Any}
 use Rattle.acn_grammar.specs.Env.{Env, at_slot}
-use Rattle.acn_grammar.specs.Fails.{Fault, Here, RuleFails, PartsFail, FormFails, kept}
+use Rattle.acn_grammar.specs.Fails.{Fault, Here, RuleFails, PartsFail, FormFails, kept, fails_at_size, fails_behind_size}
 use Rattle.acn_grammar.specs.Grammar.{Grammar, Form, Data, octets, bits, octet_string, bit_string}
 use Rattle.acn_grammar.specs.LeafFails.{Reason, short, size_out_of_range}
 use Rattle.acn_grammar.specs.Leaves.{sizes_fine, sizing_fine, rule_fine}
@@ -64,7 +64,7 @@ says_on (Slot k) given t env f s = (s.0, s.1, f k (pos s.0) s.2)
 says_on (Ended p) given t env f s = tt
 
 pub not_given : (sizing : Sizing) (s : ℕ) (t : Env) (x : ℤ) (r : Reason) → sizing.rule ≡ Slot s → at_slot t s ≡ Some x → (In sizing.sizes x → ⊥) → r ≡ size_out_of_range (kept x) → NotGiven sizing t r
-not_given sizing s t x r rule e out is = record { slot = s; rule = rule; fails = λ here env at rest f. subst (λ (q : SizeRule). RuleFails here sizing q env at rest (fault_here here r) 0) (sym rule) (x, f s x e, out, ap (fault_here here) is, refl) }
+not_given sizing s t x r rule e out is = record { slot = s; rule = rule; fails = λ here env at rest f. subst (λ (q : SizeRule). RuleFails here sizing q env at rest (fault_here here r) 0) (sym rule) (record { number = x; stands = f s x e; refused = out; says = ap (fault_here here) is; reaches = refl }) }
 
 pub size_passed : (sizing : Sizing) (given : Option ℕ) (n : ℕ) (t : Env) (a b : Reading) → SlotSays sizing.rule given t → Reads (SizeCode sizing given n) a b → Passes (λ env. SizePart sizing env n) t a b
 size_passed sizing given n t a b s r = record { front = r.front; split = r.split; moved = r.moved; window = r.window; holds = λ env f. r.holds env a.at (says_on sizing.rule given t env f s) }
@@ -166,7 +166,7 @@ bits_read root sizing n xs t a b c p q = reads_join (λ bs. (env : Env) → Foll
     (λ x y s o env f. record { front = x; back = y; whole = refl; first = subst (λ (m : ℕ). SizePart sizing env m a.at x) (sym o.size) (s env f); second = o.same }) p q
 
 parts_short : (each : ℕ) (sizing : Sizing) (n : ℕ) (t : Env) (a b : Reading) → (p : Passes (λ env. SizePart sizing env n) t a b) → length b.rest < each * n → (here : Here) (env : Env) → Follows t env → PartsFail here each sizing env a.at a.rest (fault_here here short) (length p.front + length b.rest)
-parts_short each sizing n t a b p h here env f = inr (record { n = n; behind = record { front = p.front; back = b.rest; whole = p.split; spelled = p.holds env f; more = length b.rest; fails = (h, refl, refl); reaches = refl } })
+parts_short each sizing n t a b p h here env f = fails_behind_size (record { n = n; behind = record { front = p.front; back = b.rest; whole = p.split; spelled = p.holds env f; more = length b.rest; fails = (h, refl, refl); reaches = refl } })
 
 pub octets_short : (sizing : Sizing) (n : ℕ) (t : Env) (a b : Reading) → Passes (λ env. SizePart sizing env n) t a b → length b.rest < 8 * n → NoForm (octets sizing) t a short
 octets_short sizing n t a b p h = record { reach = length p.front + length b.rest; fails = λ root here origin env f. parts_short 8 sizing n t a b p h here env f }
@@ -175,10 +175,10 @@ pub bits_short : (sizing : Sizing) (n : ℕ) (t : Env) (a b : Reading) → Passe
 bits_short sizing n t a b p h = record { reach = length p.front + length b.rest; fails = λ root here origin env f. parts_short 1 sizing n t a b p (omega (arith, h)) here env f }
 
 pub octets_unsized : (sizing : Sizing) (t : Env) (a : Reading) (r : Reason) → NoSize sizing t a r → NoForm (octets sizing) t a r
-octets_unsized sizing t a r n = record { reach = n.reach; fails = λ root here origin env f. inl (n.fails here env f) }
+octets_unsized sizing t a r n = record { reach = n.reach; fails = λ root here origin env f. fails_at_size (n.fails here env f) }
 
 pub bits_unsized : (sizing : Sizing) (t : Env) (a : Reading) (r : Reason) → NoSize sizing t a r → NoForm (bits sizing) t a r
-bits_unsized sizing t a r n = record { reach = n.reach; fails = λ root here origin env f. inl (n.fails here env f) }
+bits_unsized sizing t a r n = record { reach = n.reach; fails = λ root here origin env f. fails_at_size (n.fails here env f) }
 
 -- what is named so goes on
 pub named_map : (inside : Bool) (from : ℕ) (P Q : Reason → Type 0) → ((r : Reason) → P r → Q r) → (r : Reason) (at : ℕ) → Named inside from P r at → Named inside from Q r at

@@ -1,5 +1,5 @@
 -- Texts, whose characters are collected one by one.
-use Rattle.std.proofs.Common.{true, Some, None, inl, rules, ◌≡◌, ℕ, Bool, List, [], ◌∷◌, ◌++◌, Option, refl, sym, ap, ◌∙◌, subst, append_assoc, append-nil, IsTrue}
+use Rattle.std.proofs.Common.{true, Some, None, rules, ◌≡◌, ℕ, Bool, List, [], ◌∷◌, ◌++◌, Option, refl, sym, ap, ◌∙◌, subst, append_assoc, append-nil, IsTrue}
 use Rattle.std.specs.List.{FoldsTo}
 use Rattle.acn_bits.specs.Reading.{Reading, Reads}
 use Rattle.acn_grammar.specs.Code.{Any}
@@ -7,7 +7,7 @@ use Rattle.acn_grammar.specs.Env.{Env}
 use Rattle.acn_grammar.specs.Grammar.{Grammar, text, characters}
 use Rattle.acn_grammar.specs.LeafFails.{Reason}
 use Rattle.acn_grammar.specs.Leaves.{text_fine, sizes_fine, end_fine, no_size}
-use Rattle.acn_grammar.specs.Fails.{Here, TextFails}
+use Rattle.acn_grammar.specs.Fails.{Here, TextFails, fails_at_size}
 use Rattle.acn_grammar.specs.View.{data_of}
 use Rattle.acn_grammar.specs.declared.node.SizeRule.{SizeRule}
 use Rattle.acn_grammar.specs.declared.node.SizeRule.TheVariants.{Prefix, Slot, Ended}
@@ -46,5 +46,5 @@ text_not_given leaf t a r fine n = record { reach = 0; fails = λ root here orig
     no_slot (Ended p) end e h = cc
 
     by : (o : Option (List Bool)) → leaf.ended ≡ o → (here : Here) (env : Env) → Follows t env → TextFails here leaf.ended leaf env a.at a.rest (fault_here here r) 0
-    by None e here env f = subst (λ (o : Option (List Bool)). TextFails here o leaf env a.at a.rest (fault_here here r) 0) (sym e) (inl (n.fails here env a.at a.rest f))
+    by None e here env f = subst (λ (o : Option (List Bool)). TextFails here o leaf env a.at a.rest (fault_here here r) 0) (sym e) (fails_at_size (n.fails here env a.at a.rest f))
     by (Some end) e here env f = absurd (no_slot leaf.sized.rule end n.rule (end_rules leaf end (ap (λ (o : Option (List Bool)). end_fine o leaf) (sym e) ∙ (text_rules leaf fine).end)).rule)

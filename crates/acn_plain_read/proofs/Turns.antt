@@ -1,10 +1,10 @@
 -- Fields that were read, one behind another.
-use Rattle.std.proofs.Common.{◌≡◌, ℕ, suc, ◌+◌, ◌<◌, ◌≤◌, ℤ, Bool, true, false, not, ◌&&◌, List, [], ◌∷◌, ◌++◌, length, take, Option, Some, None, refl, sym, ap, ◌∙◌, arith, rules, inl, inr, subst, append_assoc, append-nil, length-append, take-append-drop}
+use Rattle.std.proofs.Common.{◌≡◌, ℕ, suc, ◌+◌, ◌<◌, ◌≤◌, ℤ, Bool, true, false, not, ◌&&◌, List, [], ◌∷◌, ◌++◌, length, take, Option, Some, None, refl, sym, ap, ◌∙◌, arith, rules, subst, append_assoc, append-nil, length-append, take-append-drop}
 use Rattle.std.proofs.lemmas.List.{length-take-le}
 use Rattle.acn_bits.specs.Reading.{Reading, passed}
 use Rattle.acn_grammar.specs.Code.{Any}
 use Rattle.acn_grammar.specs.Env.{Env, at_slot, MayBeThere, MayBeAway}
-use Rattle.acn_grammar.specs.Fails.{Fault, Here, FormFails, FieldsFail, Fails, IsThere, flags_behind, presence_count, seen}
+use Rattle.acn_grammar.specs.Fails.{Fault, Here, FormFails, FieldsFail, Fails, IsThere, flags_behind, presence_count, seen, fails_at_component, fails_behind_component, fails_behind_absent, presence_cut, fails_behind_presence}
 use Rattle.acn_grammar.specs.Grammar.{Grammar, Fields, Data, Places, seq, component, no_fields, no_places, empty, filled, record_of}
 use Rattle.acn_grammar.specs.LeafFails.{Reason, short}
 use Rattle.acn_grammar.specs.Length.{presence_bits, bit_before}
@@ -167,9 +167,9 @@ module _ (root : Grammar) where
       first = record { given = (may_be_there env presence flags (there env (n.grown env f)), tt); spelled = n.spelled.holds env f };
       second = subst (λ (x : ℕ). FieldsPart root Any fs env ps x bs) n.spelled.moved h;
     };
-    stops = λ env f fault reach h. inl (
+    stops = λ env f fault reach h. fails_behind_component (
       there env (n.grown env f),
-      inr (
+      (
         d,
         record {
           front = n.spelled.front;
@@ -218,7 +218,7 @@ module _ (root : Grammar) where
     moved = nothing a.at;
     window = refl;
     goes = λ env f ps bs h. record { given = may_be_away env presence flags (away env f); spelled = h };
-    stops = λ env f fault reach h. inr (away env f, subst (λ (n : ℕ). FieldsFail root fs env (flags_behind presence flags) here origin (suc k) a.at a.rest fault n) (zero_plus reach) (subst (λ (x : List Bool). FieldsFail root fs env x here origin (suc k) a.at a.rest fault reach) is h));
+    stops = λ env f fault reach h. fails_behind_absent (away env f, subst (λ (n : ℕ). FieldsFail root fs env (flags_behind presence flags) here origin (suc k) a.at a.rest fault n) (zero_plus reach) (subst (λ (x : List Bool). FieldsFail root fs env x here origin (suc k) a.at a.rest fault reach) is h));
   }
     where
       nothing : (n : ℕ) → n ≡ n + 0
@@ -232,7 +232,7 @@ module _ (root : Grammar) where
     fine = s.fine;
     within = λ around st. s.within around (st.0, record { known = st.1.known; noted = st.1.noted; is = st.1.is.3 });
     reach = s.reach;
-    fails = λ env f. inl (there env (s.grown env f), inl (subst (λ (o : ℕ). Fails root g env here.inside o (here.path ++ k ∷ []) a.at a.rest (record { path = path; reason = r; at = at }) s.reach) same (s.fails env f)));
+    fails = λ env f. fails_at_component (there env (s.grown env f), subst (λ (o : ℕ). Fails root g env here.inside o (here.path ++ k ∷ []) a.at a.rest (record { path = path; reason = r; at = at }) s.reach) same (s.fails env f));
   }
 
   -- A SEQUENCE.
@@ -327,26 +327,24 @@ module _ (root : Grammar) where
         fails = λ env f.
             (let h = at_home root s.read s.fine home st.is.0.permits in
             let env' = with_home home h.numbers env in
-            inr (
-              h.numbers,
-              h.count,
-              h.fine,
-              (
-                room,
-                (
-                  s.reach,
-                  subst (λ (x : Reading). FieldsFail root fields (with_home home h.numbers env) (take n a.rest) here origin 0 x.at x.rest (record { path = path; reason = r; at = at }) s.reach) moved
-                      (subst (λ (x : List Bool). FieldsFail root fields (with_home home h.numbers env) x here origin 0 m.at m.rest (record { path = path; reason = r; at = at }) s.reach) shown
-                      (subst (λ (o : ℕ). FieldsFail root fields (with_home home h.numbers env) flags here o 0 m.at m.rest (record { path = path; reason = r; at = at }) s.reach) same (s.fails (with_home home h.numbers env) (home_follows root s.read s.fine home h env f)))),
-                  refl,
-                ),
-              ),
-            ));
+            fails_behind_presence (record {
+              numbers = h.numbers;
+              count = h.count;
+              permitted = h.fine;
+              behind = record {
+                there = room;
+                more = s.reach;
+                fails = subst (λ (x : Reading). FieldsFail root fields (with_home home h.numbers env) (take n a.rest) here origin 0 x.at x.rest (record { path = path; reason = r; at = at }) s.reach) moved
+                    (subst (λ (x : List Bool). FieldsFail root fields (with_home home h.numbers env) x here origin 0 m.at m.rest (record { path = path; reason = r; at = at }) s.reach) shown
+                    (subst (λ (o : ℕ). FieldsFail root fields (with_home home h.numbers env) flags here o 0 m.at m.rest (record { path = path; reason = r; at = at }) s.reach) same (s.fails (with_home home h.numbers env) (home_follows root s.read s.fine home h env f))));
+                reaches = refl;
+              };
+            }));
       }
 
   pub seq_short : (here : Here) (origin : ℕ) (fields : Fields) (home : List ℕ) (t : Env) (a : Reading) (r : Reason) → r ≡ seen here.inside short → Fine root t → length a.rest < presence_count fields → FormStops root (seq fields home) here origin t a here.path r here.place
   seq_short here origin fields home t a r e m h =
-      here_stops root (λ around. (k : ℕ) × FormStands root k (seq fields home) t around) (λ env. FormFails root (seq fields home) env here origin) t a (record { path = here.path; reason = r; at = here.place }) (length a.rest) m (form_within root (seq fields home) t) (λ env f. inl (h, says, refl))
+      here_stops root (λ around. (k : ℕ) × FormStands root k (seq fields home) t around) (λ env. FormFails root (seq fields home) env here origin) t a (record { path = here.path; reason = r; at = here.place }) (length a.rest) m (form_within root (seq fields home) t) (λ env f. presence_cut (h, says, refl))
     where
       says : ◌≡◌ {A = Fault} (record { path = here.path; reason = r; at = here.place }) (record { path = here.path; reason = seen here.inside short; at = here.place })
       says = rw e refl

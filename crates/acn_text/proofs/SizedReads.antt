@@ -1,5 +1,5 @@
 -- Texts behind their sizes.
-use Rattle.std.proofs.Common.{◌≡◌, ℕ, zero, suc, ◌+◌, ◌-◌, ◌*◌, ◌^◌, ◌<◌, ◌≤◌, pos, Bool, List, [], ◌∷◌, ◌++◌, length, take, drop, Option, Some, None, refl, sym, ap, ◌∙◌, subst, arith, append_assoc, length-append, append-nil, inl, inr}
+use Rattle.std.proofs.Common.{◌≡◌, ℕ, zero, suc, ◌+◌, ◌-◌, ◌*◌, ◌^◌, ◌<◌, ◌≤◌, pos, Bool, List, [], ◌∷◌, ◌++◌, length, take, drop, Option, Some, None, refl, sym, ap, ◌∙◌, subst, arith, append_assoc, length-append, append-nil}
 use Rattle.std.proofs.lemmas.List.{length-take-le}
 use Rattle.std.proofs.Math.Seq.{take-add, take-append-add}
 use Rattle.std.proofs.Math.Nat.{mul-le-mul_left}
@@ -7,7 +7,7 @@ use Rattle.acn_num.specs.Bits.{number}
 use Rattle.acn_num.specs.Ranges.{In}
 use Rattle.acn_bits.specs.Reading.{Reading, passed, Reads, Stays}
 use Rattle.acn_grammar.specs.Env.{Env}
-use Rattle.acn_grammar.specs.Fails.{Here, RuleFails, NoText, TextFails}
+use Rattle.acn_grammar.specs.Fails.{Here, RuleFails, NoText, TextFails, prefix_cut, prefix_not_permitted, characters_cut, characters_not_permitted, fails_at_size, fails_behind_size}
 use Rattle.acn_grammar.specs.LeafFails.{Reason, short, size_out_of_range, bad_character}
 use Rattle.acn_grammar.specs.Spell.{RulePart, SizePart, CharactersPart, EndedPart, character_number}
 use Rattle.acn_grammar.specs.declared.node.SizeRule.{SizeRule}
@@ -51,8 +51,8 @@ size_refused sizing given old new n out t =
     record { reach = r.0; fails = r.1 }
   where
     by : (rule : SizeRule) → SizeTaken rule given old new n → (reach : ℕ) × ((here : Here) (env : Env) (at : ℕ) → SlotSays rule given env → RuleFails here sizing rule env at old.rest (fault_here here (size_out_of_range n)) reach)
-    by (Prefix low width) u = (width, λ here env at s. inr (u.0, (λ p. out (subst (λ (k : ℕ). In sizing.sizes (pos k)) (sym u.1) p)), ap (λ k. fault_here here (size_out_of_range k)) u.1, refl))
-    by (Slot s) u = (0, λ here env at h. (pos n, h.2 ∙ ap (λ k. Some (pos k)) (some_same (sym h.1 ∙ u.0)), out, refl, refl))
+    by (Prefix low width) u = (width, λ here env at s. prefix_not_permitted (u.0, (λ p. out (subst (λ (k : ℕ). In sizing.sizes (pos k)) (sym u.1) p)), ap (λ k. fault_here here (size_out_of_range k)) u.1, refl))
+    by (Slot s) u = (0, λ here env at h. record { number = pos n; stands = h.2 ∙ ap (λ k. Some (pos k)) (some_same (sym h.1 ∙ u.0)); refused = out; says = refl; reaches = refl })
     by (Ended p) u = absurd u
 
 pub size_missing : (sizing : Sizing) (given : Option ℕ) (old : Reading) → SizeMissing sizing.rule old → NoSizeAt sizing given old.rest short
@@ -61,7 +61,7 @@ size_missing sizing given old t =
     record { reach = r.0; fails = r.1 }
   where
     by : (rule : SizeRule) → SizeMissing rule old → (reach : ℕ) × ((here : Here) (env : Env) (at : ℕ) → SlotSays rule given env → RuleFails here sizing rule env at old.rest (fault_here here short) reach)
-    by (Prefix low width) u = (length old.rest, λ here env at s. inl (u, refl, refl))
+    by (Prefix low width) u = (length old.rest, λ here env at s. prefix_cut (u, refl, refl))
     by (Slot s) u = absurd u
     by (Ended p) u = absurd u
 
@@ -136,7 +136,7 @@ unreadable leaf (c ∷ cs) (d ∷ ds) at at' a bad more bs some l no_one p q e =
 pub bad_at : (leaf : TextLeaf) (Gives : List ℕ → Type 0) (old now : Reading) (n i : ℕ) → TextRules leaf → i < n → UptoCharacter leaf Gives old now n i → NoCharacter leaf (number (take leaf.width now.rest)) → NoCharactersAt leaf n old.rest bad_character
 bad_at leaf Gives old now n i f h u none = record {
   reach = leaf.width * n;
-  fails = λ here at. inr (u.room, no_text, refl, refl);
+  fails = λ here at. characters_not_permitted (u.room, no_text, refl, refl);
 }
   where
     room : leaf.width ≤ length now.rest
@@ -168,7 +168,7 @@ bad_at leaf Gives old now n i f h u none = record {
     no_text cs at t = unreadable leaf u.text cs 0 at u.read.front (take leaf.width now.rest) (take rest_is.0 (drop leaf.width now.rest)) (take (leaf.width * n) old.rest) wide (length-take-le leaf.width now.rest room) none (u.read.holds 0) t cut
 
 pub too_few : (leaf : TextLeaf) (rest : List Bool) (n : ℕ) → length rest < leaf.width * n → NoCharactersAt leaf n rest short
-too_few leaf rest n h = record { reach = length rest; fails = λ here at. inl (h, refl, refl) }
+too_few leaf rest n h = record { reach = length rest; fails = λ here at. characters_cut (h, refl, refl) }
 
 pub all_passed : (leaf : TextLeaf) (Gives : List ℕ → Type 0) (old now : Reading) (n i : ℕ) → i ≡ n → UptoCharacter leaf Gives old now n i → PassedCharacters leaf Gives old now n
 all_passed leaf Gives old now n i e u = record { text = u.text; size = u.size ∙ e; gives = u.gives; read = u.read }
@@ -178,14 +178,14 @@ all_passed leaf Gives old now n i e u = record { text = u.text; size = u.size �
 pub size_wrong : (leaf : TextLeaf) (given : Option ℕ) (rest : List Bool) (r : Reason) → leaf.ended ≡ None → NoSizeAt leaf.sized given rest r → NoTextAt leaf given rest r
 size_wrong leaf given rest r is s = record {
   reach = s.reach;
-  fails = λ here env at says. subst (λ (o : Option (List Bool)). TextFails here o leaf env at rest (fault_here here r) s.reach) (sym is) (inl (s.fails here env at says));
+  fails = λ here env at says. subst (λ (o : Option (List Bool)). TextFails here o leaf env at rest (fault_here here r) s.reach) (sym is) (fails_at_size (s.fails here env at says));
 }
 
 pub characters_wrong : (leaf : TextLeaf) (given : Option ℕ) (old mid : Reading) (n : ℕ) (r : Reason) → leaf.ended ≡ None → Reads (SizeCode leaf.sized given n) old mid → NoCharactersAt leaf n mid.rest r → NoTextAt leaf given old.rest r
 characters_wrong leaf given old mid n r is p c = record {
   reach = length p.front + c.reach;
   fails = λ here env at says. subst (λ (o : Option (List Bool)). TextFails here o leaf env at old.rest (fault_here here r) (length p.front + c.reach)) (sym is)
-      (inr (record { n = n; behind = record { front = p.front; back = mid.rest; whole = p.split; spelled = p.holds env at says; more = c.reach; fails = c.fails here (at + length p.front); reaches = refl } }));
+      (fails_behind_size (record { n = n; behind = record { front = p.front; back = mid.rest; whole = p.split; spelled = p.holds env at says; more = c.reach; fails = c.fails here (at + length p.front); reaches = refl } }));
 }
 
 pub text_read : (leaf : TextLeaf) (given : Option ℕ) (Gives : List ℕ → Type 0) (old mid new : Reading) (n : ℕ) → leaf.ended ≡ None → Reads (SizeCode leaf.sized given n) old mid → PassedCharacters leaf Gives mid new n → PassedText leaf given Gives old new n
