@@ -10,7 +10,7 @@ use Rattle.acn_grammar.specs.Paths.{node_at}
 use Rattle.acn_grammar.specs.Spell.{Spell}
 use Rattle.acn_grammar.specs.Walk.{Stand}
 use Rattle.acn_grammar.specs.declared.limits.TheConstants.{MOST_PACKET_BITS}
-use Rattle.acn_packet_laws.specs.Laws.{IsAccepted, NoFaultWithoutAFirst, BoundsHold, EachLengthIsTold, EachPathHasItsNumber, ValuesLieWithinBounds}
+use Rattle.acn_packet_laws.specs.Laws.{IsAccepted, NoFaultWithoutAFirst, BoundsHold, EachLengthIsTold, EachPathHasItsNumber, ValuesLieWithinBounds, HasNumber}
 use Rattle.acn_bounds.specs.Between.{Holds, SpellingsLieBetween, NodeLiesBetween}
 
 module _ (root : Grammar) (accepted : IsAccepted root) where
@@ -46,8 +46,8 @@ module _ (root : Grammar) (accepted : IsAccepted root) where
             subst (λ n. Holds (span n) (length bs)) (sym (same ∙ e))
             (subst (Holds (span (node here.align here.form))) (sym (told root k here mode env d at bs accepted is spelled')) (within root k here d at accepted is small' meets'))
 
-        by : ((k : ℕ) × (here : Stand) × NodeAt root k here × (here.path ≡ path) × (node here.align here.form ≡ g')) → Holds (span g) (length bs)
-        by t = at_number t.0 t.1 t.2 (sym t.4)
+        by : HasNumber root path g' → Holds (span g) (length bs)
+        by t = at_number t.number t.here t.stands (sym t.node_is)
 
     -- the same of the node that was found
     pub found_lies : (path : List ℕ) (o : Option Grammar) → o ≡ node_at root path → Rattle.std.specs.Prelude.IfSome (option_map span o) (NodeLiesBetween root path)

@@ -91,7 +91,7 @@ pub root_steady : (root : Grammar) → IsAccepted root → Steady root
 root_steady root a = sound_steady root root 0 [] (λ s. false) (accepted_sound_nodes root a)
 
 pub steady_at : (root : Grammar) (k : ℕ) (here : Stand) → IsAccepted root → NodeAt root k here → Steady (node here.align here.form)
-steady_at root k here a is = (let h = each_node_sound root k here a is in sound_steady root (node here.align here.form) (length here.path) here.around h.0 h.2)
+steady_at root k here a is = (let h = each_node_sound root k here a is in sound_steady root (node here.align here.form) (length here.path) here.around h.known h.sound)
 
 pub lengths_told : LengthsAreTold
 lengths_told root mode d bs accepted t = length_law root mode root (root_steady root accepted) [] d 0 bs t

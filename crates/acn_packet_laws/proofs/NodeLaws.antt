@@ -113,7 +113,7 @@ module _ (root : Grammar) (tree : IsTree root) (sound : (f : CheckFault) → Und
   field_before : (pre rest : List Stand) (k s : ℕ) → nodes_of root ≡ pre ++ rest → length pre ≡ k → has_field s pre ≡ true → FieldBefore root k s
   field_before pre rest k s e l h =
       let f = find_field pre s h in
-      (f.0, f.1, ap (λ x. slice_get x f.0) e ∙ get_left pre rest f.0 f.1 f.2, f.3, omega (arith, f.4))
+      record { number = f.0; field = f.1; stands = ap (λ x. slice_get x f.0) e ∙ get_left pre rest f.0 f.1 f.2; is_of_slot = f.3; before = omega (arith, f.4) }
 
 pub nodes_prefix_free : NodesArePrefixFree
 nodes_prefix_free root g ks env env' d d' at a b r s fine ok same p q e =
@@ -141,12 +141,13 @@ each_node_prefix_free root k here env env' d d' at a b r s accepted is_at ok agr
     let h = spell_law root g ks fine env env' ok (λ slot known.
     let open_here = and_parts (holds here.around slot) (has_field slot l.before && named slot (here ∷ inside here)) known in
     let used_here = and_parts (has_field slot l.before) (named slot (here ∷ inside here)) open_here.1 in
-    agree slot open_here.0 (used_in (here ∷ inside here) slot used_here.1) (field_before root tree sound l.before (nodes here.role here.path here.around g ++ l.behind) k slot place.whole (l.count ∙ omega arith) used_here.0)) d d' at a b r s p q e in (
-      h.0,
-      h.1.0,
-      λ slot o i. h.1.1 slot (near_after root tree sound g l.before here.role here.path here.around l.behind place ks knows.fresh slot o
-          (inside_near (nodes_of root) (numbers root tree sound) (rules root tree sound) l.before here.role here.path here.around here.align here.form l.behind place slot o (sym (slots-field slot (inside here)) ∙ i))),
-    )
+    agree slot open_here.0 (used_in (here ∷ inside here) slot used_here.1) (field_before root tree sound l.before (nodes here.role here.path here.around g ++ l.behind) k slot place.whole (l.count ∙ omega arith) used_here.0)) d d' at a b r s p q e in
+    record {
+      bits = h.0;
+      value = h.1.0;
+      numbers = λ slot o i. h.1.1 slot (near_after root tree sound g l.before here.role here.path here.around l.behind place ks knows.fresh slot o
+          (inside_near (nodes_of root) (numbers root tree sound) (rules root tree sound) l.before here.role here.path here.around here.align here.form l.behind place slot o (sym (slots-field slot (inside here)) ∙ i)));
+    }
 
 pub packets_prefix_free : PacketsArePrefixFree
 packets_prefix_free root d d' a b r s accepted p q e =

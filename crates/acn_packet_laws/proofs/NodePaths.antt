@@ -155,7 +155,7 @@ mutual
       among_right (nodes (alternative_role name tests rule) (path ++ k ∷ []) around one) (alternative_nodes rule path around (suc k) more) (path ++ m ∷ q) h (among_cases more rule path around (suc k) m j q g h (omega arith) is e)
 
 pub each_path_has_its_number : EachPathHasItsNumber
-each_path_has_its_number root path g e = let t = among_node root root_node [] [] path g e in (t.number, t.here, t.is_at, t.path_is, t.node_is)
+each_path_has_its_number root path g e = let t = among_node root root_node [] [] path g e in record { number = t.number; here = t.here; stands = t.is_at; path_is = t.path_is; node_is = t.node_is }
 
 -- What a path of a value leads to, a path of the grammar leads to.
 

@@ -9,7 +9,7 @@ use Rattle.acn_grammar.specs.declared.node.Presence.{Presence}
 use Rattle.acn_grammar.specs.declared.node.Presence.TheVariants.{Always, Bit, When}
 use Rattle.acn_grammar.specs.Walk.{Stand, Role, component_role, an_inserted, alternative_role, an_element, a_content, root_node, nodes, form_nodes, field_nodes, alternative_nodes}
 use Rattle.acn_grammar.specs.declared.node.ChoiceRule.{ChoiceRule}
-use Rattle.acn_packet_laws.specs.Laws.{EachNodeIsSound}
+use Rattle.acn_packet_laws.specs.Laws.{EachNodeIsSound, IsSoundAt}
 use Rattle.acn_packet_laws.proofs.NodeLaws.{in_either}
 use Rattle.acn_packet_laws.proofs.OneFault.{some_same}
 use Rattle.acn_packet_laws.proofs.Placed.{here_at, holds_right}
@@ -24,7 +24,7 @@ AtHome around ks = (s : ℕ) → ks s ≡ true → holds around s ≡ true
 
 module _ (root : Grammar) where
   abbrev Somewhere : Stand → Type 0
-  Somewhere at = (ks : Known) × AtHome at.around ks × Sound root (length at.path) at.around ks (node at.align at.form)
+  Somewhere at = IsSoundAt root at
 
   -- what is known behind a component is at home round it
   behind_home : (name : List ℕ) (g : Grammar) (presence : Presence) (default : Option (List ℕ)) (own : Option ℕ) (fs : Fields) (d : ℕ) (around : List ℕ) (ks : Known) → AtHome around ks → FieldsSound root d around ks (component name g presence default own fs) → AtHome around (choose_known presence ks (with_own own (after ks g)))
@@ -40,7 +40,7 @@ module _ (root : Grammar) where
 
   mutual
     at_node : (g : Grammar) (role : Role) (path around : List ℕ) (d : ℕ) → length path ≡ d → (ks : Known) → AtHome around ks → Sound root d around ks g → (n : ℕ) (at : Stand) → slice_get (nodes role path around g) n ≡ Some at → Somewhere at
-    at_node (node align form) role path around d e ks w h zero at is = subst Somewhere (some_same (here_at role path around align form) at is) (ks, w, subst (λ m. Sound root m around ks (node align form)) (sym e) h)
+    at_node (node align form) role path around d e ks w h zero at is = subst Somewhere (some_same (here_at role path around align form) at is) (record { known = ks; at_home = w; sound = subst (λ m. Sound root m around ks (node align form)) (sym e) h })
     at_node (node align form) role path around d e ks w h (suc n) at is = at_form form path around d e ks w (last_three h) n at is
 
     at_form : (form : Form) (path around : List ℕ) (d : ℕ) → length path ≡ d → (ks : Known) → AtHome around ks → FormSound root d around ks form → (n : ℕ) (at : Stand) → slice_get (form_nodes path around form) n ≡ Some at → Somewhere at

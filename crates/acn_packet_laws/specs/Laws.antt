@@ -72,11 +72,15 @@ AcceptedIsScoped = (root : Grammar) → IsAccepted root → Scoped root (λ s. f
 abbrev pub AcceptedIsSound : Type 0
 AcceptedIsSound = (root : Grammar) → IsAccepted root → Sound root 0 [] (λ s. false) root
 
--- so is each node by its number, where some slots are known, all of them at home round it
+-- a node is sound where some slots are known, all of them at home round it
+pub record IsSoundAt (root : Grammar) (here : Stand) : Type 0 where
+  pub known : Known
+  pub at_home : (s : ℕ) → known s ≡ true → holds here.around s ≡ true
+  pub sound : Sound root (length here.path) here.around known (node here.align here.form)
+
+-- each node of an accepted tree is sound, by its number in preorder
 abbrev pub EachNodeIsSound : Type 0
-EachNodeIsSound =
-    (root : Grammar) (k : ℕ) (here : Stand) → IsAccepted root → NodeAt root k here
-    → (ks : Known) × ((s : ℕ) → ks s ≡ true → holds here.around s ≡ true) × Sound root (length here.path) here.around ks (node here.align here.form)
+EachNodeIsSound = (root : Grammar) (k : ℕ) (here : Stand) → IsAccepted root → NodeAt root k here → IsSoundAt root here
 
 -- what is sound is scoped
 abbrev pub SoundIsScoped : Type 0
@@ -117,20 +121,29 @@ SlotFieldsArePrefixFree =
     (root g : Grammar) (env env' : Env) (slot at : ℕ) (a b r s : List Bool) → FineField g → SlotField root Any g env slot at a → SlotField root Any g env' slot at b → a ++ r ≡ b ++ s → (a ≡ b) × (at_slot env slot ≡ at_slot env' slot)
 
 -- the field of the slot stands before node k
-abbrev pub FieldBefore : Grammar → (k slot : ℕ) → Type 0
-FieldBefore root k s = (j : ℕ) × (field : Stand) × NodeAt root j field × (slot_here field.role ≡ Some s) × (j < k)
+pub record FieldBefore (root : Grammar) (k slot : ℕ) : Type 0 where
+  pub number : ℕ
+  pub field : Stand
+  pub stands : NodeAt root number field
+  pub is_of_slot : slot_here field.role ≡ Some slot
+  pub before : number < k
 
 -- the node or a node inside it uses the slot
 abbrev pub UsedIn : Stand → (slot : ℕ) → Type 0
 UsedIn at s = IsTrue (holds (map slot_of (flat_map uses (at ∷ inside at))) s)
 
--- Node k of an accepted tree: where the numbers agree on each open slot that the node or a node inside it uses and whose field stands before it, the bits and the values are the same, and the numbers agree on each open slot whose field stands inside.
+-- two spellings of a node are one: the bits and the values are the same, and the numbers agree on each open slot whose field stands inside
+pub record AreOneSpelling (here : Stand) (env env' : Env) (d d' : Data) (a b : List Bool) : Type 0 where
+  pub bits : a ≡ b
+  pub value : d ≡ d'
+  pub numbers : (slot : ℕ) → IsTrue (holds here.around slot) → IsTrue (holds (slots_of (inside here)) slot) → at_slot env slot ≡ at_slot env' slot
+
+-- Node k of an accepted tree: two spellings at one position, one of which begins with the other, are one, where the numbers agree on each open slot that the node or a node inside it uses and whose field stands before it.
 abbrev pub EachNodeIsPrefixFree : Type 0
 EachNodeIsPrefixFree =
     (root : Grammar) (k : ℕ) (here : Stand) (env env' : Env) (d d' : Data) (at : ℕ) (a b r s : List Bool) → IsAccepted root → NodeAt root k here → Permitted root env
     → ((slot : ℕ) → IsTrue (holds here.around slot) → UsedIn here slot → FieldBefore root k slot → at_slot env slot ≡ at_slot env' slot)
-    → Spell root Any (node here.align here.form) env d at a → Spell root Any (node here.align here.form) env' d' at b → a ++ r ≡ b ++ s
-    → (a ≡ b) × (d ≡ d') × ((slot : ℕ) → IsTrue (holds here.around slot) → IsTrue (holds (slots_of (inside here)) slot) → at_slot env slot ≡ at_slot env' slot)
+    → Spell root Any (node here.align here.form) env d at a → Spell root Any (node here.align here.form) env' d' at b → a ++ r ≡ b ++ s → AreOneSpelling here env env' d d' a b
 
 -- no packet of an accepted tree begins another, and its bits tell the value
 abbrev pub PacketsArePrefixFree : Type 0
@@ -266,9 +279,17 @@ OneRefusal = (root : Grammar) (d : Data) (u w : Unfit) → Refused root d u → 
 abbrev pub EachNodeHasItsPath : Type 0
 EachNodeHasItsPath = (root : Grammar) (k : ℕ) (here : Stand) → NodeAt root k here → node_at root here.path ≡ Some (node here.align here.form)
 
+-- the node at the path has a number in preorder
+pub record HasNumber (root : Grammar) (path : List ℕ) (g : Grammar) : Type 0 where
+  pub number : ℕ
+  pub here : Stand
+  pub stands : NodeAt root number here
+  pub path_is : here.path ≡ path
+  pub node_is : node here.align here.form ≡ g
+
 -- the node of a path is the node of a number
 abbrev pub EachPathHasItsNumber : Type 0
-EachPathHasItsNumber = (root : Grammar) (path : List ℕ) (g : Grammar) → node_at root path ≡ Some g → (k : ℕ) × (here : Stand) × NodeAt root k here × (here.path ≡ path) × (node here.align here.form ≡ g)
+EachPathHasItsNumber = (root : Grammar) (path : List ℕ) (g : Grammar) → node_at root path ≡ Some g → HasNumber root path g
 
 -- a part of a value is of a node of the grammar
 abbrev pub ValuesAreOfNodes : Type 0

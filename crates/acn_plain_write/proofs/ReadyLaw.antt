@@ -189,7 +189,7 @@ module _ (root : Grammar) (accepted : IsAccepted root) (whole : Data) (heard : L
   long p g d e env bs t =
       let at = led root p g (of_nodes root whole p g d e) in
       let r = numbered root at.0 g at.1 in
-      subst (λ (x : Grammar). Spell root Written x env d 0 bs → length bs ≡ bit_length x 0 d) r.4 (λ u. lengths root r.0 r.1 Written env d 0 bs accepted r.2 u) t
+      subst (λ (x : Grammar). Spell root Written x env d 0 bs → length bs ≡ bit_length x 0 d) r.node_is (λ u. lengths root r.number r.here Written env d 0 bs accepted r.stands u) t
 
   whole_here : (g : Grammar) (d : Data) → part_at g d [] ≡ Some (occurrence g d)
   whole_here (node align form) d = refl
