@@ -1,4 +1,4 @@
--- for acn_gather_laws
+-- for acn_moments
 pub mod Opens
--- for acn_gather_laws
+-- for acn_moments
 pub mod Steps

@@ -1,3 +1,1 @@
 mod CanGatherLaw
--- for acn_moments
-pub mod GatherSteps

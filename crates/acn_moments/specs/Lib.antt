@@ -1,0 +1,2 @@
+pub mod PlaceMoments
+pub mod Walk
