@@ -1,1 +1,2 @@
-mod Lying
+-- for acn_plain
+pub mod Lying

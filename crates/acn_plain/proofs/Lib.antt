@@ -1,0 +1,2 @@
+mod Deep
+mod Encoding
