@@ -12,9 +12,13 @@ mod notation;
 mod parts;
 mod path_words;
 mod sheet;
+mod unfit_words;
+mod value_reading;
 mod value_words;
 
 pub use building::Built;
 pub use path_words::path_in_words;
 pub use sheet::Sheet;
+pub use unfit_words::unfit_in_words;
+pub use value_reading::value_of;
 pub use value_words::value_in_words;

@@ -3,7 +3,7 @@
 ghost use Rattle.std.specs.Prelude.{◌≡◌, ◌≤◌, ◌∷◌, ◌++◌, [], Some, length, drop, suc, option_map, OnOk, IfOk};
 ghost use Rattle.acn_num.specs.declared.limits.TheConstants.{MOST_SIZE};
 ghost use Rattle.acn_grammar.specs.Asks as asks;
-ghost use Rattle.acn_grammar.specs.Grammar.{Fields, seq, list, choice, contained, record_of, list_of, alt};
+ghost use Rattle.acn_grammar.specs.Grammar.{Fields, seq, list, contained, record_of, list_of};
 ghost use Rattle.acn_grammar.specs.Tree.{holds};
 ghost use Rattle.acn_grammar.specs.View.{alternatives_view, data_of, elements_view, field_of, fields_view, form_of, grammar_of, places_view, with_field};
 ghost use Rattle.acn_grammar.specs.declared.limits.TheConstants.{MOST_NODES};

@@ -1,12 +1,12 @@
 //! Answers to cases.
 
-use acn_case_lines::{octets_of, word};
-use acn_case_trees::{Built, Sheet, path_in_words, value_in_words};
+use acn_case_lines::{bits_in_words, octets_of, word};
+use acn_case_trees::{Built, Sheet, path_in_words, unfit_in_words, value_in_words, value_of};
 use acn_check::{Checked, check};
 use acn_num::{Boxed, NoMemory};
-use acn_plain::plain_decode;
+use acn_plain::{PlainFault, plain_decode, plain_encode};
 use acn_plain_read::MOST_PLAIN_BYTES;
-use acn_tree::{Fault, Reason, Refuse, Tree, Value, items_named};
+use acn_tree::{Fault, Reason, Refuse, Tree, Value, items_named, shaped};
 use std::alloc::Global;
 
 fn reason_in_words(alloc: Global, reason: &Reason) -> Result<String, NoMemory> {
@@ -59,9 +59,36 @@ fn read(alloc: Global, checked: &Checked, octets: &[u8]) -> Result<String, NoMem
     }
 }
 
-fn of_tree(alloc: Global, tree: Boxed<Tree>, octets: &[u8]) -> Result<String, NoMemory> {
+// What is written for a value.
+fn written(alloc: Global, checked: &Checked, value: &Value) -> Result<String, NoMemory> {
+    if !shaped(checked.tree().root(), value) {
+        return Ok(format!(in alloc; "not shaped")?);
+    }
+    match plain_encode(alloc, checked, value) {
+        Ok(bits) => bits_in_words(alloc, &bits),
+        Err(PlainFault::Unfit(unfit)) => unfit_in_words(alloc, &unfit),
+        Err(PlainFault::NoMemory) => Err(NoMemory),
+    }
+}
+
+fn write(alloc: Global, checked: &Checked, words: &[&str]) -> Result<String, NoMemory> {
+    match value_of(alloc, words)? {
+        Some(value) => written(alloc, checked, value.get()),
+        None => Ok(format!(in alloc; "no value")?),
+    }
+}
+
+fn of_checked(alloc: Global, checked: &Checked, words: &[&str]) -> Result<String, NoMemory> {
+    if word(words, 0) == "write" {
+        return write(alloc, checked, words.get(1..).unwrap_or(&[]));
+    }
+    let octets = octets_of(alloc, words)?;
+    read(alloc, checked, octets.as_slice())
+}
+
+fn of_tree(alloc: Global, tree: Boxed<Tree>, words: &[&str]) -> Result<String, NoMemory> {
     match check(alloc, tree.into_inner()) {
-        Ok(checked) => read(alloc, &checked, octets),
+        Ok(checked) => of_checked(alloc, &checked, words),
         Err(_) => Ok(format!(in alloc; "not accepted")?),
     }
 }
@@ -70,9 +97,8 @@ fn of_tree(alloc: Global, tree: Boxed<Tree>, octets: &[u8]) -> Result<String, No
 pub fn answer(alloc: Global, sheet: &Sheet, case: &str) -> Result<String, NoMemory> {
     let parts: Vec<&str> = case.split(";;").collect(alloc)?;
     let words: Vec<&str> = word(parts.as_slice(), 0).split_whitespace().collect(alloc)?;
-    let octets = octets_of(alloc, words.as_slice())?;
     match sheet.built(alloc, parts.get(1..).unwrap_or(&[]))? {
-        Built::Tree(tree) => of_tree(alloc, tree, octets.as_slice()),
+        Built::Tree(tree) => of_tree(alloc, tree, words.as_slice()),
         Built::NoTree => Ok(format!(in alloc; "no tree")?),
         Built::Unknown => Ok(format!(in alloc; "not understood")?),
     }
