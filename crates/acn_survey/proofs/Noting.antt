@@ -1,17 +1,17 @@
 -- What is noted of one site, or why the walk stops there.
-use Rattle.std.proofs.Common.{◌≡◌, rules, ℕ, ◌≤◌, List, [], ◌∷◌, ◌++◌, Option, Some, None, refl, ◌∙◌, ap, sym, option_map, Bool, true, false, cond, drop, map}
+use Rattle.std.proofs.Common.{◌≡◌, rules, ℕ, ◌≤◌, List, [], ◌∷◌, ◌++◌, Option, Some, None, refl, ◌∙◌, ap, sym, option_map, Bool, true, false, drop, map}
 use Rattle.std.proofs.lemmas.List.{append-nil, append_assoc, map-append}
 use Rattle.acn_homes.specs.declared.uses.Use.{Use}
-use Rattle.std.specs.Prelude.{Result, Ok, Err, nat_lt}
+use Rattle.std.specs.Prelude.{Ok, Err, nat_lt}
 use Rattle.std.specs.Option.{option_or}
 use Rattle.acn_grammar.specs.declared.limits.TheConstants.{MOST_NODES}
 use Rattle.acn_index.specs.World.{World}
 use Rattle.acn_sites.specs.Attributes.{Given, nearest}
 use Rattle.acn_sites.specs.declared.attributes.AttrKind.TheVariants as kind
-use Rattle.acn_sites.specs.Sites.{Site, Placed}
+use Rattle.acn_sites.specs.Sites.{Site}
 use Rattle.acn_survey.specs.Walk.{fields_named, uses_at}
 use Rattle.acn_reasons.specs.Standing.{is_too_deep}
-use Rattle.acn_survey.specs.Reasons.{Reason, Fault, given, first, reasons_at, reason_at, fault_from, too_deep, too_many_nodes}
+use Rattle.acn_survey.specs.Reasons.{Reason, given, first, reasons_at, reason_at, fault_from, too_deep, too_many_nodes}
 use Rattle.acn_survey.specs.Seen.{Noted, behind, unless_fault, surveyed}
 use Rattle.acn_survey.specs.View.{reason_of, fault_with}
 use Rattle.acn_survey.specs.declared.reason.MergeReason.{MergeReason}

@@ -1,5 +1,5 @@
 -- What the program's own types stand for.
-use Rattle.std.specs.Prelude.{ℕ, List, map, Option, Some, None, option_map, Result, Ok, Err, ◌≡◌}
+use Rattle.std.specs.Prelude.{ℕ, List, Option, Some, None, option_map, Result, Ok, Err, ◌≡◌}
 use Rattle.acn_constraint.specs.Views.{fault_of}
 use Rattle.acn_survey.specs.declared.reason.MergeReason.{MergeReason}
 use Rattle.acn_survey.specs.declared.reason.MergeReason.TheVariants as reason
@@ -20,6 +20,13 @@ reason_of (reason.Constraint f) = option_map spec.constraint (fault_of f)
 reason_of reason.NoSuchField = Some spec.no_such_field
 reason_of reason.Arguments = Some spec.arguments
 reason_of (reason.Path f) = Some (spec.path f)
+reason_of (reason.BadMapping key) = Some (spec.mapping key)
+reason_of (reason.EnumValues first second) = Some (spec.item_numbers (first, second))
+reason_of reason.PatternClash = Some spec.patterns
+reason_of reason.BadSize = Some spec.size
+reason_of reason.EndianSize = Some spec.endianness
+reason_of (reason.TooNarrow value) = Some (spec.narrow value)
+reason_of reason.BadDefault = Some spec.default_value
 
 abbrev pub fault_with : List ℕ → spec.Reason → spec.Fault
 fault_with place r = record { place = place; reason = r }

@@ -7,7 +7,6 @@ use Rattle.acn_index.specs.World.{World}
 use Rattle.acn_slots.specs.declared.slots.Lead.{Lead}
 use Rattle.acn_slots.specs.declared.slots.Lead.TheVariants as lead
 use Rattle.acn_slots.specs.Slots.{Scope, sort_of, leads}
-use Rattle.acn_sites.specs.declared.attributes.AttrKind.{AttrKind}
 use Rattle.acn_sites.specs.Attributes.{Given, nearest, scope_of}
 use Rattle.acn_sites.specs.Sites.{Position, root, part, inserted, alternative, element, content, Site, Placed}
 use Rattle.acn_reasons.specs.Paths.{paths_in, kinds_with_paths}

@@ -1,5 +1,5 @@
-//! A walk over the sites of a type, in preorder: the first reason for which the type can't be made, of those that need no
-//! coding, and else which fields determine something and who uses them.
+//! A walk over the sites of a type, in preorder: the first reason for which the type can't be made, and else which fields
+//! determine something and who uses them.
 #![tactic(auto)]
 
 mod judge;

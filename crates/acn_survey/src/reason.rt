@@ -24,6 +24,20 @@ pub enum MergeReason {
     Arguments,
     /// A path leads to no determinant, or through a field that may be absent.
     Path(PathFault),
+    /// Its mapping table isn't one to one, or leaves the numbers, at this key.
+    BadMapping { key: i128 },
+    /// Two items of an enumeration have one number; or an item, named twice, has none between braces (X.680, 20.3).
+    EnumValues { first: Name, second: Name },
+    /// Its patterns can't stand where they stand.
+    PatternClash,
+    /// Its `size` is none that it can have.
+    BadSize,
+    /// Its least significant octet is to stand first, and its code isn't whole octets of a number in base 2.
+    EndianSize,
+    /// This permitted number, the least such, can't be written.
+    TooNarrow { value: i128 },
+    /// The value behind DEFAULT isn't permitted by its type (X.680 clause 25).
+    BadDefault,
 }
 
 /// The first node that can't be made.

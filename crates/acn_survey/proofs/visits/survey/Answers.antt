@@ -1,11 +1,8 @@
-use Rattle.std.proofs.Common.{ap, sym, ◌∙◌, Some, [], List, ℕ}
-use Rattle.acn_index.specs.World.{World}
+use Rattle.std.proofs.Common.{ap, sym, ◌∙◌, Some, []}
 use Rattle.acn_sites.specs.Sites.{sites, sites_of}
 use Rattle.acn_sites.specs.View.{site_view}
-use Rattle.acn_survey.specs.Reasons.{fault_from}
 use Rattle.acn_survey.specs.Seen.{Noted, surveyed}
 use Rattle.acn_survey.specs.View.{noted_of, answer, fault_of_site}
-use Rattle.acn_survey.specs.Walk.{inserted_fields, uses_of}
 use Rattle.acn_world.specs.Viewed.{world_view}
 use Rattle.acn_survey.proofs.Joined.{all_sites, fault_of_walk, end_of_walk}
 use Rattle.acn_survey.proofs.visits.survey.Goals as goal

@@ -1,0 +1,6 @@
+use Rattle.std.proofs.Common.{◌≡◌, take}
+use Rattle.acn_num.specs.Bits.{number}
+use Rattle.acn_terminators.proofs.ends.octet.Given as goal
+
+abbrev pub invariant-loop-bit : goal.invariant-loop-bit
+invariant-loop-bit l = l.octet ≡ number (take l.bit-index l.bits)
