@@ -4,10 +4,8 @@ ghost use Rattle.acn_grammar.specs.View.{grammar_of};
 ghost use Rattle.acn_grammar.specs.ItemsNamed.{ItemsNamed};
 
 use crate::fault::fault_in_words;
-use crate::unfit::unfit_in_words;
-use crate::value::value_of;
 use acn_case_lines::{wide, word};
-use acn_case_trees::{Built, Sheet, value_in_words};
+use acn_case_trees::{Built, Sheet, unfit_in_words, value_in_words, value_of};
 use acn_check::check;
 use acn_num::{Boxed, NoMemory, Path};
 use acn_tree::{

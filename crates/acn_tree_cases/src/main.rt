@@ -8,8 +8,6 @@
 
 mod answer;
 mod fault;
-mod unfit;
-mod value;
 
 use acn_case_lines::{Line, line_of};
 use acn_case_trees::Sheet;
