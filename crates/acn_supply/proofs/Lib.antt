@@ -1,0 +1,4 @@
+-- for acn_stream
+pub mod Moving
+mod Pieces
+mod Windows
