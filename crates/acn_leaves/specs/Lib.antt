@@ -1,0 +1,4 @@
+pub mod Leaves
+pub mod Ordered
+pub mod Widths
+pub mod View
