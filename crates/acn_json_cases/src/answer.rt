@@ -1,0 +1,126 @@
+//! Answers to cases.
+
+use crate::bytes::{bytes_of, nested_of};
+use acn_case_lines::word;
+use acn_case_trees::{Built, Sheet, path_in_words, value_in_words, value_of};
+use acn_json::{JsonFault, MOST_JSON_BYTES, from_line, to_line};
+use acn_num::{Boxed, NoMemory, Path};
+use acn_tree::{Tree, Value};
+use std::alloc::Global;
+
+fn at_path(alloc: Global, path: &Path, name: &str) -> Result<String, NoMemory> {
+    let path = path_in_words(alloc, path)?;
+    Ok(format!(in alloc; "{path} {name}")?)
+}
+
+fn unknown_member(alloc: Global, path: &Path, member: u32) -> Result<String, NoMemory> {
+    let path = path_in_words(alloc, path)?;
+    Ok(format!(in alloc; "{path} UnknownMember {member}")?)
+}
+
+fn fault_in_words(alloc: Global, fault: &JsonFault) -> Result<String, NoMemory> {
+    match fault {
+        JsonFault::NotJson => Ok(format!(in alloc; "NotJson")?),
+        JsonFault::Shape { path } => at_path(alloc, path, "Shape"),
+        JsonFault::UnknownMember { path, member } => unknown_member(alloc, path, *member),
+        JsonFault::MissingMember { path } => at_path(alloc, path, "MissingMember"),
+        JsonFault::NoMemory => Err(NoMemory),
+    }
+}
+
+fn line_in_words(alloc: Global, tree: &Tree, value: &Value) -> Result<String, NoMemory> {
+    let line = to_line(alloc, tree, value)?;
+    Ok(String::from_utf8_lossy(alloc, line.as_slice())?)
+}
+
+// What a line gives.
+fn read(alloc: Global, tree: &Tree, line: &[u8]) -> Result<String, NoMemory> {
+    if line.len() > MOST_JSON_BYTES {
+        return Ok(format!(in alloc; "too many bytes")?);
+    }
+    match from_line(alloc, tree, line) {
+        Ok(value) => Ok(
+            value_in_words(alloc, &value)?
+                .as_str()
+                .trim()
+                .to_string(alloc)?,
+        ),
+        Err(fault) => fault_in_words(alloc, &fault),
+    }
+}
+
+// The line of the value that a line gives.
+fn again(alloc: Global, tree: &Tree, line: &[u8]) -> Result<String, NoMemory> {
+    if line.len() > MOST_JSON_BYTES {
+        return Ok(format!(in alloc; "too many bytes")?);
+    }
+    match from_line(alloc, tree, line) {
+        Ok(value) => line_in_words(alloc, tree, &value),
+        Err(fault) => fault_in_words(alloc, &fault),
+    }
+}
+
+// Whether a line is JSON.
+fn is_json(alloc: Global, tree: &Tree, line: &[u8]) -> Result<bool, NoMemory> {
+    if line.len() > MOST_JSON_BYTES {
+        return Ok(false);
+    }
+    match from_line(alloc, tree, line) {
+        Err(JsonFault::NotJson) => Ok(false),
+        Err(JsonFault::NoMemory) => Err(NoMemory),
+        _ => Ok(true),
+    }
+}
+
+// The lengths of the fronts that are JSON, and `none` where there are none.
+fn cut(alloc: Global, tree: &Tree, line: &[u8]) -> Result<String, NoMemory> {
+    let mut lengths = String::new(alloc);
+    for length in 0..=line.len() {
+        if is_json(alloc, tree, line.get(..length).unwrap_or(&[]))? {
+            let space = if lengths.is_empty() { "" } else { " " };
+            write!(lengths, "{space}{length}")?;
+        }
+    }
+    if lengths.is_empty() {
+        lengths.push_str("none")?;
+    }
+    Ok(lengths)
+}
+
+fn line_told(alloc: Global, tree: &Tree, text: &str) -> Result<String, NoMemory> {
+    let words: Vec<&str> = text.split_whitespace().collect(alloc)?;
+    match value_of(alloc, words.as_slice())? {
+        Some(value) => line_in_words(alloc, tree, value.get()),
+        None => Ok(format!(in alloc; "no value")?),
+    }
+}
+
+fn told(alloc: Global, tree: &Tree, question: &str, text: &str) -> Result<String, NoMemory> {
+    match question {
+        "read" => read(alloc, tree, bytes_of(alloc, text)?.as_slice()),
+        "again" => again(alloc, tree, bytes_of(alloc, text)?.as_slice()),
+        "cut" => cut(alloc, tree, bytes_of(alloc, text)?.as_slice()),
+        "nested" => read(alloc, tree, nested_of(alloc, text)?.as_slice()),
+        "line" => line_told(alloc, tree, text),
+        _ => Ok(format!(in alloc; "not understood")?),
+    }
+}
+
+// The question of a case, and what it is about.
+fn parts_of(case: &str) -> (&str, &str) {
+    match case.split_once(" ") {
+        Some((question, text)) => (question, text.trim()),
+        None => (case, ""),
+    }
+}
+
+/// The answer to a case.
+pub fn answer(alloc: Global, sheet: &Sheet, case: &str) -> Result<String, NoMemory> {
+    let parts: Vec<&str> = case.split(";;").collect(alloc)?;
+    let (question, text) = parts_of(word(parts.as_slice(), 0).trim());
+    match sheet.built(alloc, parts.get(1..).unwrap_or(&[]))? {
+        Built::Tree(tree) => told(alloc, tree.get(), question, text),
+        Built::NoTree => Ok(format!(in alloc; "no tree")?),
+        Built::Unknown => Ok(format!(in alloc; "not understood")?),
+    }
+}
