@@ -6,7 +6,7 @@ ghost use Rattle.acn_grammar.specs.Length.{coding_length, digit_count};
 ghost use Rattle.acn_grammar.specs.declared.node.NumCoding.TheVariants.{Bcd, BcdEnded, Ascii, AsciiEnded};
 ghost use Rattle.acn_ints.specs.DigitWrites.{low_digits};
 ghost use Rattle.acn_ints.specs.EndedReads.{digit_codes, sign_code};
-ghost use Rattle.acn_ints.specs.Limits.{CanWrite, DigitsFit, SignedDigitsFit, EndFits};
+ghost use Rattle.acn_ints.specs.Limits.{CanWrite, DigitsFit, SignedDigitsFit, EndFits, CodingFits};
 ghost use Rattle.acn_bits.specs.declared.word.TheConstants.{WORD_BITS};
 
 use crate::most::digits_of;
@@ -103,7 +103,7 @@ pub fn put_bcd_ended<const N: usize>(cur: &mut WriteCursor<'_, N>, y: &i128)
 }
 
 /// Writes decimal digits of an octet each.
-pub fn put_ascii<const N: usize>(cur: &mut WriteCursor<'_, N>, n: u32, y: &i128)
+fn put_ascii<const N: usize>(cur: &mut WriteCursor<'_, N>, n: u32, y: &i128)
     requires digits { DigitsFit 8 n }
     requires can { CanWrite (Ascii n false) y.now }
     requires room { place_of cur.old + n ≤ 8 * N }
@@ -114,7 +114,7 @@ pub fn put_ascii<const N: usize>(cur: &mut WriteCursor<'_, N>, n: u32, y: &i128)
 }
 
 /// Writes decimal digits of an octet each, and a terminator behind them.
-pub fn put_ascii_ended<const N: usize>(cur: &mut WriteCursor<'_, N>, end: &Pattern, y: &i128)
+fn put_ascii_ended<const N: usize>(cur: &mut WriteCursor<'_, N>, end: &Pattern, y: &i128)
     requires end { EndFits end.now }
     requires can { CanWrite (AsciiEnded end.now false) y.now }
     requires room { place_of cur.old + coding_length (AsciiEnded end.now false) y.now ≤ 8 * N }
@@ -163,7 +163,7 @@ fn magnitude(y: &i128) -> u64
 }
 
 /// Writes a sign octet and decimal digits of an octet each, n bits together.
-pub fn put_ascii_signed<const N: usize>(cur: &mut WriteCursor<'_, N>, n: u32, y: &i128)
+fn put_ascii_signed<const N: usize>(cur: &mut WriteCursor<'_, N>, n: u32, y: &i128)
     requires digits { SignedDigitsFit n }
     requires can { CanWrite (Ascii n true) y.now }
     requires room { place_of cur.old + n ≤ 8 * N }
@@ -175,7 +175,7 @@ pub fn put_ascii_signed<const N: usize>(cur: &mut WriteCursor<'_, N>, n: u32, y:
 }
 
 /// Writes a sign octet, decimal digits of an octet each, and a terminator behind them.
-pub fn put_signed_ended<const N: usize>(cur: &mut WriteCursor<'_, N>, end: &Pattern, y: &i128)
+fn put_signed_ended<const N: usize>(cur: &mut WriteCursor<'_, N>, end: &Pattern, y: &i128)
     requires end { EndFits end.now }
     requires can { CanWrite (AsciiEnded end.now true) y.now }
     requires room { place_of cur.old + coding_length (AsciiEnded end.now true) y.now ≤ 8 * N }
@@ -186,4 +186,39 @@ pub fn put_signed_ended<const N: usize>(cur: &mut WriteCursor<'_, N>, end: &Patt
     let k = magnitude(y);
     put_digits(cur, 8, 48, digits_of(u128::from(k)), k);
     put_end(cur, end);
+}
+
+/// Writes decimal digits of an octet each, n bits together, behind the octet of a sign where there is one.
+pub fn put_characters<const N: usize>(cur: &mut WriteCursor<'_, N>, n: u32, signed: bool, y: &i128)
+    requires digits { CodingFits (Ascii n signed) false }
+    requires can { CanWrite (Ascii n signed) y.now }
+    requires room { place_of cur.old + n ≤ 8 * N }
+    ensures code { Puts (CodingCode Written (Ascii n signed) false y.now) cur.old cur.new }
+    ensures long { place_of cur.new ≡ place_of cur.old + n }
+{
+    if signed {
+        put_ascii_signed(cur, n, y)
+    } else {
+        put_ascii(cur, n, y)
+    }
+}
+
+/// Writes decimal digits of an octet each and a terminator, behind the octet of a sign where there is one.
+pub fn put_characters_ended<const N: usize>(
+    cur: &mut WriteCursor<'_, N>,
+    end: &Pattern,
+    signed: bool,
+    y: &i128,
+)
+    requires end { EndFits end.now }
+    requires can { CanWrite (AsciiEnded end.now signed) y.now }
+    requires room { place_of cur.old + coding_length (AsciiEnded end.now signed) y.now ≤ 8 * N }
+    ensures code { Puts (CodingCode Written (AsciiEnded end.now signed) false y.now) cur.old cur.new }
+    ensures long { place_of cur.new ≡ place_of cur.old + coding_length (AsciiEnded end.now signed) y.now }
+{
+    if signed {
+        put_signed_ended(cur, end, y)
+    } else {
+        put_ascii_ended(cur, end, y)
+    }
 }

@@ -6,11 +6,11 @@ ghost use Rattle.acn_grammar.specs.declared.node.NumLeaf.{NumLeaf};
 ghost use Rattle.acn_grammar.specs.declared.node.NumCoding.TheVariants.{BcdEnded, Ascii, AsciiEnded};
 ghost use Rattle.acn_ints.specs.EndedReads.{PassedSign, SignWrong, IsSignedValue};
 ghost use Rattle.acn_ints.specs.FixedReads.{FixedSaid, FixedWrong};
-ghost use Rattle.acn_ints.specs.Limits.{IsNear, SignedDigitsFit, EndFits};
+ghost use Rattle.acn_ints.specs.Limits.{IsNear, SignedDigitsFit, EndFits, CodingFits};
 ghost use Rattle.acn_bits.specs.Reading.{Stays};
 ghost use Rattle.acn_ints.specs.Reads.{IsSaid, Refuses};
 
-use crate::digits::read_digits;
+use crate::digits::{read_ascii, read_digits};
 use crate::ended::{Ended, read_ended};
 use crate::fixed::bits_of;
 use crate::said::Said;
@@ -80,11 +80,7 @@ pub fn read_bcd_ended(cur: &mut ReadCursor<'_>, most: u32) -> Result<Said, ReadF
 }
 
 /// Decimal digits of an octet each, and a terminator behind them.
-pub fn read_ascii_ended(
-    cur: &mut ReadCursor<'_>,
-    end: &Pattern,
-    most: u32,
-) -> Result<Said, ReadFault>
+fn read_ascii_ended(cur: &mut ReadCursor<'_>, end: &Pattern, most: u32) -> Result<Said, ReadFault>
     requires most { most ≤ 20 }
     requires end { EndFits end.now }
     ensures near { IfOk result (λ s. IsNear s.image) }
@@ -99,11 +95,7 @@ pub fn read_ascii_ended(
 }
 
 /// A sign octet, decimal digits of an octet each, and a terminator behind them.
-pub fn read_signed_ended(
-    cur: &mut ReadCursor<'_>,
-    end: &Pattern,
-    most: u32,
-) -> Result<Said, ReadFault>
+fn read_signed_ended(cur: &mut ReadCursor<'_>, end: &Pattern, most: u32) -> Result<Said, ReadFault>
     requires most { most ≤ 20 }
     requires end { EndFits end.now }
     ensures near { IfOk result (λ s. IsNear s.image) }
@@ -121,7 +113,7 @@ pub fn read_signed_ended(
 }
 
 /// A sign octet and decimal digits of an octet each, n bits together.
-pub fn read_ascii_signed(cur: &mut ReadCursor<'_>, n: u32, little: bool) -> Result<Said, ReadFault>
+fn read_ascii_signed(cur: &mut ReadCursor<'_>, n: u32, little: bool) -> Result<Said, ReadFault>
     requires { SignedDigitsFit n }
     ensures near { IfOk result (λ s. IsNear s.image) }
     ensures said { IfOk result (λ s. FixedSaid (Ascii n true) little n cur.old cur.new s.wire s.image) }
@@ -143,5 +135,45 @@ pub fn read_ascii_signed(cur: &mut ReadCursor<'_>, n: u32, little: bool) -> Resu
             None => Err(ReadFault::BadDigit),
         },
         Err(fault) => Err(fault),
+    }
+}
+
+/// Decimal digits of an octet each, n bits together, behind the octet of a sign where there is one.
+pub fn read_characters(
+    cur: &mut ReadCursor<'_>,
+    n: u32,
+    signed: bool,
+    little: bool,
+) -> Result<Said, ReadFault>
+    requires { CodingFits (Ascii n signed) little }
+    ensures near { IfOk result (λ s. IsNear s.image) }
+    ensures said { IfOk result (λ s. FixedSaid (Ascii n signed) little n cur.old cur.new s.wire s.image) }
+    ensures wrong { IfErr result (λ e. FixedWrong (Ascii n signed) little n cur.old cur.new (reason_of e)) }
+{
+    if signed {
+        read_ascii_signed(cur, n, little)
+    } else {
+        read_ascii(cur, n, little)
+    }
+}
+
+/// Decimal digits of an octet each and a terminator behind them, behind the octet of a sign where there is one.
+pub fn read_characters_ended(
+    cur: &mut ReadCursor<'_>,
+    end: &Pattern,
+    signed: bool,
+    most: u32,
+) -> Result<Said, ReadFault>
+    requires most { most ≤ 20 }
+    requires end { EndFits end.now }
+    ensures near { IfOk result (λ s. IsNear s.image) }
+    ensures said { IfOk result (λ s. (leaf : NumLeaf) → most_digits (images_of leaf) ≡ most → IsSaid (AsciiEnded end.now signed) leaf cur.old cur.new s.wire s.image) }
+    ensures wrong { IfErr result (λ e. (leaf : NumLeaf) → most_digits (images_of leaf) ≡ most → Refuses (AsciiEnded end.now signed) leaf cur.old.rest (reason_of e)) }
+    ensures stays { OnErr result (Stays cur.old cur.new) }
+{
+    if signed {
+        read_signed_ended(cur, end, most)
+    } else {
+        read_ascii_ended(cur, end, most)
     }
 }

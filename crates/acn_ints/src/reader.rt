@@ -7,10 +7,8 @@ ghost use Rattle.acn_bits.specs.Reading.{Reads, Stays};
 ghost use Rattle.acn_ints.specs.Reads.{IsSaid, Refuses, Refused};
 
 use crate::counted::{read_counted_from, read_counted_signed};
-use crate::digits::{read_ascii, read_bcd};
-use crate::ended_codings::{
-    read_ascii_ended, read_ascii_signed, read_bcd_ended, read_signed_ended,
-};
+use crate::digits::read_bcd;
+use crate::ended_codings::{read_bcd_ended, read_characters, read_characters_ended};
 use crate::fixed::{read_flag, read_pattern, read_range, read_twos, read_unsigned};
 use crate::known::{item_count, number_of};
 use crate::most::most_digits;
@@ -35,19 +33,9 @@ fn read_coding(cur: &mut ReadCursor<'_>, leaf: &NumLeaf) -> Result<Said, ReadFau
         NumCoding::Twos(n) => read_twos(cur, *n, little),
         NumCoding::Bcd(n) => read_bcd(cur, *n, little),
         NumCoding::BcdEnded => read_bcd_ended(cur, most_digits(leaf)),
-        NumCoding::Ascii { bits, signed } => {
-            if *signed {
-                read_ascii_signed(cur, *bits, little)
-            } else {
-                read_ascii(cur, *bits, little)
-            }
-        }
+        NumCoding::Ascii { bits, signed } => read_characters(cur, *bits, *signed, little),
         NumCoding::AsciiEnded { end, signed } => {
-            if *signed {
-                read_signed_ended(cur, end, most_digits(leaf))
-            } else {
-                read_ascii_ended(cur, end, most_digits(leaf))
-            }
+            read_characters_ended(cur, end, *signed, most_digits(leaf))
         }
         NumCoding::Flag { yes, no } => read_flag(cur, yes, no, little),
         NumCoding::Fixed(pattern) => read_pattern(cur, pattern, little),

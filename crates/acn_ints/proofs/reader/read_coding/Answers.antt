@@ -1,4 +1,4 @@
-use Rattle.std.proofs.Common.{◌∙◌, ap, true, false, length, subst}
+use Rattle.std.proofs.Common.{length, subst}
 use Rattle.acn_grammar.specs.Length.{flag_width}
 use Rattle.acn_grammar.specs.declared.node.NumCoding.{NumCoding}
 use Rattle.acn_grammar.specs.declared.node.NumCoding.TheVariants.{Range, PosInt, Twos, Bcd, BcdEnded, Flag, Fixed, CountedFrom, CountedSigned, Ascii, AsciiEnded}
@@ -9,11 +9,8 @@ use Rattle.acn_ints.proofs.reader.read_coding.Goals as goal
 pub most_digits-requires-clause-plain : goal.most_digits-requires-clause-plain
 most_digits-requires-clause-plain c = subst (λ (k : NumCoding). PlainEnded k c.args.leaf.now.items.values) c.in-BcdEnded.is c.requires.plain
 
-pub most_digits-requires-then-signed-2-clause-plain : goal.most_digits-requires-then-signed-2-clause-plain
-most_digits-requires-then-signed-2-clause-plain c = subst (λ (k : NumCoding). PlainEnded k c.args.leaf.now.items.values) c.in-AsciiEnded.is c.requires.plain
-
-pub most_digits-requires-else-signed-2-clause-plain : goal.most_digits-requires-else-signed-2-clause-plain
-most_digits-requires-else-signed-2-clause-plain c = subst (λ (k : NumCoding). PlainEnded k c.args.leaf.now.items.values) c.in-AsciiEnded.is c.requires.plain
+pub most_digits-requires-in-AsciiEnded-clause-plain : goal.most_digits-requires-in-AsciiEnded-clause-plain
+most_digits-requires-in-AsciiEnded-clause-plain c = subst (λ (k : NumCoding). PlainEnded k c.args.leaf.now.items.values) c.in-AsciiEnded.is c.requires.plain
 
 pub returns-in-Range-clause-wrong : goal.returns-in-Range-clause-wrong
 returns-in-Range-clause-wrong c = fixed_wrong_at c.args.leaf.now.coding (Range c.in-Range.low c.in-Range.width) c.args.leaf.now (c.in-Range.width) c.args.cur.now c.read_range.new.cur c.read_range.result (c.in-Range.is) (record { same = λ rest r reach h. h }) c.read_range.ensures.wrong
@@ -45,18 +42,6 @@ returns-in-Fixed-clause-wrong c = fixed_wrong_at c.args.leaf.now.coding (Fixed c
 pub returns-in-Fixed-clause-stays : goal.returns-in-Fixed-clause-stays
 returns-in-Fixed-clause-stays c = fixed_stays_at (Fixed c.in-Fixed.pattern) c.args.leaf.now.little (length c.in-Fixed.pattern) c.args.cur.now c.read_pattern.new.cur c.read_pattern.result c.read_pattern.ensures.wrong
 
-pub returns-then-signed-clause-said : goal.returns-then-signed-clause-said
-returns-then-signed-clause-said c = fixed_said_at c.args.leaf.now.coding (Ascii c.in-Ascii.bits true) c.args.leaf.now (c.in-Ascii.bits) c.args.cur.now c.read_ascii_signed.new.cur c.read_ascii_signed.result (c.in-Ascii.is ∙ ap (Ascii c.in-Ascii.bits) c.if-signed.true) (record { same = λ rest r reach h. h }) c.read_ascii_signed.ensures.said
-
-pub returns-then-signed-clause-wrong : goal.returns-then-signed-clause-wrong
-returns-then-signed-clause-wrong c = fixed_wrong_at c.args.leaf.now.coding (Ascii c.in-Ascii.bits true) c.args.leaf.now (c.in-Ascii.bits) c.args.cur.now c.read_ascii_signed.new.cur c.read_ascii_signed.result (c.in-Ascii.is ∙ ap (Ascii c.in-Ascii.bits) c.if-signed.true) (record { same = λ rest r reach h. h }) c.read_ascii_signed.ensures.wrong
-
-pub returns-else-signed-clause-said : goal.returns-else-signed-clause-said
-returns-else-signed-clause-said c = fixed_said_at c.args.leaf.now.coding (Ascii c.in-Ascii.bits false) c.args.leaf.now (c.in-Ascii.bits) c.args.cur.now c.read_ascii.new.cur c.read_ascii.result (c.in-Ascii.is ∙ ap (Ascii c.in-Ascii.bits) c.if-signed.false) (record { same = λ rest r reach h. h }) c.read_ascii.ensures.said
-
-pub returns-else-signed-clause-wrong : goal.returns-else-signed-clause-wrong
-returns-else-signed-clause-wrong c = fixed_wrong_at c.args.leaf.now.coding (Ascii c.in-Ascii.bits false) c.args.leaf.now (c.in-Ascii.bits) c.args.cur.now c.read_ascii.new.cur c.read_ascii.result (c.in-Ascii.is ∙ ap (Ascii c.in-Ascii.bits) c.if-signed.false) (record { same = λ rest r reach h. h }) c.read_ascii.ensures.wrong
-
 pub returns-in-CountedFrom-clause-wrong : goal.returns-in-CountedFrom-clause-wrong
 returns-in-CountedFrom-clause-wrong c = wrong_at c.args.leaf.now.coding (CountedFrom c.in-CountedFrom.low) c.args.leaf.now c.args.cur.now.rest c.read_counted_from.result c.in-CountedFrom.is c.read_counted_from.ensures.wrong
 
@@ -66,5 +51,11 @@ returns-in-CountedSigned-clause-wrong c = wrong_at c.args.leaf.now.coding Counte
 pub returns-in-BcdEnded-clause-wrong : goal.returns-in-BcdEnded-clause-wrong
 returns-in-BcdEnded-clause-wrong c = ended_wrong_at c.args.leaf.now.coding BcdEnded c.args.leaf.now c.args.cur.now.rest c.most_digits.result c.read_bcd_ended.result c.in-BcdEnded.is c.most_digits.ensures.value c.read_bcd_ended.ensures.wrong
 
-pub returns-else-signed-2-clause-wrong : goal.returns-else-signed-2-clause-wrong
-returns-else-signed-2-clause-wrong c = ended_wrong_at c.args.leaf.now.coding (AsciiEnded c.in-AsciiEnded.end false) c.args.leaf.now c.args.cur.now.rest c.most_digits-else-signed-2.result c.read_ascii_ended.result (c.in-AsciiEnded.is ∙ ap (AsciiEnded c.in-AsciiEnded.end) c.if-signed-2.false) c.most_digits-else-signed-2.ensures.value c.read_ascii_ended.ensures.wrong
+pub returns-in-Ascii-clause-said : goal.returns-in-Ascii-clause-said
+returns-in-Ascii-clause-said c = fixed_said_at c.args.leaf.now.coding (Ascii c.in-Ascii.bits c.in-Ascii.signed) c.args.leaf.now c.in-Ascii.bits c.args.cur.now c.read_characters.new.cur c.read_characters.result c.in-Ascii.is (record { same = λ rest r reach h. h }) c.read_characters.ensures.said
+
+pub returns-in-Ascii-clause-wrong : goal.returns-in-Ascii-clause-wrong
+returns-in-Ascii-clause-wrong c = fixed_wrong_at c.args.leaf.now.coding (Ascii c.in-Ascii.bits c.in-Ascii.signed) c.args.leaf.now c.in-Ascii.bits c.args.cur.now c.read_characters.new.cur c.read_characters.result c.in-Ascii.is (record { same = λ rest r reach h. h }) c.read_characters.ensures.wrong
+
+pub returns-in-AsciiEnded-clause-wrong : goal.returns-in-AsciiEnded-clause-wrong
+returns-in-AsciiEnded-clause-wrong c = ended_wrong_at c.args.leaf.now.coding (AsciiEnded c.in-AsciiEnded.end c.in-AsciiEnded.signed) c.args.leaf.now c.args.cur.now.rest c.most_digits-in-AsciiEnded.result c.read_characters_ended.result c.in-AsciiEnded.is c.most_digits-in-AsciiEnded.ensures.value c.read_characters_ended.ensures.wrong
