@@ -1,11 +1,13 @@
 -- for acn_well_formed
 pub mod Blocks
 mod CodeLengths
--- for acn_well_formed
-pub mod Differ
+mod Differ
 mod NumParts
+mod Pairs
 -- for acn_check
 pub mod Patterns
+mod Rising
+mod Sides
 mod Sizes
 mod Spelled
 mod TableRules

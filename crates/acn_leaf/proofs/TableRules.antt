@@ -1,15 +1,15 @@
 -- Lines of tables one by one.
-use Rattle.std.proofs.Common.{◌≡◌, ℕ, zero, suc, ◌+◌, ◌-◌, ◌^◌, ◌<◌, ◌≤◌, ℤ, pos, Bool, true, false, not, List, [], ◌∷◌, ◌++◌, length, get_or, take, drop, Option, Some, None, nat_eq, ◌&&◌, refl, sym, ap, ◌∙◌, arith}
+use Rattle.std.proofs.Common.{◌≡◌, ℕ, zero, suc, ◌+◌, ◌-◌, ◌^◌, ◌<◌, ◌≤◌, ℤ, pos, Bool, true, false, List, [], ◌∷◌, ◌++◌, length, get_or, take, drop, Option, Some, None, nat_eq, ◌&&◌, refl, sym, ap, ◌∙◌, arith}
 use Rattle.std.specs.Prelude.{int_le, int_lt, neg_ℤ, ◌+ℤ◌, ◌-ℤ◌, ◌≤ℤ◌, ◌<ℤ◌, nat_abs, SomeIff}
 use Rattle.std.specs.Int.{int_max, int_min}
-use Rattle.std.specs.List.{list_all, list_any, flat_map}
+use Rattle.std.specs.List.{list_all, flat_map}
 use Rattle.std.proofs.lemmas.Bool.Decides.{nat_tests}
 use Rattle.std.proofs.lemmas.Int.{ints, clamps}
 use Rattle.std.proofs.lemmas.List.{drop_more}
 use Rattle.acn_num.specs.Ranges.{count, distance}
 use Rattle.acn_leaf.specs.Ends.{ends_behind}
 use Rattle.acn_grammar.specs.Images.{ends, ends_from, clipped}
-use Rattle.acn_grammar.specs.Leaves.{all_differ, line_fine, is_number}
+use Rattle.acn_grammar.specs.Leaves.{line_fine, is_number}
 use Rattle.acn_leaf.specs.Taken.{left_of}
 use Rattle.std.proofs.lemmas.Bool.{and_parts}
 use Rattle.acn_grammar.proofs.WholeTests.{le_fact, lt_fact, le_test, lt_test, gt_test}
@@ -115,18 +115,10 @@ ends_last (Some e) = refl
 
 -- Tests of all elements.
 
-pub all_get : {A : Type 0} (p : A → Bool) (xs : List A) (i : ℕ) (d : A) → list_all p xs ≡ true → i < length xs → p (get_or xs i d) ≡ true
-all_get p [] i d h k = absurd (omega arith)
-all_get p (x ∷ xs) zero d h k = (and_parts (p x) (list_all p xs) h).0
-all_get p (x ∷ xs) (suc i) d h k = all_get p xs i d (and_parts (p x) (list_all p xs) h).1 (omega arith)
-
 pub all_drop : {A : Type 0} (p : A → Bool) (xs : List A) (i : ℕ) → list_all p xs ≡ true → list_all p (drop i xs) ≡ true
 all_drop p xs zero h = h
 all_drop p [] (suc i) h = refl
 all_drop p (x ∷ xs) (suc i) h = all_drop p xs i (and_parts (p x) (list_all p xs) h).1
-
-pub differ_turn : {A : Type 0} (same : A → A → Bool) (xs : List A) (i : ℕ) (d : A) → i < length xs → all_differ same (drop i xs) ≡ (not (list_any (same (get_or xs i d)) (drop (i + 1) xs)) && all_differ same (drop (i + 1) xs))
-differ_turn same xs i d h = rw (drop_more xs i d h) refl
 
 pub all_take : {A : Type 0} (p : A → Bool) (n : ℕ) (xs : List A) → list_all p xs ≡ true → list_all p (take n xs) ≡ true
 all_take p zero xs h = refl

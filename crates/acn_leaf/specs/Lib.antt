@@ -1,3 +1,4 @@
 pub mod Ends
 pub mod Taken
 pub mod Neighbours
+pub mod Sides

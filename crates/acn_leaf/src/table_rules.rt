@@ -1,11 +1,12 @@
 ghost use Rattle.std.specs.Prelude.{◌≡◌, ◌&&◌, int_le, ◌≤ℤ◌, ◌+ℤ◌, ◌-ℤ◌, true, nat_eq, ◌∷◌, []};
-ghost use Rattle.std.specs.List.{list_all, list_any, flat_map};
+ghost use Rattle.std.specs.List.{list_all, flat_map};
 ghost use Rattle.acn_num.specs.Ranges.{count};
 ghost use Rattle.acn_leaf.specs.Ends.{ends_behind};
 ghost use Rattle.acn_grammar.specs.Images as images;
 ghost use Rattle.acn_grammar.specs.Leaves as leaves;
 ghost use Rattle.acn_leaf.specs.Taken.{left_of};
 
+use crate::line_blocks::lines_differ;
 use crate::number_rules::is_number;
 use crate::size_rules::apart;
 use acn_num::{RangeSet, greater, is_at_most, less};
@@ -50,51 +51,6 @@ pub fn image(line: &(i128, i128, i128), key: &i128) -> i128
     ensures { result ≡ line.now.2 +ℤ (key.now -ℤ line.now.0) }
 {
     shifted(&line.2, &line.0, key)
-}
-
-// Whether the two have a number in common.
-fn meet(low: &i128, high: &i128, other_low: &i128, other_high: &i128) -> bool
-    ensures { result ≡ (int_le low.now other_high.now && int_le other_low.now high.now) }
-{
-    *low <= *other_high && *other_low <= *high
-}
-
-// Whether the two lines have a key or an image in common.
-fn share(a: &(i128, i128, i128), b: &(i128, i128, i128)) -> bool
-    requires first { leaves.line_fine a.now ≡ true }
-    requires second { leaves.line_fine b.now ≡ true }
-    ensures { result ≡ leaves.share a.now b.now }
-{
-    let last_of_a = image(a, &a.1);
-    let last_of_b = image(b, &b.1);
-    meet(&a.0, &a.1, &b.0, &b.1) || meet(&a.2, &last_of_a, &b.2, &last_of_b)
-}
-
-// Whether the line has a key or an image in common with one of the others.
-fn shares_one(line: &(i128, i128, i128), others: &[(i128, i128, i128)]) -> bool
-    requires line { leaves.line_fine line.now ≡ true }
-    requires others { list_all leaves.line_fine others.now ≡ true }
-    ensures { result ≡ list_any (leaves.share line.now) others.now }
-{
-    for other in others {
-        if share(line, other) {
-            return true;
-        }
-    }
-    false
-}
-
-// Whether no two lines have a key or an image in common.
-fn lines_differ(lines: &[(i128, i128, i128)]) -> bool
-    requires { list_all leaves.line_fine lines.now ≡ true }
-    ensures { result ≡ leaves.all_differ leaves.share lines.now }
-{
-    for at in 0..lines.len() {
-        if shares_one(&lines[at], &lines[at + 1..]) {
-            return false;
-        }
-    }
-    true
 }
 
 // What is left of the count behind the numbers that a line maps of a range.
@@ -150,14 +106,19 @@ fn maps_each(set: &RangeSet, lines: &[(i128, i128, i128)]) -> bool
     }
 }
 
+/// Whether the lines are one to one: keys and images of each are numbers in order, and no two have a key or an image in
+/// common.
+pub fn one_to_one(lines: &[(i128, i128, i128)]) -> bool
+    ensures { result ≡ (list_all leaves.line_fine lines.now && leaves.all_differ leaves.share lines.now) }
+{
+    lines_fine(lines) && lines_differ(lines)
+}
+
 /// Whether the lines are one to one, within the numbers, and map every number of the set.
 pub fn lines_map(set: &RangeSet, lines: &[(i128, i128, i128)]) -> bool
     ensures { result ≡ (list_all leaves.line_fine lines.now && (leaves.all_differ leaves.share lines.now && nat_eq (count (flat_map (λ r. flat_map (images.clipped r) lines.now) set.now)) (count set.now))) }
 {
-    if !lines_fine(lines) {
-        return false;
-    }
-    lines_differ(lines) && maps_each(set, lines)
+    one_to_one(lines) && maps_each(set, lines)
 }
 
 /// The ends of a range and of some before it.

@@ -1,14 +1,11 @@
 use Rattle.std.proofs.Common.{length}
 use Rattle.acn_leaf.proofs.Blocks.{Passed}
-use Rattle.acn_leaf.proofs.Differ.{by_octets}
 use Rattle.acn_grammar.specs.Asks.{same_name}
-use Rattle.std.specs.Cmp.Lexicographic.{slice_cmp}
-use Rattle.std.specs.Ordering.{nat_cmp}
 use Rattle.acn_well_formed.proofs.Blocks.{names}
 use Rattle.acn_well_formed.proofs.names.field_block_differs.Given as goal
 
 abbrev pub invariant-loop-rest : goal.invariant-loop-rest
-invariant-loop-rest l = Passed (slice_cmp nat_cmp) same_name by_octets (names l.block) (names l.behind) (names l.rest)
+invariant-loop-rest l = Passed same_name (names l.block) (names l.behind) (names l.rest)
 
 abbrev pub decreases-loop-rest : goal.decreases-loop-rest
 decreases-loop-rest l = length l.rest
