@@ -19,9 +19,10 @@ use Rattle.acn_grammar.proofs.SpanLaw.{Fine, FormFine, FieldsFine, AlternativesF
 use Rattle.acn_grammar.proofs.TreeRules.{tree_fine}
 use Rattle.acn_check.specs.Facts.{seen, facts_of}
 use Rattle.acn_check.specs.declared.lines.Line.{Line}
-use Rattle.acn_check.specs.First.{given, only_if, not_told, ambiguous_in, ambiguous_at, lead_fine, end_lead, form_lead_fine, leads_fine}
+use Rattle.acn_check.specs.First.{given, only_if, ambiguous_in, ambiguous_at, end_lead, form_lead_fine, leads_fine}
 use Rattle.acn_check.specs.Order.{lines_of}
-use Rattle.acn_check.proofs.BeginsLaw.{begins_law}
+use Rattle.acn_leads.specs.Begins.{not_told, lead_fine}
+use Rattle.acn_leads.proofs.LeadLaw.{Good, lead_good, told_to, told_from}
 use Rattle.acn_check.proofs.KindLaws.{PlainLaw}
 use Rattle.acn_check.proofs.KindUses.{only_true, only_none}
 use Rattle.acn_check.proofs.Numbers.{only_terminator_ambiguous, plain_tail}
@@ -65,77 +66,6 @@ each_at P [] k x e h = cc
 each_at P (y ∷ l) zero x e h = (let same : y ≡ x = cc in subst P same e.0)
 each_at P (y ∷ l) (suc k) x e h = each_at P l k x e.1 h
 
--- Leads.
-
-chosen : {A : Type 0} (b : Bool) (x : A) (o : Option A) → (if b then o else None) ≡ Some x → (b ≡ true) × (o ≡ Some x)
-chosen true x o h = (refl, h)
-chosen false x o h = cc
-
-abbrev Good : ℕ → NumLeaf → Type 0
-Good n leaf = (num_fine leaf ≡ true) × (is_lead n leaf ≡ true)
-
-mutual
-  lead_good : (n : ℕ) (g : Grammar) (leaf : NumLeaf) → Fine g → lead n g ≡ Some leaf → Good n leaf
-  lead_good n (node align form) leaf f h = form_good n form leaf f.1 (chosen (nat_eq align 1) leaf (form_lead n form) h).1
-
-  form_good : (n : ℕ) (form : Form) (leaf : NumLeaf) → FormFine form → form_lead n form ≡ Some leaf → Good n leaf
-  form_good n (num l) leaf f h =
-      let c = chosen (is_lead n l) leaf (Some l) h in
-      let same : l ≡ leaf = cc in
-      subst (Good n) same (f, c.0)
-  form_good n (seq fields home) leaf f h = fields_good n fields leaf f (chosen (nat_eq (presence_count fields) 0) leaf (fields_lead n fields) h).1
-  form_good n (octets sizing) leaf f h = cc
-  form_good n (bits sizing) leaf f h = cc
-  form_good n (text t) leaf f h = cc
-  form_good n (list sizing g) leaf f h = cc
-  form_good n (choice cases rule) leaf f h = cc
-  form_good n (contained sizing g) leaf f h = cc
-
-  fields_good : (n : ℕ) (fs : Fields) (leaf : NumLeaf) → FieldsFine fs → fields_lead n fs ≡ Some leaf → Good n leaf
-  fields_good n no_fields leaf f h = cc
-  fields_good n (component name g Always default own fs) leaf f h = lead_good n g leaf f.0 h
-  fields_good n (component name g Bit default own fs) leaf f h = cc
-  fields_good n (component name g (When ts) default own fs) leaf f h = cc
-  fields_good n (inserted name g slot fs) leaf f h = lead_good n g leaf f.0 h
-
--- without rules too
-mutual
-  lead_kept : (n : ℕ) (g : Grammar) (leaf : NumLeaf) → lead n g ≡ Some leaf → is_lead n leaf ≡ true
-  lead_kept n (node align form) leaf h = form_kept n form leaf (chosen (nat_eq align 1) leaf (form_lead n form) h).1
-
-  form_kept : (n : ℕ) (form : Form) (leaf : NumLeaf) → form_lead n form ≡ Some leaf → is_lead n leaf ≡ true
-  form_kept n (num l) leaf h =
-      let c = chosen (is_lead n l) leaf (Some l) h in
-      let same : l ≡ leaf = cc in
-      subst (λ (x : NumLeaf). is_lead n x ≡ true) same c.0
-  form_kept n (seq fields home) leaf h = fields_kept n fields leaf (chosen (nat_eq (presence_count fields) 0) leaf (fields_lead n fields) h).1
-  form_kept n (octets sizing) leaf h = cc
-  form_kept n (bits sizing) leaf h = cc
-  form_kept n (text t) leaf h = cc
-  form_kept n (list sizing g) leaf h = cc
-  form_kept n (choice cases rule) leaf h = cc
-  form_kept n (contained sizing g) leaf h = cc
-
-  fields_kept : (n : ℕ) (fs : Fields) (leaf : NumLeaf) → fields_lead n fs ≡ Some leaf → is_lead n leaf ≡ true
-  fields_kept n no_fields leaf h = cc
-  fields_kept n (component name g Always default own fs) leaf h = lead_kept n g leaf h
-  fields_kept n (component name g Bit default own fs) leaf h = cc
-  fields_kept n (component name g (When ts) default own fs) leaf h = cc
-  fields_kept n (inserted name g slot fs) leaf h = lead_kept n g leaf h
-
-no_table_is : (t : Option Table) → has_no_table t ≡ true → t ≡ None
-no_table_is None h = refl
-no_table_is (Some t) h = cc
-
-pub some_of : {A B : Type 0} (f : A → B) (o : Option A) (x : A) (l : Option B) → option_map f o ≡ l → o ≡ Some x → l ≡ Some (f x)
-some_of f o x l e s = sym e ∙ ap (option_map f) s
-
--- a lead has no table
-pub lead_plain : (n : ℕ) (g : Grammar) (leaf : NumLeaf) → lead n g ≡ Some leaf → leaf.table ≡ None
-lead_plain n g leaf h =
-    let a = and_parts (is_wide n leaf.coding) (not leaf.little && has_no_table leaf.table) (lead_kept n g leaf h) in
-    no_table_is leaf.table (and_parts (not leaf.little) (has_no_table leaf.table) a.1).1
-
 lead_is_fine : (n : ℕ) (o : Option NumLeaf) → ((leaf : NumLeaf) → o ≡ Some leaf → Good n leaf) → lead_fine o ≡ true
 lead_is_fine n None good = refl
 lead_is_fine n (Some leaf) good = (good leaf refl).0
@@ -168,25 +98,6 @@ fine_turn lines i line h e f =
     (and_parts (leads_fine (facts_of line)) (list_all leads_fine (map facts_of (drop (i + 1) lines))) there).0
 
 -- The fault.
-
-record Law (p : List Bool) (leaf : NumLeaf) : Type 0 where
-  to : not_told p (Some leaf) ≡ true → LeadAmbiguous p (Some leaf)
-  from : LeadAmbiguous p (Some leaf) → not_told p (Some leaf) ≡ true
-
-leaf_law : (p : List Bool) (leaf : NumLeaf) → 1 ≤ length p → Good (length p) leaf → Law p leaf
-leaf_law p leaf some good =
-    let a = and_parts (is_wide (length p) leaf.coding) (not leaf.little && has_no_table leaf.table) good.1 in
-    let b = and_parts (not leaf.little) (has_no_table leaf.table) a.1 in
-    let l = begins_law leaf good.0 (no_table_is leaf.table b.1) p some leaf.coding refl (not-true leaf.little b.0) a.0 in
-    record { to = l.0; from = l.1 }
-
-told_to : (p : List Bool) (o : Option NumLeaf) → 1 ≤ length p → ((leaf : NumLeaf) → o ≡ Some leaf → Good (length p) leaf) → not_told p o ≡ true → LeadAmbiguous p o
-told_to p None some good h = tt
-told_to p (Some leaf) some good h = (leaf_law p leaf some (good leaf refl)).to h
-
-told_from : (p : List Bool) (o : Option NumLeaf) → 1 ≤ length p → ((leaf : NumLeaf) → o ≡ Some leaf → Good (length p) leaf) → LeadAmbiguous p o → not_told p o ≡ true
-told_from p None some good h = refl
-told_from p (Some leaf) some good h = (leaf_law p leaf some (good leaf refl)).from h
 
 end_take : (path : List ℕ) (sizing : Sizing) (o : Option (List Bool)) (g : Grammar) (f : CheckFault) → Fine g → list_rule_fine o sizing ≡ true
     → given o (λ p. only_if (not_told p (lead (length p) g)) (terminator_ambiguous path)) ≡ Some f → (terminator_ambiguous path ≡ f) × EndAmbiguous o g

@@ -1,6 +1,5 @@
 mod Answering
 mod Assembly
-mod BeginsLaw
 mod Cases
 mod DetLaw
 mod FirstOf

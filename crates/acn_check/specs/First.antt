@@ -1,16 +1,14 @@
 -- The first fault of each kind, computed over the nodes in preorder.
-use Rattle.std.specs.Prelude.{◌≡◌, ℕ, zero, suc, ◌+◌, ◌-◌, ◌*◌, ◌/◌, ◌%◌, ◌^◌, min, ℤ, pos, neg_ℤ, int_le, int_lt, nat_eq, nat_lt, nat_le, take, Bool, true, false, not, ◌&&◌, ◌||◌, List, [], ◌∷◌, ◌++◌, length, map, Option, Some, None, option_map, if◌then◌else◌, slice_get, slice_set, Result, Ok, Err, MatchOption}
+use Rattle.std.specs.Prelude.{◌≡◌, ℕ, zero, suc, ◌+◌, ◌-◌, ◌*◌, ◌%◌, ◌^◌, min, ℤ, pos, int_le, nat_eq, nat_lt, nat_le, Bool, true, false, not, ◌&&◌, ◌||◌, List, [], ◌∷◌, ◌++◌, length, map, Option, Some, None, option_map, if◌then◌else◌, slice_get, slice_set, Result, Ok, Err, MatchOption}
 use Rattle.std.specs.List.{list_any, list_all, cons_option}
 use Rattle.std.specs.Ordering.{int_eq}
-use Rattle.acn_num.specs.Bits.{number}
 use Rattle.acn_num.specs.Ranges.{has, distance}
 use Rattle.acn_grammar.specs.Asks.{same_name}
 use Rattle.acn_grammar.specs.Check.{CheckFault, forward, det_kind, det_width, overlap, absent_unclear, unused, no_item, mixed_choice, too_long, too_many_open, too_many_conditions, too_many_values, terminator_ambiguous, lead}
 use Rattle.acn_grammar.specs.Faults.{check_fault_of}
 use Rattle.acn_grammar.specs.Grammar.{Grammar, Form, num, list, choice}
 use Rattle.acn_grammar.specs.Interval.{span, value_count, width_of}
-use Rattle.acn_grammar.specs.Images.{images_of}
-use Rattle.acn_grammar.specs.Leaves.{num_fine, same_bits, all_differ}
+use Rattle.acn_grammar.specs.Leaves.{all_differ}
 use Rattle.acn_grammar.specs.Length.{ending}
 use Rattle.acn_grammar.specs.Slots.{first_of_two}
 use Rattle.acn_grammar.specs.Tree.{has_tests}
@@ -19,13 +17,12 @@ use Rattle.acn_grammar.specs.declared.check_fault.CheckFault as program
 use Rattle.acn_grammar.specs.declared.node.NumKind.{NumKind}
 use Rattle.acn_grammar.specs.declared.node.NumKind.TheVariants.{Integer, Boolean, Enumerated}
 use Rattle.acn_grammar.specs.declared.node.NumLeaf.{NumLeaf}
-use Rattle.acn_grammar.specs.declared.node.NumCoding.{NumCoding}
-use Rattle.acn_grammar.specs.declared.node.NumCoding.TheVariants.{Range, PosInt, Twos, Flag as Patterns, Fixed}
 use Rattle.acn_grammar.specs.declared.node.Test.{Test}
 use Rattle.acn_grammar.specs.declared.node.Test.TheVariants.{Flag, Equals}
 use Rattle.acn_grammar.specs.declared.node.ChoiceRule.{ChoiceRule}
 use Rattle.acn_grammar.specs.declared.node.ChoiceRule.TheVariants.{Tests, Item}
 use Rattle.acn_check.specs.Facts.{Facts}
+use Rattle.acn_leads.specs.Begins.{not_told, lead_fine}
 use Rattle.acn_check.specs.declared.clashes.TheConstants.{MARK_FACTOR, MARK_PRIME}
 use Rattle.acn_num.specs.declared.limits.TheConstants.{LEAST_NUMBER, GREATEST_NUMBER}
 use Rattle.acn_grammar.specs.declared.limits.TheConstants.{MOST_DETERMINANT_BITS, MOST_PACKET_BITS, MOST_OPEN_SLOTS, MOST_CONDITIONS, MOST_VALUES}
@@ -301,36 +298,6 @@ many_values root = only_if (nat_lt MOST_VALUES (value_count root)) (too_many_val
 
 -- 13. Lists that are ended by a pattern.
 
--- some number of the range, less low, has v in front of its k last bits
-abbrev pub hits : (low : ℤ) → (k v : ℕ) → ℤ × ℤ → Bool
-hits low k v r = int_le low r.1 && (nat_le v (distance low r.1 / 2 ^ k) && (int_lt r.0 low || nat_le (distance low r.0 / 2 ^ k) v))
-
--- with the first bit turned, so that numbers in two's complement have the order of their bits
-abbrev pub turned : List Bool → List Bool
-turned [] = []
-turned (b ∷ bs) = not b ∷ bs
-
-abbrev pub begins : (p whole : List Bool) → Bool
-begins p whole = nat_le (length p) (length whole) && same_bits (take (length p) whole) p
-
--- some code of these written numbers begins with the pattern
-abbrev pub begins_by : List Bool → NumCoding → List (ℤ × ℤ) → Bool
-begins_by p (Range low width) rs = list_any (hits low (width - length p) (number p)) rs
-begins_by p (PosInt width) rs = list_any (hits (pos 0) (width - length p) (number p)) rs
-begins_by p (Twos width) rs = list_any (hits (neg_ℤ (pos (2 ^ (width - 1)))) (width - length p) (number (turned p))) rs
-begins_by p (Patterns (Some a) (Some b)) rs = begins p a || begins p b
-begins_by p (Patterns _ _) rs = true
-begins_by p (Fixed a) rs = begins p a
-begins_by p _ rs = false
-
-abbrev pub can_begin : List Bool → NumLeaf → Bool
-can_begin p leaf = begins_by p leaf.coding (images_of leaf)
-
--- there is no lead, or a code of it begins with the pattern
-abbrev pub not_told : List Bool → Option NumLeaf → Bool
-not_told p None = true
-not_told p (Some leaf) = can_begin p leaf
-
 abbrev pub ambiguous_in : List ℕ → Form → Option CheckFault
 ambiguous_in path (list sizing g) = given (ending sizing.rule) (λ p. only_if (not_told p (lead (length p) g)) (terminator_ambiguous path))
 ambiguous_in path _ = None
@@ -339,10 +306,6 @@ abbrev pub ambiguous_at : ℕ → Facts → Option CheckFault
 ambiguous_at k f = ambiguous_in f.path f.form
 
 -- the leads of ended lists keep their rules, and no pattern is too long
-abbrev pub lead_fine : Option NumLeaf → Bool
-lead_fine None = true
-lead_fine (Some leaf) = num_fine leaf
-
 abbrev pub end_lead : Option (List Bool) → Grammar → Option NumLeaf
 end_lead None g = None
 end_lead (Some p) g = lead (length p) g

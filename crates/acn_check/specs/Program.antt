@@ -1,11 +1,8 @@
 -- What the program's types stand for.
 use Rattle.std.specs.Prelude.{◌≡◌, ℕ, ℤ, ◌<◌, ◌≤◌, ◌^◌, ◌-◌, Bool, true, false, List, [], ◌∷◌, length, Option, Some, None}
-use Rattle.acn_grammar.specs.Check.{lead}
 use Rattle.acn_grammar.specs.Grammar.{Form, choice}
-use Rattle.acn_grammar.specs.View.{OneField, a_component, an_inserted, alternatives_view}
+use Rattle.acn_grammar.specs.View.{alternatives_view}
 use Rattle.acn_grammar.specs.declared.node.Alternative.{Alternative}
-use Rattle.acn_grammar.specs.declared.node.NumLeaf.{NumLeaf}
-use Rattle.acn_grammar.specs.declared.node.Presence.TheVariants.{Always, Bit, When}
 use Rattle.acn_grammar.specs.declared.node.Test.{Test}
 use Rattle.acn_check.specs.Facts.{Facts}
 use Rattle.acn_grammar.specs.Walk.{Use, condition, item_of, size_of, conditions_of}
@@ -54,16 +51,3 @@ FewCases (f ∷ fs) = AreFew f × FewCases fs
 abbrev pub IsPut : Option (List (ℕ × ℤ)) → Bool → List (ℕ × ℤ) → Type 0
 IsPut o true values = o ≡ Some values
 IsPut o false values = o ≡ None
-
--- the number with which a SEQUENCE begins that has this field first
-abbrev pub field_lead : ℕ → OneField → Option NumLeaf
-field_lead n (a_component name g Always default own) = lead n g
-field_lead n (a_component name g Bit default own) = None
-field_lead n (a_component name g (When ts) default own) = None
-field_lead n (an_inserted name g slot) = lead n g
-
-abbrev pub is_bit : OneField → Bool
-is_bit (a_component name g Bit default own) = true
-is_bit (a_component name g Always default own) = false
-is_bit (a_component name g (When ts) default own) = false
-is_bit (an_inserted name g slot) = false

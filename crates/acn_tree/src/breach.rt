@@ -1,21 +1,18 @@
-ghost use Rattle.std.specs.Prelude.{◌≡◌, ◌+◌, ◌^◌, ◌<◌, ◌++◌, ◌∷◌, [], length, take, drop, get_or, OnOk, option_map, pos, not, position};
-ghost use Rattle.acn_num.specs.Bits.{number, weight as weight_of};
+ghost use Rattle.std.specs.Prelude.{◌≡◌, ◌+◌, ◌^◌, ◌<◌, ◌++◌, ◌∷◌, [], length, take, OnOk, option_map, pos, not, position};
 ghost use Rattle.acn_num.specs.Ranges.{has};
-ghost use Rattle.acn_grammar.specs.Asks.{same_name};
 ghost use Rattle.acn_tree.specs.Breaches.{found, found_at, first as first_why, refusal, place_breaches, why_of};
 ghost use Rattle.acn_grammar.specs.Faults.{why_of as why_of_reason};
 ghost use Rattle.acn_grammar.specs.Grammar.{list, list_of};
 ghost use Rattle.acn_grammar.specs.Length.{number_of as number_of_data};
-ghost use Rattle.acn_grammar.specs.Meets.{breach, breaches, form_breaches, field_breaches, alternative_breaches, run_breaches, first_of, unless, where_found, size_breach, end_breach, text_breach, first_end, bad_character, out_of_range, terminator_inside};
+ghost use Rattle.acn_grammar.specs.Meets.{breach, breaches, form_breaches, field_breaches, alternative_breaches, run_breaches, first_of, unless, where_found, size_breach, end_breach, text_breach, bad_character, out_of_range};
 ghost use Rattle.acn_tree.specs.Room.{InTree, HasRoom, FieldsHaveRoom, AlternativesHaveRoom, SizesAreSmall};
-ghost use Rattle.acn_grammar.specs.Spell.{octet_numbers};
 ghost use Rattle.acn_grammar.specs.View.{grammar_of, data_of, fields_view, places_view, elements_view, alternatives_view};
 
 use acn_grammar::{
     Alternative, Body, Field, Node, NumLeaf, Pattern, Sizing, TextLeaf, Unfit, UnfitReason, Value,
 };
 use acn_num::{Path, RangeSet};
-use arrayvec::ArrayVec;
+use acn_terminators::first_end;
 
 // What one place of a value breaks.
 #[derive(Clone, Copy)]
@@ -72,81 +69,16 @@ fn characters_meet(alphabet: &RangeSet, text: &[u8]) -> Result<(), Breach>
     Ok(())
 }
 
-fn weight(bit: bool) -> u8
-    ensures { result ≡ weight_of bit }
-{
-    if bit { 1 } else { 0 }
-}
-
-// The number that the bits of an octet spell.
-fn octet(bits: &[bool]) -> u8
-    requires { length bits.now ≡ 8 }
-    ensures { result ≡ number bits.now }
-{
-    let mut octet = 0u8;
-    for bit in bits {
-        octet = octet * 2 + weight(*bit);
-    }
-    octet
-}
-
-// The octets of a terminator.
-fn octets(end: &Pattern) -> ArrayVec<u8, 8>
-    ensures { result.items ≡ octet_numbers end.now }
-{
-    let bits = end.bits();
-    let mut octets = ArrayVec::new();
-    for k in 0..bits.len() / 8 {
-        octets.push(octet(&bits[8 * k..8 * k + 8]));
-    }
-    octets
-}
-
-// The octet at a place of a text and the terminator behind it.
-fn octet_at(text: &[u8], end: &[u8], k: usize) -> u8
-    requires { k < length text.now + length end.now }
-    ensures { result ≡ get_or (text.now ++ end.now) k 0 }
-{
-    if k < text.len() {
-        text[k]
-    } else {
-        end[k - text.len()]
-    }
-}
-
-// Whether the terminator stands at a place of the text and the terminator behind it.
-fn ends_at(end: &[u8], text: &[u8], i: usize) -> bool
-    requires { i < length text.now }
-    ensures { result ≡ same_name (take (length end.now) (drop i (text.now ++ end.now))) end.now }
-{
-    for k in 0..end.len() {
-        if octet_at(text, end, i + k) != end[k] {
-            return false;
-        }
-    }
-    true
-}
-
-// Whether the terminator occurs first at the text's end.
-fn ends_last(end: &[u8], text: &[u8]) -> Result<(), Breach>
-    ensures { found result ≡ first_why (where_found (first_end end.now text.now) terminator_inside) }
-{
-    for i in 0..text.len() {
-        if ends_at(end, text, i) {
-            return Err(Breach::TerminatorInside { index: i as u64 });
-        }
-    }
-    Ok(())
-}
-
 fn end_meets(end: &Option<Pattern>, text: &[u8]) -> Result<(), Breach>
     ensures { found result ≡ first_why (end_breach end.now text.now) }
 {
     match end {
-        Some(end) => {
-            let end = octets(end);
-            ends_last(end.as_slice(), text)
-        }
+        Some(end) => match first_end(end, text) {
+            Some(index) => Err(Breach::TerminatorInside {
+                index: index as u64,
+            }),
+            None => Ok(()),
+        },
         None => Ok(()),
     }
 }

@@ -25,13 +25,15 @@ use Rattle.acn_grammar.specs.declared.node.Table.{Table}
 use Rattle.acn_grammar.proofs.FineLeaves.{rules_of, no_values}
 use Rattle.acn_grammar.proofs.Within.{image_has}
 use Rattle.acn_packet_laws.proofs.Codes.{each_number_has_a_code}
-use Rattle.acn_check.specs.First.{hits, turned, begins, begins_by}
-use Rattle.acn_check.proofs.Assembly.{some_inj}
+use Rattle.acn_leads.specs.Begins.{hits, turned, begins, begins_by}
 use Rattle.std.proofs.lemmas.Bool.{le-leb, leb-true, or_left, or_right, and_parts}
 use Rattle.acn_grammar.proofs.WholeTests.{either, le_fact, lt_fact, eq_fact, le_test, ge_fact}
 use Rattle.acn_grammar.proofs.Codings.{same_bits-refl, patterns_differ, same_bits-is}
 use Rattle.std.proofs.Math.Seq.{take-append_seam}
 use Rattle.acn_grammar.proofs.HasImage.{Ordered, set_ordered}
+
+some_same : {A : Type 0} (x y : A) → Some x ≡ Some y → x ≡ y
+some_same x y e = cc
 
 -- what the first bits leave of a number that is less
 pub none_left : (n k : ℕ) → n < 2 ^ k → n / 2 ^ k ≡ 0
@@ -262,7 +264,7 @@ module _ (leaf : NumLeaf) (fine : IsTrue (num_fine leaf)) (plain : leaf.table �
       let t = hit_any low (width - length p) (number (order p)) (images_of leaf) (images_ordered leaf fine plain) h in
       let i = image_back leaf fine plain t.y t.there in
       let c = each_number_has_a_code Any leaf fine i.x i.permitted in
-      let same : c.1.image ≡ t.y = some_inj c.1.image t.y (sym c.1.maps ∙ i.maps) in
+      let same : c.1.image ≡ t.y = some_same c.1.image t.y (sym c.1.maps ∙ i.maps) in
       let k = r.code i.x c.0 c.1 in
       let far : distance low t.y ≡ number (order c.0) = ap (distance low) (sym same ∙ k.1) ∙ distance_of low (number (order c.0)) in
       let long : length p ≤ length c.0 = omega (arith, r.wide, k.0) in

@@ -1,6 +1,6 @@
 use Rattle.std.proofs.Common.{arith, refl, false, get_or}
 use mir.Val.{bool_byte}
-use Rattle.acn_check.proofs.ends.number_of.Goals as goal
+use Rattle.acn_leads.proofs.begins.number_of.Goals as goal
 use Rattle.acn_grammar.proofs.Numbers.{push_bit}
 
 pub overflow_mul-n : goal.overflow_mul-n

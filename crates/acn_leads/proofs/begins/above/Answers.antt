@@ -1,7 +1,7 @@
 use Rattle.std.proofs.Common.{arith, subst, ℕ, ◌<◌, ◌^◌}
 use Rattle.acn_num.specs.Ranges.{distance}
-use Rattle.acn_check.proofs.BeginsLaw.{far_left}
-use Rattle.acn_check.proofs.ends.above.Goals as goal
+use Rattle.acn_leads.proofs.BeginsLaw.{far_left}
+use Rattle.acn_leads.proofs.begins.above.Goals as goal
 
 pub returns-then-bits-ge128 : goal.returns-then-bits-ge128
 returns-then-bits-ge128 c =

@@ -1,0 +1,2 @@
+mod BeginsLaw
+pub mod LeadLaw

@@ -1,9 +1,0 @@
-use Rattle.std.proofs.Common.{◌≡◌, ◌*◌, ◌++◌, length, drop}
-use Rattle.acn_grammar.specs.Spell.{octet_numbers}
-use Rattle.acn_tree.proofs.breach.octets.Given as goal
-
-abbrev pub invariant-loop-k : goal.invariant-loop-k
-invariant-loop-k l = record {
-  count : length l.octets.items ≡ l.k;
-  same : l.octets.items ++ octet_numbers (drop (8 * l.k) l.bits) ≡ octet_numbers l.bits;
-}
