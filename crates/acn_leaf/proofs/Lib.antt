@@ -4,7 +4,7 @@ mod CodeLengths
 mod Differ
 mod NumParts
 mod Pairs
--- for acn_check
+-- for acn_leads
 pub mod Patterns
 mod Rising
 mod Sides
