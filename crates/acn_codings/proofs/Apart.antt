@@ -1,5 +1,5 @@
--- Whole numbers and sets lie between their ends, and a line at which no fault is keeps its rules.
-use Rattle.std.proofs.Common.{◌≡◌, Bool, true, false, ℤ, pos, negsuc, ◌≤ℤ◌, ◌<ℤ◌, ◌+ℤ◌, ◌-ℤ◌, [], ◌∷◌, Option, Some, None, refl, arith}
+-- Whole numbers and sets lie between their ends.
+use Rattle.std.proofs.Common.{◌≡◌, true, ℤ, pos, negsuc, ◌≤ℤ◌, ◌<ℤ◌, ◌+ℤ◌, ◌-ℤ◌, [], ◌∷◌, Option, Some, None, refl, arith}
 use Rattle.std.proofs.lemmas.Bool.{and_parts}
 use Rattle.std.proofs.lemmas.Bool.Decides.{nat_tests}
 use Rattle.std.proofs.lemmas.Int.{ints, clamps}
@@ -8,20 +8,13 @@ use Rattle.std.specs.Int.{int_max}
 use Rattle.acn_num.specs.Ranges.{Ranges, Above, AreRanges, bottom, top, least, greatest}
 use Rattle.acn_grammar.specs.Leaves.{is_number, line_fine}
 use Rattle.acn_codings.specs.Left.{end_or}
-use Rattle.acn_codings.specs.Tables.{Line, line_fault}
+use Rattle.acn_codings.specs.Tables.{Line}
 
 pub low : (x : ℤ) → is_number x ≡ true → negsuc 9223372036854775807 ≤ℤ x
 low x h = grind (arith, ints, nat_tests)
 
 pub high : (x : ℤ) → is_number x ≡ true → x ≤ℤ pos 18446744073709551615
 high x h = grind (arith, ints, nat_tests)
-
-pub none_fine : (keys images : Ranges) (l : Line) → line_fault keys images l ≡ None → line_fine l ≡ true
-none_fine keys images l h = by (line_fine l) refl
-  where
-    by : (t : Bool) → line_fine l ≡ t → line_fine l ≡ true
-    by true e = e
-    by false e = absurd (cc)
 
 greatest_from : (b : ℤ) (s : Ranges) (x : ℤ) → Above b s → greatest s ≡ Some x → (b <ℤ x) × (x ≤ℤ top)
 greatest_from b [] x h e = cc

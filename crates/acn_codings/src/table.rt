@@ -1,10 +1,12 @@
-ghost use Rattle.std.specs.Prelude.{◌≡◌, ◌≤ℤ◌, ◌+ℤ◌, ◌-ℤ◌, IfOk, true, option_map};
+ghost use Rattle.std.specs.Prelude.{◌≡◌, ◌≤◌, ◌≤ℤ◌, ◌+ℤ◌, ◌-ℤ◌, ◌&&◌, IfOk, true, [], length, map, option_map, take};
+ghost use Rattle.std.specs.List.{list_all};
 ghost use Rattle.acn_num.specs.Ranges.{some_range, least, bottom, top};
+ghost use Rattle.acn_num.specs.Unions.{unions};
 ghost use Rattle.acn_grammar.specs.Leaves as leaves;
 ghost use Rattle.acn_codings.specs.Tables as spec;
 
 use acn_acn_syntax::{MapLine, Signed};
-use acn_leaf::is_number;
+use acn_leaf::{is_number, one_to_one};
 use acn_num::{NoMemory, RangeSet, greater, is_at_most, less};
 use acn_set_elements::signed;
 use std::alloc::Global;
@@ -25,6 +27,16 @@ pub fn line_of(line: &MapLine) -> (i128, i128, i128)
         None => first,
     };
     (first, last, number_of(&line.image))
+}
+
+fn lines_of(alloc: Global, lines: &[MapLine]) -> Result<Vec<(i128, i128, i128)>, NoMemory>
+    ensures { IfOk result (λ all. all.items ≡ map spec.line_of lines.now) }
+{
+    let mut all = Vec::new(alloc);
+    for line in lines {
+        all.push(line_of(line))?;
+    }
+    Ok(all)
 }
 
 // The number as far from `to` as `at` is from `from`.
@@ -66,6 +78,49 @@ fn images(alloc: Global, line: &(i128, i128, i128)) -> Result<RangeSet, NoMemory
 {
     let last = shifted(&line.2, &line.0, &line.1);
     RangeSet::between(alloc, line.2, last)
+}
+
+fn all_keys(alloc: Global, lines: &[(i128, i128, i128)]) -> Result<RangeSet, NoMemory>
+    requires { list_all leaves.line_fine lines.now ≡ true }
+    ensures { IfOk result (λ s. s ≡ unions [] (map spec.keys lines.now)) }
+{
+    let mut sets = Vec::new(alloc);
+    for line in lines {
+        sets.push(keys(alloc, line)?)?;
+    }
+    RangeSet::empty(alloc).union_all(alloc, &sets)
+}
+
+fn all_images(alloc: Global, lines: &[(i128, i128, i128)]) -> Result<RangeSet, NoMemory>
+    requires { list_all leaves.line_fine lines.now ≡ true }
+    ensures { IfOk result (λ s. s ≡ unions [] (map spec.images lines.now)) }
+{
+    let mut sets = Vec::new(alloc);
+    for line in lines {
+        sets.push(images(alloc, line)?)?;
+    }
+    RangeSet::empty(alloc).union_all(alloc, &sets)
+}
+
+// How many lines at the front of a table are one to one. Where not all are, it is looked for by halves.
+fn fine_front(lines: &[(i128, i128, i128)]) -> usize
+    ensures within { result ≤ length lines.now }
+    ensures fine { (list_all leaves.line_fine (take result lines.now) && leaves.all_differ leaves.share (take result lines.now)) ≡ true }
+{
+    if one_to_one(lines) {
+        return lines.len();
+    }
+    let mut fine = 0;
+    let mut end = lines.len();
+    while fine + 1 < end {
+        let middle = fine + (end - fine) / 2;
+        if one_to_one(&lines[..middle]) {
+            fine = middle;
+        } else {
+            end = middle;
+        }
+    }
+    fine
 }
 
 // The lesser of two numbers that may be there.
@@ -121,25 +176,40 @@ fn line_fault(
     }
 }
 
-/// The first key at which a table is at fault, where it is: the first key of a line that is turned round or leaves the
-/// numbers, else the least key of a line that an earlier line gives, or whose image one gives.
-#[tactic(auto, unfolding(crate::specs::Tables::table_fault), using(crate::proofs::Apart::none_fine))]
-pub fn table_fault(alloc: Global, lines: &[MapLine]) -> Result<Option<i128>, NoMemory>
-    ensures { IfOk result (λ k. k ≡ spec.table_fault lines.now) }
+// The first fault of the lines behind some at which there is none.
+fn fault_behind(
+    alloc: Global,
+    front: &[(i128, i128, i128)],
+    behind: &[(i128, i128, i128)],
+) -> Result<Option<i128>, NoMemory>
+    requires { list_all leaves.line_fine front.now ≡ true }
+    ensures { IfOk result (λ k. k ≡ spec.fault_behind (unions [] (map spec.keys front.now)) (unions [] (map spec.images front.now)) behind.now) }
 {
-    let mut keys_before = RangeSet::empty(alloc);
-    let mut images_before = RangeSet::empty(alloc);
-    for written in lines {
-        let line = line_of(written);
-        match line_fault(alloc, &keys_before, &images_before, &line)? {
+    if behind.is_empty() {
+        return Ok(None);
+    }
+    let mut keys_before = all_keys(alloc, front)?;
+    let mut images_before = all_images(alloc, front)?;
+    for line in behind {
+        match line_fault(alloc, &keys_before, &images_before, line)? {
             Some(key) => return Ok(Some(key)),
             None => {
-                keys_before = keys_before.union(alloc, &keys(alloc, &line)?)?;
-                images_before = images_before.union(alloc, &images(alloc, &line)?)?;
+                keys_before = keys_before.union(alloc, &keys(alloc, line)?)?;
+                images_before = images_before.union(alloc, &images(alloc, line)?)?;
             }
         }
     }
     Ok(None)
+}
+
+/// The first key at which a table is at fault, where it is: the first key of a line that is turned round or leaves the
+/// numbers, else the least key of a line that an earlier line gives, or whose image one gives.
+pub fn table_fault(alloc: Global, lines: &[MapLine]) -> Result<Option<i128>, NoMemory>
+    ensures { IfOk result (λ k. k ≡ spec.table_fault lines.now) }
+{
+    let lines = lines_of(alloc, lines)?;
+    let (front, behind) = lines.split_at(fine_front(&lines));
+    fault_behind(alloc, front, behind)
 }
 
 // The keys of a line whose images lie from `low` to `high`.

@@ -1,0 +1,7 @@
+use Rattle.std.proofs.Common.{◌≡◌, ◌++◌, drop}
+use Rattle.std.specs.Prelude.{map}
+use Rattle.acn_codings.specs.Tables.{images}
+use Rattle.acn_codings.proofs.table.all_images.Given as goal
+
+abbrev pub invariant-loop-line : goal.invariant-loop-line
+invariant-loop-line l = l.sets.items ++ map images (drop l.line-index l.lines) ≡ map images l.lines
