@@ -7,7 +7,7 @@ use Rattle.std.specs.Cmp.{both_ways}
 use Rattle.std.specs.Ordering.{int_cmp, ordering_then, is_lt}
 use Rattle.std.proofs.lemmas.Bool.{and_parts, and_from, and_left, and_right, or_parts, or_from, not-true, not_from_false}
 use Rattle.std.proofs.lemmas.Int.{ints}
-use Rattle.std.proofs.lemmas.List.{take-append-drop, drop_more, drop_all}
+use Rattle.std.proofs.lemmas.List.{take-append-drop, drop_more}
 use Rattle.std.proofs.lemmas.List.Folds.{list_any-append, list_any_more, list_any_at}
 use Rattle.std.proofs.lemmas.List.Sorted.{list_any-IsPermutation}
 use Rattle.acn_grammar.specs.Leaves.{all_differ}
@@ -96,9 +96,6 @@ pub record Halved (q : ℤ × ℤ) (rs : List (ℤ × ℤ)) (low high : ℕ) : T
   pub within : high ≤ length rs
   pub before : list_any (meet q) (take low rs) ≡ false
   pub behind : list_any (meet q) (drop high rs) ≡ false
-
-pub all_of_them : (q : ℤ × ℤ) (rs : List (ℤ × ℤ)) → Halved q rs 0 (length rs)
-all_of_them q rs = record { order = omega arith; within = omega arith; before = refl; behind = ap (list_any (meet q)) (drop_all (length rs) rs (omega arith)) }
 
 pub more_before : (q : ℤ × ℤ) (rs : List (ℤ × ℤ)) (low high m : ℕ) (d : ℤ × ℤ) → Rises rs → Halved q rs low high → m < high → int_lt (get_or rs m d).1 q.0 ≡ true → Halved q rs (m + 1) high
 more_before q rs low high m d rises h inside t =
