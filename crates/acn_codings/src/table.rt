@@ -1,6 +1,6 @@
 ghost use Rattle.std.specs.Prelude.{◌≡◌, ◌≤◌, ◌≤ℤ◌, ◌+ℤ◌, ◌-ℤ◌, ◌&&◌, IfOk, true, [], length, map, option_map, take};
 ghost use Rattle.std.specs.List.{list_all};
-ghost use Rattle.acn_num.specs.Ranges.{some_range, least, bottom, top};
+ghost use Rattle.acn_num.specs.Ranges.{some_range, least, union, bottom, top};
 ghost use Rattle.acn_num.specs.Unions.{unions};
 ghost use Rattle.acn_grammar.specs.Leaves as leaves;
 ghost use Rattle.acn_codings.specs.Tables as spec;
@@ -176,6 +176,30 @@ fn line_fault(
     }
 }
 
+fn with_keys(
+    alloc: Global,
+    before: &RangeSet,
+    line: &(i128, i128, i128),
+) -> Result<RangeSet, NoMemory>
+    requires { leaves.line_fine line.now ≡ true }
+    ensures { IfOk result (λ s. s ≡ union before.now (spec.keys line.now)) }
+{
+    let more = keys(alloc, line)?;
+    before.union(alloc, &more)
+}
+
+fn with_images(
+    alloc: Global,
+    before: &RangeSet,
+    line: &(i128, i128, i128),
+) -> Result<RangeSet, NoMemory>
+    requires { leaves.line_fine line.now ≡ true }
+    ensures { IfOk result (λ s. s ≡ union before.now (spec.images line.now)) }
+{
+    let more = images(alloc, line)?;
+    before.union(alloc, &more)
+}
+
 // The first fault of the lines behind some at which there is none.
 fn fault_behind(
     alloc: Global,
@@ -194,8 +218,8 @@ fn fault_behind(
         match line_fault(alloc, &keys_before, &images_before, line)? {
             Some(key) => return Ok(Some(key)),
             None => {
-                keys_before = keys_before.union(alloc, &keys(alloc, line)?)?;
-                images_before = images_before.union(alloc, &images(alloc, line)?)?;
+                keys_before = with_keys(alloc, &keys_before, line)?;
+                images_before = with_images(alloc, &images_before, line)?;
             }
         }
     }
