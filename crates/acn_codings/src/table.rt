@@ -200,6 +200,29 @@ fn with_images(
     before.union(alloc, &more)
 }
 
+// The first fault of lines behind others that give keys and images.
+fn fault_from(
+    alloc: Global,
+    keys_before: RangeSet,
+    images_before: RangeSet,
+    lines: &[(i128, i128, i128)],
+) -> Result<Option<i128>, NoMemory>
+    ensures { IfOk result (λ k. k ≡ spec.fault_behind keys_before images_before lines.now) }
+{
+    let mut given_keys = keys_before;
+    let mut given_images = images_before;
+    for line in lines {
+        match line_fault(alloc, &given_keys, &given_images, line)? {
+            Some(key) => return Ok(Some(key)),
+            None => {
+                given_keys = with_keys(alloc, &given_keys, line)?;
+                given_images = with_images(alloc, &given_images, line)?;
+            }
+        }
+    }
+    Ok(None)
+}
+
 // The first fault of the lines behind some at which there is none.
 fn fault_behind(
     alloc: Global,
@@ -212,18 +235,9 @@ fn fault_behind(
     if behind.is_empty() {
         return Ok(None);
     }
-    let mut keys_before = all_keys(alloc, front)?;
-    let mut images_before = all_images(alloc, front)?;
-    for line in behind {
-        match line_fault(alloc, &keys_before, &images_before, line)? {
-            Some(key) => return Ok(Some(key)),
-            None => {
-                keys_before = with_keys(alloc, &keys_before, line)?;
-                images_before = with_images(alloc, &images_before, line)?;
-            }
-        }
-    }
-    Ok(None)
+    let keys_before = all_keys(alloc, front)?;
+    let images_before = all_images(alloc, front)?;
+    fault_from(alloc, keys_before, images_before, behind)
 }
 
 /// The first key at which a table is at fault, where it is: the first key of a line that is turned round or leaves the
