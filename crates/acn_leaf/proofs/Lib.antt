@@ -2,6 +2,7 @@
 pub mod Blocks
 mod CodeLengths
 mod Differ
+mod NearLines
 mod NumParts
 mod Pairs
 -- for acn_leads

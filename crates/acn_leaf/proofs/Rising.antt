@@ -23,7 +23,7 @@ pub record Rises (rs : List (ℤ × ℤ)) : Type 0 where
   pub each : list_all is_range rs ≡ true
   pub rising : neighbours_differ reaches rs ≡ true
 
-in_order : (r : Range) (rs : List Range) → list_all is_range (r ∷ rs) ≡ true → r.0 ≤ℤ r.1
+pub in_order : (r : ℤ × ℤ) (rs : List (ℤ × ℤ)) → list_all is_range (r ∷ rs) ≡ true → r.0 ≤ℤ r.1
 in_order r rs h = le_fact r.0 r.1 (and_parts (is_range r) (list_all is_range rs) h).0
 
 -- Parts of them rise too.
@@ -38,13 +38,13 @@ tail r (s ∷ rs) h = record {
 next : (r s : Range) (rs : List Range) → Rises (r ∷ s ∷ rs) → r.1 <ℤ s.0
 next r s rs h = gt_fact s.0 r.1 (not-true _ (and_parts (not (reaches r s)) (neighbours_differ reaches (s ∷ rs)) h.rising).0)
 
-rises_behind : (xs ys : List Range) → Rises (xs ++ ys) → Rises ys
+pub rises_behind : (xs ys : List (ℤ × ℤ)) → Rises (xs ++ ys) → Rises ys
 rises_behind [] ys h = h
 rises_behind (x ∷ xs) ys h = rises_behind xs ys (tail x (xs ++ ys) h)
 
 -- What stands behind a range begins behind it, and what stands before one ends before it.
 
-later : (b : ℤ) (r : Range) (rs : List Range) → Rises (r ∷ rs) → b <ℤ r.0 → list_all (λ s. int_lt b s.0) (r ∷ rs) ≡ true
+pub later : (b : ℤ) (r : ℤ × ℤ) (rs : List (ℤ × ℤ)) → Rises (r ∷ rs) → b <ℤ r.0 → list_all (λ s. int_lt b s.0) (r ∷ rs) ≡ true
 later b r [] h l = and_from (int_lt b r.0) true (lt_test b r.0 l) refl
 later b r (s ∷ rs) h l =
     let o = in_order r (s ∷ rs) h.each in
@@ -55,7 +55,7 @@ of_all : (p : Range → Bool) (xs : List Range) (y : Range) (ys : List Range) �
 of_all p [] y ys h = (and_parts (p y) (list_all p ys) h).0
 of_all p (x ∷ xs) y ys h = of_all p xs y ys (and_parts (p x) (list_all p (xs ++ y ∷ ys)) h).1
 
-earlier : (c : ℤ) (xs : List Range) (y : Range) (ys : List Range) → Rises (xs ++ y ∷ ys) → y.0 ≤ℤ c → list_all (λ s. int_lt s.1 c) xs ≡ true
+pub earlier : (c : ℤ) (xs : List (ℤ × ℤ)) (y : ℤ × ℤ) (ys : List (ℤ × ℤ)) → Rises (xs ++ y ∷ ys) → y.0 ≤ℤ c → list_all (λ s. int_lt s.1 c) xs ≡ true
 earlier c [] y ys h l = refl
 earlier c (x ∷ xs) y ys h l =
     and_from (int_lt x.1 c) (list_all (λ s. int_lt s.1 c) xs) (by xs h) (earlier c xs y ys (tail x (xs ++ y ∷ ys) h) l)

@@ -6,6 +6,8 @@ ghost use Rattle.acn_grammar.specs.Leaves.{line_fine, num_fine};
 ghost use Rattle.acn_grammar.specs.Length as lengths;
 ghost use Rattle.acn_grammar.specs.declared.limits.TheConstants.{MOST_PATTERN_BITS};
 
+use crate::line_blocks::keys_rise;
+use crate::near::near;
 use crate::size_rules::apart;
 use crate::table_rules::image;
 use acn_grammar::{Bounds, NumCoding, NumLeaf, Pattern};
@@ -241,9 +243,11 @@ fn with_images(
     ensures least { result.least ≤ 2 ^ 40 }
     ensures greatest { result.greatest < 2 ^ 32 }
 {
+    let rise = keys_rise(lines);
     let mut bounds = all;
     for range in ranges {
-        bounds = with_lines(bounds, coding, range, lines);
+        let close = near(rise, range, lines);
+        bounds = with_lines(bounds, coding, range, close);
     }
     bounds
 }

@@ -6,6 +6,7 @@ mod leaf_rules;
 mod lengths;
 mod line_blocks;
 mod names;
+mod near;
 mod number_rules;
 mod numbers;
 mod size_rules;

@@ -8,6 +8,7 @@ ghost use Rattle.std.specs.List.{list_all, list_any};
 ghost use Rattle.acn_grammar.specs.Leaves as leaves;
 ghost use Rattle.acn_leaf.specs.Neighbours.{neighbours_differ, is_next};
 ghost use Rattle.acn_leaf.specs.Sides as spec;
+ghost use Rattle.acn_leaf.specs.declared.line_blocks.Side.TheVariants.{Keys};
 ghost use Rattle.acn_leaf.specs.declared.line_blocks.TheConstants.{BLOCK};
 
 use crate::table_rules::image;
@@ -170,6 +171,14 @@ fn side_differs(side: Side, lines: &[(i128, i128, i128)]) -> bool
         rest = behind;
     }
     true
+}
+
+/// Whether the keys of each line end before those of the next begin.
+pub fn keys_rise(lines: &[(i128, i128, i128)]) -> bool
+    requires { list_all leaves.line_fine lines.now ≡ true }
+    ensures { result ≡ neighbours_differ spec.reaches (map (spec.range_of Keys) lines.now) }
+{
+    lines_rise(Side::Keys, lines)
 }
 
 /// Whether no two lines have a key or an image in common.

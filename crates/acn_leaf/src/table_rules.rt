@@ -6,7 +6,8 @@ ghost use Rattle.acn_grammar.specs.Images as images;
 ghost use Rattle.acn_grammar.specs.Leaves as leaves;
 ghost use Rattle.acn_leaf.specs.Taken.{left_of};
 
-use crate::line_blocks::lines_differ;
+use crate::line_blocks::{keys_rise, lines_differ};
+use crate::near::near;
 use crate::number_rules::is_number;
 use crate::size_rules::apart;
 use acn_num::{RangeSet, greater, is_at_most, less};
@@ -85,9 +86,11 @@ fn left_by_ranges(left: u128, ranges: &[(i128, i128)], lines: &[(i128, i128, i12
     requires { list_all leaves.line_fine lines.now ≡ true }
     ensures { result ≡ left_of left (count (flat_map (λ r. flat_map (images.clipped r) lines.now) ranges.now)) }
 {
+    let rise = keys_rise(lines);
     let mut rest = left;
     for range in ranges {
-        match left_by_lines(rest, range, lines) {
+        let close = near(rise, range, lines);
+        match left_by_lines(rest, range, close) {
             Some(less) => rest = less,
             None => return None,
         }
@@ -168,9 +171,11 @@ pub fn image_ends(ranges: &[(i128, i128)], lines: &[(i128, i128, i128)]) -> Opti
     requires { list_all leaves.line_fine lines.now ≡ true }
     ensures { result ≡ images.ends (flat_map (λ r. flat_map (images.clipped r) lines.now) ranges.now) }
 {
+    let rise = keys_rise(lines);
     let mut wide = None;
     for range in ranges {
-        wide = widen_by_lines(&wide, range, lines);
+        let close = near(rise, range, lines);
+        wide = widen_by_lines(&wide, range, close);
     }
     wide
 }
