@@ -1,0 +1,4 @@
+pub mod Names
+pub mod Files
+pub mod Requests
+pub mod View

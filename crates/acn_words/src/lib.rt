@@ -1,0 +1,10 @@
+//! The words of a command, and what they ask for.
+#![tactic(auto)]
+
+mod files;
+mod names;
+mod requests;
+
+pub use files::MOST_FILES;
+pub use names::TypeName;
+pub use requests::{MOST_MADE, Request, read_words};

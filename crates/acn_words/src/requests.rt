@@ -1,0 +1,192 @@
+//! What words ask for.
+
+ghost use Rattle.std.specs.Prelude.{◌≡◌, ◌∷◌, option_map, map, string_bytes};
+ghost use Rattle.acn_words.specs.Requests as spec;
+ghost use Rattle.acn_words.specs.View.{request_view, type_view};
+
+use crate::files::are_files;
+use crate::names::{TypeName, type_named};
+use acn_lex::number_of;
+
+/// The most values that `work` makes.
+pub const MOST_MADE: u64 = 1_000_000;
+
+/// What the words of a command ask for. The files are the words behind the others.
+#[derive(Clone, Copy)]
+pub enum Request<'a> {
+    /// `check FILE..`: whether each root type can be decoded.
+    Check {
+        files: &'a [String],
+    },
+    /// `bounds FILE..`: the two bounds of each root type.
+    Bounds {
+        files: &'a [String],
+    },
+    /// `layout TYPE FILE..`: the nodes of a type.
+    Layout {
+        of: TypeName<'a>,
+        files: &'a [String],
+    },
+    /// `encode TYPE FILE..`: lines of JSON to packets.
+    Encode {
+        of: TypeName<'a>,
+        files: &'a [String],
+    },
+    /// `decode TYPE FILE..`: packets to lines of JSON.
+    Decode {
+        of: TypeName<'a>,
+        files: &'a [String],
+    },
+    /// `work TYPE START COUNT FILE..`: COUNT values that are drawn from START on, written and read.
+    Work {
+        of: TypeName<'a>,
+        start: u64,
+        count: u64,
+        files: &'a [String],
+    },
+}
+
+fn check<'a>(files: &'a [String]) -> Option<Request<'a>>
+    ensures { option_map request_view result ≡ spec.with_files spec.check (map string_bytes files.now) }
+{
+    if are_files(files) {
+        Some(Request::Check { files })
+    } else {
+        None
+    }
+}
+
+fn bounds<'a>(files: &'a [String]) -> Option<Request<'a>>
+    ensures { option_map request_view result ≡ spec.with_files spec.bounds (map string_bytes files.now) }
+{
+    if are_files(files) {
+        Some(Request::Bounds { files })
+    } else {
+        None
+    }
+}
+
+// TYPE and the FILEs behind it.
+fn type_and_files<'a>(of: &'a String, files: &'a [String]) -> Option<TypeName<'a>>
+    ensures { option_map type_view result ≡ option_map (λ p. p.0) (spec.type_and_files (string_bytes of.now ∷ map string_bytes files.now)) }
+{
+    match type_named(of.as_str().as_bytes()) {
+        Some(of) => { if are_files(files) { Some(of) } else { None } }
+        None => None,
+    }
+}
+
+fn layout<'a>(rest: &'a [String]) -> Option<Request<'a>>
+    ensures { option_map request_view result ≡ spec.with_type spec.layout (map string_bytes rest.now) }
+{
+    match rest {
+        [] => None,
+        [of, files @ ..] => match type_and_files(of, files) {
+            Some(of) => Some(Request::Layout { of, files }),
+            None => None,
+        },
+    }
+}
+
+fn encode<'a>(rest: &'a [String]) -> Option<Request<'a>>
+    ensures { option_map request_view result ≡ spec.with_type spec.encode (map string_bytes rest.now) }
+{
+    match rest {
+        [] => None,
+        [of, files @ ..] => match type_and_files(of, files) {
+            Some(of) => Some(Request::Encode { of, files }),
+            None => None,
+        },
+    }
+}
+
+fn decode<'a>(rest: &'a [String]) -> Option<Request<'a>>
+    ensures { option_map request_view result ≡ spec.with_type spec.decode (map string_bytes rest.now) }
+{
+    match rest {
+        [] => None,
+        [of, files @ ..] => match type_and_files(of, files) {
+            Some(of) => Some(Request::Decode { of, files }),
+            None => None,
+        },
+    }
+}
+
+// A number of values from 1 to `MOST_MADE`.
+fn count_of(word: &[u8]) -> Option<u64>
+    ensures { result ≡ spec.count_in word.now }
+{
+    let count = number_of(word)?;
+    if 1 <= count && count <= MOST_MADE {
+        Some(count)
+    } else {
+        None
+    }
+}
+
+fn made<'a>(
+    of: &TypeName<'a>,
+    start: Option<u64>,
+    count: Option<u64>,
+    files: &'a [String],
+) -> Option<Request<'a>>
+    ensures { option_map request_view result ≡ spec.made (type_view of.now) start count (map string_bytes files.now) }
+{
+    match (start, count) {
+        (Some(start), Some(count)) => Some(Request::Work {
+            of: *of,
+            start,
+            count,
+            files,
+        }),
+        (Some(_), None) => None,
+        (None, _) => None,
+    }
+}
+
+fn work_with<'a>(
+    of: &'a String,
+    start: &'a String,
+    count: &'a String,
+    files: &'a [String],
+) -> Option<Request<'a>>
+    ensures { option_map request_view result ≡ spec.work_with (string_bytes of.now) (string_bytes start.now) (string_bytes count.now) (map string_bytes files.now) }
+{
+    match type_named(of.as_str().as_bytes()) {
+        Some(of) => {
+            if are_files(files) {
+                let start = number_of(start.as_str().as_bytes());
+                let count = count_of(count.as_str().as_bytes());
+                made(&of, start, count, files)
+            } else {
+                None
+            }
+        }
+        None => None,
+    }
+}
+
+fn work<'a>(rest: &'a [String]) -> Option<Request<'a>>
+    ensures { option_map request_view result ≡ spec.with_work (map string_bytes rest.now) }
+{
+    match rest {
+        [of, start, count, files @ ..] => work_with(of, start, count, files),
+        _ => None,
+    }
+}
+
+/// What the words behind the program's name ask for. None exactly where they have none of the forms of `Request`.
+pub fn read_words(words: &[String]) -> Option<Request<'_>>
+    ensures { option_map request_view result ≡ spec.request_in (map string_bytes words.now) }
+{
+    let (command, rest) = words.split_first()?;
+    match command.as_str() {
+        "check" => check(rest),
+        "bounds" => bounds(rest),
+        "layout" => layout(rest),
+        "encode" => encode(rest),
+        "decode" => decode(rest),
+        "work" => work(rest),
+        _ => None,
+    }
+}
