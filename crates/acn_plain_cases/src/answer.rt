@@ -1,6 +1,7 @@
 //! Answers to cases.
 
-use acn_case_lines::{bits_in_words, octets_of, word};
+use crate::drawn::drawn_told;
+use acn_case_lines::{bits_in_words, octets_of, small, wide, word};
 use acn_case_trees::{Built, Sheet, path_in_words, unfit_in_words, value_in_words, value_of};
 use acn_check::{Checked, check};
 use acn_num::{Boxed, NoMemory};
@@ -81,6 +82,9 @@ fn write(alloc: Global, checked: &Checked, words: &[&str]) -> Result<String, NoM
 fn of_checked(alloc: Global, checked: &Checked, words: &[&str]) -> Result<String, NoMemory> {
     if word(words, 0) == "write" {
         return write(alloc, checked, words.get(1..).unwrap_or(&[]));
+    }
+    if word(words, 0) == "drawn" {
+        return drawn_told(alloc, checked, wide(words, 1), small(words, 2));
     }
     let octets = octets_of(alloc, words)?;
     read(alloc, checked, octets.as_slice())

@@ -3,10 +3,13 @@
 //! A tree stands in lines, as `acn_case_trees` says. A case `OCTETS =>` asks what `plain_decode` reads at the front of the octets by
 //! this tree; behind `;;` stand the parts of the tree. The answer is the number of bits and the value, or the path, the reason and the
 //! bit of a refusal. A case `write VALUE =>` asks what `plain_encode` writes for the value: the number of bits and their octets, the last
-//! one filled with zeros, or the path and the reason of a refusal.
+//! one filled with zeros, or the path and the reason of a refusal. A case `drawn START COUNT =>` asks of so
+//! many values that `make` draws from a start, one after the other, whether each is written and read again as itself, with ones behind it,
+//! or refused.
 #![tactic(auto)]
 
 mod answer;
+mod drawn;
 
 use acn_case_lines::{Line, line_of};
 use acn_case_trees::Sheet;

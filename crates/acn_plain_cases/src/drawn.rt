@@ -1,0 +1,137 @@
+//! Values that are drawn, written, and read again.
+
+ghost use Rattle.acn_grammar.specs.ItemsNamed.{ItemsNamed};
+ghost use Rattle.acn_grammar.specs.View.{grammar_of};
+
+use acn_case_trees::value_in_words;
+use acn_check::Checked;
+use acn_num::{BitList, Boxed, NoMemory};
+use acn_plain::{PlainFault, plain_decode, plain_encode};
+use acn_plain_read::MOST_PLAIN_BYTES;
+use acn_tree::{Draw, Refuse, Value, items_named, make, shaped};
+use std::alloc::Global;
+
+/// What became of a drawn value.
+enum Outcome {
+    /// It was written, and read again as itself, with as many bits.
+    ReadAgain,
+    /// It is refused.
+    Refused,
+    /// It was read as something else, or not at all.
+    Lost,
+}
+
+// The octets of the bits, the last one filled with ones, with an octet of ones behind them.
+fn filled_octets(alloc: Global, list: &BitList) -> Result<Vec<u8>, NoMemory> {
+    let mut octets = Vec::new(alloc);
+    let mut octet = 0xffu8;
+    for at in 0..list.len() {
+        if list.get(at) == Some(false) {
+            octet ^= 128u8 >> (at % 8) as u32;
+        }
+        if at % 8 == 7 {
+            octets.push(octet)?;
+            octet = 0xff;
+        }
+    }
+    octets.push(octet)?;
+    octets.push(0xff)?;
+    Ok(octets)
+}
+
+// Whether the octets begin with the value, of so many bits.
+fn begin_with(
+    alloc: Global,
+    checked: &Checked,
+    octets: &[u8],
+    value: &Value,
+    length: usize,
+) -> Result<bool, NoMemory>
+    requires { ItemsNamed (grammar_of checked.now.tree.root) }
+{
+    if octets.len() > MOST_PLAIN_BYTES {
+        return Ok(false);
+    }
+    match plain_decode(alloc, checked, octets) {
+        Ok((read, bits)) => {
+            let words = value_in_words(alloc, &read)?;
+            let wanted = value_in_words(alloc, value)?;
+            Ok(bits == length as u64 && words.as_str() == wanted.as_str())
+        }
+        Err(Refuse::Bad(_)) => Ok(false),
+        Err(Refuse::NoMemory) => Err(NoMemory),
+    }
+}
+
+fn outcome_of(alloc: Global, checked: &Checked, value: &Value) -> Result<Outcome, NoMemory>
+    requires { ItemsNamed (grammar_of checked.now.tree.root) }
+{
+    if !shaped(checked.tree().root(), value) {
+        return Ok(Outcome::Lost);
+    }
+    match plain_encode(alloc, checked, value) {
+        Ok(list) => {
+            let octets = filled_octets(alloc, &list)?;
+            if begin_with(alloc, checked, octets.as_slice(), value, list.len())? {
+                Ok(Outcome::ReadAgain)
+            } else {
+                Ok(Outcome::Lost)
+            }
+        }
+        Err(PlainFault::Unfit(_)) => Ok(Outcome::Refused),
+        Err(PlainFault::NoMemory) => Err(NoMemory),
+    }
+}
+
+fn next_outcome(alloc: Global, checked: &Checked, draw: &mut Draw) -> Result<Outcome, NoMemory>
+    requires { ItemsNamed (grammar_of checked.now.tree.root) }
+{
+    let value = Boxed::new(alloc, make(alloc, checked.tree(), draw)?)?;
+    outcome_of(alloc, checked, value.get())
+}
+
+// How many of the drawn values went which way.
+#[derive(Drop)]
+struct Counts {
+    read_again: u32,
+    refused: u32,
+    lost: u32,
+}
+
+fn told(alloc: Global, counts: &Counts) -> Result<String, NoMemory> {
+    if counts.lost > 0 {
+        Ok(format!(in alloc; "{} lost", counts.lost)?)
+    } else if counts.refused == 0 {
+        Ok(format!(in alloc; "all read again")?)
+    } else if counts.read_again == 0 {
+        Ok(format!(in alloc; "all refused")?)
+    } else {
+        Ok(format!(in alloc; "some read again, the others refused")?)
+    }
+}
+
+/// What became of so many values that are drawn from a start, one after the other.
+pub fn drawn_told(
+    alloc: Global,
+    checked: &Checked,
+    start: u64,
+    count: u32,
+) -> Result<String, NoMemory> {
+    if !items_named(checked.tree()) {
+        return Ok(format!(in alloc; "not named")?);
+    }
+    let mut draw = Draw::new(start);
+    let mut counts = Counts {
+        read_again: 0,
+        refused: 0,
+        lost: 0,
+    };
+    for _ in 0..count {
+        match next_outcome(alloc, checked, &mut draw)? {
+            Outcome::ReadAgain => counts.read_again = counts.read_again.saturating_add(1),
+            Outcome::Refused => counts.refused = counts.refused.saturating_add(1),
+            Outcome::Lost => counts.lost = counts.lost.saturating_add(1),
+        }
+    }
+    told(alloc, &counts)
+}
