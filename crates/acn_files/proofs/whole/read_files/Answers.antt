@@ -36,9 +36,11 @@ pub returns-in-Err-clause-failed : goal.returns-in-Err-clause-failed
 returns-in-Err-clause-failed g c = λ e.
     let x = c.index-names-number.result in
     let value : c.as_str.result.now ≡ string_bytes x = c.as_str.ensures.value in
-    let there = name_there string_bytes c.args.names.now c.loop-number.number x c.loop-number-test.true c.index-names-number.is in
-    (c.as_str.result.now, subst (λ (k : ℕ). slice_get (map string_bytes c.args.names.now) k ≡ Some c.as_str.result.now) (sym c.in-Err.ensures.number) (there ∙ ap Some (sym value)),
-    rose_back _ _ _ (c.loop-number.invariant.count c.as_str.result.now) (c.read_one.ensures.count c.as_str.result.now) (c.in-Err.ensures.failed e))
+    let there = name_there string_bytes c.args.names.now c.loop-number.number x c.loop-number-test.true c.index-names-number.is in (
+      c.as_str.result.now,
+      subst (λ (k : ℕ). slice_get (map string_bytes c.args.names.now) k ≡ Some c.as_str.result.now) (sym c.in-Err.ensures.number) (there ∙ ap Some (sym value)),
+      rose_back _ _ _ (c.loop-number.invariant.count c.as_str.result.now) (c.read_one.ensures.count c.as_str.result.now) (c.in-Err.ensures.failed e),
+    )
 
 pub returns-in-Err-clause-same : goal.returns-in-Err-clause-same
 returns-in-Err-clause-same g c = λ m. c.read_one.ensures.same m ∙ c.loop-number.invariant.same m
