@@ -7,7 +7,8 @@ use Rattle.acn_grammar.specs.declared.node.Field.{Field}
 use Rattle.acn_grammar.specs.declared.node.Body.{the_lemmas as node_lemmas}
 use Rattle.acn_grammar.specs.declared.node.Node.{Node}
 use Rattle.acn_tree.specs.declared.tree.Tree.{Tree}
-use Rattle.acn_report.specs.Names.{Child, named_in, field_named, alternative_named, step_from, and_on, steps_text, path_text}
+use Rattle.acn_report.specs.Names.{Child, named_in, field_named, alternative_named, step_from, and_on, steps_text, text_of}
+use Rattle.acn_report.specs.declared.step.Elements.{Elements}
 
 first_field : (f : OneField) (fs : Fields) → field_named (with_field f fs) zero ≡ Some (named_in f)
 first_field (a_component name g presence default own) fs = refl
@@ -38,12 +39,12 @@ alternative-past (x ∷ xs) zero h = absurd (omega arith)
 alternative-past (x ∷ xs) (suc k) h = alternative-past xs k (omega arith)
 
 -- one step of a path, and where it leads nowhere
-pub step_taken : (g : Grammar) (k : ℕ) (path : List ℕ) (c : Child) → Some c ≡ step_from g k → steps_text g (k ∷ path) ≡ c.0 ++ steps_text c.1 path
-step_taken g k path c e = ap (λ o. and_on o (λ inside. steps_text inside path)) (sym e)
+pub taken : (g : Grammar) (k : ℕ) (text : Child → List ℕ) (c : Child) → Some c ≡ step_from g k → and_on (step_from g k) text ≡ text c
+taken g k text c e = ap (λ o. and_on o text) (sym e)
 
-pub no_step : (g : Grammar) (k : ℕ) (path : List ℕ) → None ≡ step_from g k → steps_text g (k ∷ path) ≡ []
-no_step g k path e = ap (λ o. and_on o (λ inside. steps_text inside path)) (sym e)
+pub not_taken : (g : Grammar) (k : ℕ) (text : Child → List ℕ) → None ≡ step_from g k → and_on (step_from g k) text ≡ []
+not_taken g k text e = ap (λ o. and_on o text) (sym e)
 
 -- a path by its parts
-pub named_path : (tree : Tree) (path name steps : List ℕ) (root : Node) → name ≡ tree.name → root ≡ tree.root → steps ≡ path → name ++ steps_text (grammar_of root) steps ≡ path_text tree path
-named_path tree path name steps root a b c = rw (a, b, c) refl
+pub named_path : (elements : Elements) (tree : Tree) (path name steps : List ℕ) (root : Node) → name ≡ tree.name → root ≡ tree.root → steps ≡ path → name ++ steps_text elements (grammar_of root) steps ≡ text_of elements tree path
+named_path elements tree path name steps root a b c = rw (a, b, c) refl

@@ -6,7 +6,9 @@ use Rattle.acn_grammar.specs.declared.fault.Reason.{Reason}
 use Rattle.acn_grammar.specs.declared.fault.Reason.TheVariants.{Short, OutOfRange, NotMinimal, BadDigit, BadCharacter, BadPattern, TooLong, SizeOutOfRange, NoAlternative, ContentSize, PastContent}
 use Rattle.acn_grammar.specs.declared.unfit.Ask.{Ask}
 use Rattle.acn_grammar.specs.declared.unfit.Ask.TheVariants.{Equal, Avoid}
-use Rattle.acn_report.specs.Names.{path_text}
+use Rattle.acn_report.specs.Digits.{bits_text, hex_text}
+use Rattle.acn_report.specs.Names.{path_text, place_text, alternative_text}
+use Rattle.acn_report.specs.Slots.{slot_text, slot_names}
 use Rattle.acn_report.specs.declared.part.Part.{Part}
 use Rattle.acn_report.specs.declared.part.Part.TheVariants as part
 
@@ -39,6 +41,12 @@ part_text (part.Name name) = name.now
 part_text (part.Count n) = decimal n
 part_text (part.Number x) = signed_decimal x.now
 part_text (part.Path tree path) = path_text tree.now path.now
+part_text (part.Place tree path) = place_text tree.now path.now
+part_text (part.Slot tree s) = slot_text tree.now s
+part_text (part.SlotNames tree s) = slot_names tree.now s
+part_text (part.Alternative tree path k) = alternative_text tree.now path.now k
+part_text (part.Bits bits) = bits_text bits.now
+part_text (part.Hex bits) = hex_text bits.now
 part_text (part.Reason reason) = reason_text reason.now
 part_text (part.Earlier ask) = earlier_text ask.now
 part_text (part.Asked ask) = ask_text ask.now
