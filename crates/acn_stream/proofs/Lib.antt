@@ -1,0 +1,3 @@
+mod Ending
+mod Joining
+mod Taking
