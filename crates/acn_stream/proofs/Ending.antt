@@ -2,21 +2,34 @@
 use Rattle.std.proofs.Common.{◌≡◌, ◌⊎◌, ℕ, ◌+◌, ◌^◌, ◌<◌, ◌≤◌, List, [], ◌∷◌, ◌++◌, length, Option, None, Some, IfSome, inl, inr, subst, sym, ap, refl, ◌∙◌, arith, length-append, append_assoc, append-nil}
 use Rattle.acn_grammar.specs.Faults.{fault_of}
 use Rattle.acn_grammar.specs.Grammar.{Grammar}
+use Rattle.acn_bounds.specs.Between.{SpellingsLieBetween}
+use Rattle.acn_grammar.specs.Interval.{span}
 use Rattle.acn_grammar.specs.LeafFails.{short}
+use Rattle.acn_grammar.specs.declared.bounds.Bounds.{Bounds}
+use Rattle.acn_grammar.specs.declared.limits.TheConstants.{MOST_PACKET_BITS}
 use Rattle.acn_grammar.specs.declared.fault.Fault.{Fault}
 use Rattle.acn_outside.specs.Counts.{Rose}
 use Rattle.acn_outside.specs.Moves.{Takes, Gains, IsUsedUp}
 use Rattle.acn_outside.specs.Whole.{GainsFront}
 use Rattle.acn_outside.proofs.Joined.{gains_more}
 use Rattle.acn_stream.specs.Recording.{IsPacket, IsStuck, IsUnfinished, lines}
-use Rattle.acn_stream.specs.Decoding.{Begins, IsDone, IsRefused, IsTooLong, IsCutOff, IsFront, IsStopped, DecodeEnds}
-use Rattle.acn_stream.specs.Steps.{TakesMany, Pauses, SoFar, ahead, end_of}
+use Rattle.acn_stream.specs.Decoding.{Begins, IsRefused, IsTooLong, IsFront, IsStopped}
+use Rattle.acn_stream.specs.Steps.{IsBounded, TakesMany, Pauses, SoFar}
 use Rattle.acn_stream.specs.declared.packets.Pause.TheVariants.{Wants, Refused}
-use Rattle.acn_supply.specs.Reading.{Supplied, Grows, Ends, Passes}
+use Rattle.acn_supply.specs.Reading.{Supplied, Passes}
 use Rattle.acn_supply.specs.declared.window.TheConstants.{MOST_IN_HAND}
 use Rattle.acn_supply.proofs.Moving.{takes_nothing, takes_more}
 use Rattle.acn_stream.proofs.Joining.{joined_on, lines_on, gains_nothing}
 use Rattle.acn_stream.proofs.Taking.{short_is, not_short}
+
+-- ---- what is known of the grammar
+
+pub bounded : (g : Grammar) (b : Bounds) → b ≡ span g → 0 < b.least → b.greatest ≤ MOST_PACKET_BITS → SpellingsLieBetween g b → IsBounded g
+bounded g b exact some few between = record {
+  some = subst (λ (c : Bounds). 0 < c.least) exact some;
+  few = subst (λ (c : Bounds). c.greatest ≤ MOST_PACKET_BITS) exact few;
+  between = subst (SpellingsLieBetween g) exact between;
+}
 
 -- ---- so far
 
@@ -49,24 +62,6 @@ written_on g limit i i' o o' o'' s after old text count n so m none gains =
       written = subst (Gains o o'') (ap (λ (t : List ℕ). lines g so.values ++ t) there ∙ lines_on g so.values m.values) (gains_more o o' o'' (lines g so.values) text so.written gains);
     }
 
--- bytes more are in hand
-pub read_more : (g : Grammar) (limit : ℕ) (i i' i'' o o' : Option (List ℕ)) (s after : Supplied) (count : ℕ)
-    → SoFar g limit i i' o o' s count → Grows s after i' i'' → SoFar g limit i i'' o o' after count × (ahead after < ahead s)
-read_more g limit i i' i'' o o' s after count so m =
-    let whole : (so.packets ++ s.hand) ++ m.given ≡ so.packets ++ after.hand = append_assoc so.packets s.hand m.given ∙ ap (λ (t : List ℕ). so.packets ++ t) (sym m.added) in (
-      record {
-        values = so.values;
-        packets = so.packets;
-        recording = so.recording;
-        few = so.few;
-        taken = subst (Takes i i'') whole (takes_more i i' i'' (so.packets ++ s.hand) m.given so.taken m.taken);
-        counted = omega (arith, so.counted, m.counted, ap length whole, length-append (so.packets ++ s.hand) m.given);
-        all = so.all;
-        written = so.written;
-      },
-      omega (arith, m.some, m.counted, ap length m.added, length-append s.hand m.given),
-    )
-
 -- the counts can be kept
 pub room : (g : Grammar) (limit : ℕ) (i i' o o' : Option (List ℕ)) (s : Supplied) (count : ℕ) → SoFar g limit i i' o o' s count → limit < 2 ^ 64 → count + length s.hand < 2 ^ 64
 room g limit i i' o o' s count so below = omega (arith, so.few, so.all, so.counted, below, length-append so.packets s.hand)
@@ -81,21 +76,6 @@ begins g limit i i' o o' s count so few = record { packets = so.packets; whole =
 
 nothing_more : (i i' i'' : Option (List ℕ)) (given : List ℕ) → Takes i i' given → Takes i' i'' [] → Takes i i'' given
 nothing_more i i' i'' given a b = subst (Takes i i'') (append-nil given) (takes_more i i' i'' given [] a b)
-
-pub done : (g : Grammar) (limit : ℕ) (i i' i'' o o' : Option (List ℕ)) (s after : Supplied) (count : ℕ)
-    → SoFar g limit i i' o o' s count → s.hand ≡ [] → Ends s after i' i'' → IsDone g limit i i'' o o' count
-done g limit i i' i'' o o' s after count so none e =
-    let all : so.packets ++ s.hand ≡ so.packets = ap (λ (t : List ℕ). so.packets ++ t) none ∙ append-nil so.packets in
-    record {
-      given = so.packets;
-      values = so.values;
-      taken = subst (Takes i i'') all (nothing_more i i' i'' (so.packets ++ s.hand) so.taken e.taken);
-      used_up = e.used_up;
-      recording = so.recording;
-      within = omega (arith, so.counted, ap length all);
-      counted = so.all;
-      written = so.written;
-    }
 
 pub refused : (g : Grammar) (limit : ℕ) (i i' i'' o o' : Option (List ℕ)) (s : Supplied) (count : ℕ) (fault : Fault)
     → SoFar g limit i i' o o' s count → Takes i' i'' [] → length s.hand ≤ MOST_IN_HAND → IsStuck g s.hand (fault_of fault) → ((fault_of fault).reason ≡ short → IsUsedUp i'') → IsRefused g limit i i'' o o' (count + 1) fault
@@ -129,11 +109,6 @@ unfinished : (g : Grammar) (hand : List ℕ) (wanting : Option Fault) → Pauses
 unfinished g hand None p = inl p
 unfinished g hand (Some fault) p = inr (fault_of fault, p.0.reach, p.0.fails, short_is fault.reason p.1)
 
-pub ended : (g : Grammar) (limit : ℕ) (i i' i'' o o' : Option (List ℕ)) (s after : Supplied) (count : ℕ) (wanting : Option Fault)
-    → SoFar g limit i i' o o' s count → Pauses g s.hand (Wants wanting) → Ends s after i' i'' → DecodeEnds g limit i i'' o o' (end_of count wanting)
-ended g limit i i' i'' o o' s after count None so p e = done g limit i i' i'' o o' s after count so p e
-ended g limit i i' i'' o o' s after count (Some fault) so p e = refused g limit i i' i'' o o' s count fault so e.taken (omega (arith, p.2)) p.0 (λ short. e.used_up)
-
 pub passed : (g : Grammar) (limit : ℕ) (i i' i'' o o' : Option (List ℕ)) (s after : Supplied) (count : ℕ) (wanting : Option Fault)
     → SoFar g limit i i' o o' s count → Pauses g s.hand (Wants wanting) → Passes s after i' i'' → IsTooLong g limit i i'' o o'
 passed g limit i i' i'' o o' s after count wanting so p m =
@@ -145,20 +120,6 @@ passed g limit i i' i'' o o' s after count wanting so p m =
       rest = s.hand;
       taken = takes_more i i' i'' (so.packets ++ s.hand) (m.byte ∷ []) so.taken m.taken;
       full = omega (arith, so.counted, m.none_left);
-      begins = begins g limit i i' o o' s count so (omega (arith, few));
-      unfinished = unfinished g s.hand wanting p;
-      written = so.written;
-    }
-
-pub cut_off : (g : Grammar) (limit : ℕ) (i i' i'' o o' : Option (List ℕ)) (s : Supplied) (count : ℕ) (wanting : Option Fault)
-    → SoFar g limit i i' o o' s count → Pauses g s.hand (Wants wanting) → i'' ≡ i' → IsCutOff g limit i i'' o o'
-cut_off g limit i i' i'' o o' s count wanting so p same =
-    let few = wants_few g s.hand wanting p in
-    record {
-      given = so.packets ++ s.hand;
-      values = so.values;
-      rest = s.hand;
-      taken = subst (λ (t : Option (List ℕ)). Takes i t (so.packets ++ s.hand)) (sym same) so.taken;
       begins = begins g limit i i' o o' s count so (omega (arith, few));
       unfinished = unfinished g s.hand wanting p;
       written = so.written;

@@ -1,3 +1,6 @@
+mod Bits
 mod Ending
 mod Joining
+mod LinesGiving
+mod LinesPassing
 mod Taking

@@ -2,8 +2,12 @@
 #![tactic(auto)]
 
 mod decode;
+mod encode;
+mod lines;
+mod octets;
 mod packets;
 mod stream_fault;
 
 pub use decode::decode_all;
+pub use encode::encode_all;
 pub use stream_fault::StreamFault;

@@ -1,0 +1,197 @@
+//! Encoding: lines of an input become packets of an output.
+
+ghost use Rattle.std.specs.Prelude.{◌≡◌, ◌↔◌, ◌+◌, ◌^◌, ◌<◌, ◌≤◌, ◌++◌, ℕ, List, [], length, Option, None, Some, Err, IsErrOf};
+ghost use Rattle.acn_grammar.specs.Interval.{span};
+ghost use Rattle.acn_grammar.specs.View.{grammar_of};
+ghost use Rattle.acn_outside.specs.Counts.{Rose};
+ghost use Rattle.acn_stream.specs.Encoding.{EncodeEnds};
+ghost use Rattle.acn_stream.specs.Passing as spec;
+ghost use Rattle.acn_stream.specs.Steps.{IsBounded};
+ghost use Rattle.acn_stream.specs.declared.stream_fault.StreamFault.TheVariants as stream;
+ghost use Rattle.acn_supply.specs.declared.lines.NoLine.TheVariants as no_line;
+
+use crate::lines::{LineFault, put_line};
+use crate::stream_fault::StreamFault;
+use acn_bounds::bounds;
+use acn_check::Checked;
+use acn_outside::{Sink, Source, write_all};
+use acn_supply::{Line, NoLine, Supply, read_line};
+use memchr::memchr;
+use std::alloc::Global;
+
+// So many bytes of packets are collected before they are written.
+const BLOCK: usize = 65_536;
+
+/// How many lines were passed, and how many packets they gave.
+#[derive(Clone, Copy)]
+pub struct Tally {
+    lines: u64,
+    packets: u64,
+}
+
+fn fault_at(number: u64, fault: LineFault) -> StreamFault
+    ensures { result ≡ spec.fault_at number fault }
+{
+    match fault {
+        LineFault::Bad(fault) => StreamFault::BadLine { number, fault },
+        LineFault::Unfit(fault) => StreamFault::Unfit { number, fault },
+        LineFault::NoMemory => StreamFault::NoMemory,
+    }
+}
+
+fn fault_behind(lines: u64, why: NoLine) -> StreamFault
+    requires { why ≡ no_line.TooLong → lines + 1 < 2 ^ 64 }
+    ensures { result ≡ spec.fault_behind lines why }
+{
+    match why {
+        NoLine::TooLong => StreamFault::LineTooLong { line: lines + 1 },
+        NoLine::PastLimit => StreamFault::InputTooLong,
+        NoLine::Failed => StreamFault::InputFault,
+        NoLine::NoMemory => StreamFault::NoMemory,
+    }
+}
+
+// Reads a line and adds its packet. An answer says that encoding ended.
+fn take_line<S: Source>(
+    alloc: Global,
+    checked: &Checked,
+    supply: &mut Supply,
+    input: &mut S,
+    line: &mut Vec<u8>,
+    packets: &mut Vec<u8>,
+    tally: &mut Tally,
+) -> Option<Result<u64, StreamFault>>
+    requires bounded { IsBounded (grammar_of checked.now.tree.root) }
+    requires room { spec.HasRoom supply.old tally.old }
+    ensures goes { (limit : ℕ) (i : Option (List ℕ)) (text : List ℕ) → spec.Encoded (grammar_of checked.now.tree.root) limit i (S.rest input.old) supply.old tally.old (text ++ packets.old.items) → spec.Goes (grammar_of checked.now.tree.root) limit i (S.rest input.new) supply.new tally.new (text ++ packets.new.items) result }
+    ensures room { result ≡ None → spec.HasRoom supply.new tally.new }
+    ensures falls { result ≡ None → spec.unread supply.new < spec.unread supply.old }
+    ensures count { S.faults input.old ≤ S.faults input.new }
+    ensures failed { result ≡ Some (Err stream.InputFault) → Rose (S.faults input.old) (S.faults input.new) }
+{
+    match read_line(supply, input, line) {
+        Ok(Line::Ended) => match put_line(alloc, checked, line, packets) {
+            Ok(count) => {
+                tally.lines += 1;
+                tally.packets += count;
+                None
+            }
+            Err(fault) => Some(Err(fault_at(tally.lines + 1, fault))),
+        },
+        Ok(Line::Last) => match put_line(alloc, checked, line, packets) {
+            Ok(count) => Some(Ok(tally.packets + count)),
+            Err(fault) => Some(Err(fault_at(tally.lines + 1, fault))),
+        },
+        Err(why) => Some(Err(fault_behind(tally.lines, why))),
+    }
+}
+
+// Takes lines until no more is in hand, or the packets fill a block. An answer says that encoding ended.
+fn take_lines<S: Source>(
+    alloc: Global,
+    checked: &Checked,
+    supply: &mut Supply,
+    input: &mut S,
+    line: &mut Vec<u8>,
+    packets: &mut Vec<u8>,
+    tally: &mut Tally,
+) -> Option<Result<u64, StreamFault>>
+    requires bounded { IsBounded (grammar_of checked.now.tree.root) }
+    requires room { spec.HasRoom supply.old tally.old }
+    ensures goes { (limit : ℕ) (i : Option (List ℕ)) (text : List ℕ) → spec.Encoded (grammar_of checked.now.tree.root) limit i (S.rest input.old) supply.old tally.old (text ++ packets.old.items) → spec.Goes (grammar_of checked.now.tree.root) limit i (S.rest input.new) supply.new tally.new (text ++ packets.new.items) result }
+    ensures room { result ≡ None → spec.HasRoom supply.new tally.new }
+    ensures falls { result ≡ None → spec.unread supply.new < spec.unread supply.old }
+    ensures count { S.faults input.old ≤ S.faults input.new }
+    ensures failed { result ≡ Some (Err stream.InputFault) → Rose (S.faults input.old) (S.faults input.new) }
+{
+    loop {
+        match take_line(alloc, checked, supply, input, line, packets, tally) {
+            None => {}
+            Some(result) => return Some(result),
+        }
+        if packets.len() >= BLOCK || memchr(b'\n', supply.hand()).is_none() {
+            return None;
+        }
+    }
+}
+
+// Encodes what is in hand and what the input gives.
+fn encode_supply<S: Source, O: Sink>(
+    alloc: Global,
+    checked: &Checked,
+    supply: &mut Supply,
+    input: &mut S,
+    out: &mut O,
+) -> Result<u64, StreamFault>
+    requires bounded { IsBounded (grammar_of checked.now.tree.root) }
+    requires begins { supply.old.hand ≡ [] }
+    requires limit { supply.old.left < 2 ^ 64 }
+    ensures ends { EncodeEnds (grammar_of checked.now.tree.root) supply.old.left (S.rest input.old) (S.rest input.new) (O.taken out.old) (O.taken out.new) result }
+    ensures input { S.faults input.old ≤ S.faults input.new }
+    ensures output { O.faults out.old ≤ O.faults out.new }
+    ensures input_fault { IsErrOf result StreamFault.InputFault → Rose (S.faults input.old) (S.faults input.new) }
+    ensures output_fault { IsErrOf result StreamFault.OutputFault → Rose (O.faults out.old) (O.faults out.new) }
+    ensures some { IsErrOf result StreamFault.EmptyPacket → ⊥ }
+{
+    let mut line = Vec::new(alloc);
+    let mut packets = Vec::new(alloc);
+    let mut tally = Tally {
+        lines: 0,
+        packets: 0,
+    };
+    loop {
+        packets.clear();
+        let answer = take_lines(
+            alloc,
+            checked,
+            supply,
+            input,
+            &mut line,
+            &mut packets,
+            &mut tally,
+        );
+        match write_all(out, &packets) {
+            Ok(()) => {}
+            Err(_) => return Err(StreamFault::OutputFault),
+        }
+        match answer {
+            None => {}
+            Some(result) => return result,
+        }
+    }
+}
+
+/// Reads lines of JSON until the input ends and writes the packet of each value, filled with zeros up to an octet, and answers how many
+/// packets there were. Lines end at a line feed, which the last may lack. A line of spaces, tabs and carriage returns alone is
+/// passed over; it has a number all the same. At most `limit` bytes are read, and one more to see whether the input ends there.
+///
+/// Packets are written in blocks, and before each read. The input is read only where no line feed is in hand.
+///
+/// `EmptyPacket` comes exactly where the least bound is 0; then nothing is read. `BadLine` names the first line that gives no value,
+/// with its first fault, and `Unfit` the first whose value is refused, with the one reason, whichever comes first.
+/// `LineTooLong` comes where more than `MOST_LINE_BYTES` bytes of a line came, and `InputTooLong` where the bytes up to the limit end
+/// inside a line, or at its end, and one byte more came. `InputFault` and `OutputFault` come only where that count of faults
+/// rose, `NoMemory` where memory runs out. With each of these the output gained the packets of the lines before, with `OutputFault`
+/// a front of them. (Lines are this profile's own.)
+pub fn encode_all<S: Source, O: Sink>(
+    alloc: Global,
+    checked: &Checked,
+    input: &mut S,
+    out: &mut O,
+    limit: u64,
+) -> Result<u64, StreamFault>
+    ensures ends { EncodeEnds (grammar_of checked.now.tree.root) limit (S.rest input.old) (S.rest input.new) (O.taken out.old) (O.taken out.new) result }
+    ensures empty { IsErrOf result StreamFault.EmptyPacket ↔ ((span (grammar_of checked.now.tree.root)).least ≡ 0) }
+    ensures input_fault { IsErrOf result StreamFault.InputFault → Rose (S.faults input.old) (S.faults input.new) }
+    ensures output_fault { IsErrOf result StreamFault.OutputFault → Rose (O.faults out.old) (O.faults out.new) }
+    ensures input { S.faults input.old ≤ S.faults input.new }
+    ensures output { O.faults out.old ≤ O.faults out.new }
+{
+    if bounds(checked).least == 0 {
+        return Err(StreamFault::EmptyPacket);
+    }
+    match Supply::new(alloc, limit) {
+        Ok(mut supply) => encode_supply(alloc, checked, &mut supply, input, out),
+        Err(_) => Err(StreamFault::NoMemory),
+    }
+}
