@@ -1,0 +1,5 @@
+pub mod Named
+pub mod Conditions
+pub mod Sized
+pub mod Texts
+pub mod Made
