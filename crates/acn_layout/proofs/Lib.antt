@@ -1,0 +1,3 @@
+mod Flat
+mod Forms
+mod Walking

@@ -1,0 +1,4 @@
+use Rattle.acn_layout.proofs.tag.put_flags.Goals as goal
+
+pub returns : goal.returns
+returns g c = rw (← c.words_if.ensures, ← c.words_if-2.ensures) c.put_parts.ensures

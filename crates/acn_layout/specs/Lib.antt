@@ -1,0 +1,3 @@
+pub mod Codings
+pub mod Layout
+pub mod Walks
