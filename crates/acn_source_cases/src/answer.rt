@@ -12,9 +12,7 @@ use crate::names::told;
 use crate::reading::{kept_told, print_told, tokens_told};
 use crate::sheet::{Question, Sheet};
 use crate::siting::sites_of_t;
-use crate::texts::sources;
-use crate::trouble::{Trouble, trouble_in_words};
-use acn_names::resolve;
+use acn_case_sheets::{Trouble, parts_of, sources, trouble_in_words, world_of};
 use acn_num::NoMemory;
 use acn_world::World;
 use std::alloc::Global;
@@ -51,33 +49,31 @@ fn of_world(
     parts: &[&str],
     words: &[&str],
 ) -> Result<String, Trouble> {
-    let all = sources(alloc, sheet, parts, false)?;
-    let world = resolve(alloc, all)?;
+    let world = world_of(alloc, &sheet.files, parts)?;
     looked_up(alloc, &world, sheet.question, words)
 }
 
 fn found(alloc: Global, sheet: &Sheet, parts: &[&str], words: &[&str]) -> Result<String, Trouble> {
     match sheet.question {
-        Question::Tokens => tokens_told(alloc, sheet, parts),
-        Question::Print => print_told(alloc, sheet, parts),
-        Question::Kept => kept_told(alloc, sheet, parts),
+        Question::Tokens => tokens_told(alloc, &sheet.files, parts),
+        Question::Print => print_told(alloc, &sheet.files, parts),
+        Question::Kept => kept_told(alloc, &sheet.files, parts),
         Question::Read => {
-            let _all = sources(alloc, sheet, parts, true)?;
+            let _all = sources(alloc, &sheet.files, parts, true)?;
             Ok(format!(in alloc; "Ok")?)
         }
-        Question::Files => files_told(alloc, sheet, parts),
+        Question::Files => files_told(alloc, &sheet.files, parts),
         Question::Kind => Ok(kind_told(alloc, parts.first().copied().unwrap_or(""))?),
         Question::Ring => Ok(ring_told(alloc, words)?),
         Question::LongRing => Ok(long_ring_told(alloc, words)?),
-        Question::Names => told(alloc, sources(alloc, sheet, parts, false)?),
+        Question::Names => told(alloc, sources(alloc, &sheet.files, parts, false)?),
         _ => of_world(alloc, sheet, parts, words),
     }
 }
 
-/// The answer to a case of a sheet, or why there is none. A space before the arrow is none of the case.
+/// The answer to a case of a sheet, or why there is none.
 pub fn answer(alloc: Global, sheet: &Sheet, case: &str) -> Result<String, NoMemory> {
-    let case = case.strip_suffix(" ").unwrap_or(case);
-    let parts: Vec<&str> = case.split(";;").collect(alloc)?;
+    let parts = parts_of(alloc, case)?;
     let words: Vec<&str> = case.split_whitespace().collect(alloc)?;
     match found(alloc, sheet, parts.as_slice(), words.as_slice()) {
         Ok(answer) => Ok(answer),

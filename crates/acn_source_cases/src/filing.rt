@@ -3,20 +3,10 @@
 ghost use Rattle.std.specs.Prelude.{◌≡◌, true};
 ghost use Rattle.acn_sources.specs.Files.{AreShort};
 
-use crate::sheet::{Kind, Sheet};
-use crate::texts::bytes_of;
-use crate::trouble::Trouble;
+use acn_case_sheets::{CaseFiles, Trouble, bytes_of};
 use acn_num::{MOST_FILE_BYTES, NoMemory};
 use acn_sources::{File, FileFault, FileKind, read_sources};
 use std::alloc::Global;
-
-fn kind_of(kind: Kind) -> FileKind {
-    match kind {
-        Kind::Asn => FileKind::Asn,
-        Kind::Acn => FileKind::Acn,
-        Kind::Map => FileKind::Map,
-    }
-}
 
 // Whether each file is as long as it may be.
 fn are_short(files: &[File<'_>]) -> bool
@@ -44,9 +34,9 @@ fn fault_in_words(alloc: Global, fault: FileFault) -> Result<String, NoMemory> {
 }
 
 // The bytes of all files.
-fn all_bytes(alloc: Global, sheet: &Sheet, parts: &[&str]) -> Result<Vec<Vec<u8>>, Trouble> {
+fn all_bytes(alloc: Global, files: &CaseFiles, parts: &[&str]) -> Result<Vec<Vec<u8>>, Trouble> {
     let mut all = Vec::new(alloc);
-    for file in sheet.files.iter() {
+    for file in files.list.iter() {
         let text = file.filled(alloc, parts)?;
         all.push(bytes_of(alloc, text.as_str())?)?;
     }
@@ -56,17 +46,17 @@ fn all_bytes(alloc: Global, sheet: &Sheet, parts: &[&str]) -> Result<Vec<Vec<u8>
 // The files with these bytes.
 fn files_of<'a>(
     alloc: Global,
-    sheet: &Sheet,
+    files: &CaseFiles,
     all: &'a [Vec<u8>],
 ) -> Result<Vec<File<'a>>, NoMemory> {
-    let mut files = Vec::new(alloc);
-    for (file, bytes) in sheet.files.iter().zip(all) {
-        files.push(File {
-            kind: kind_of(file.kind),
+    let mut list = Vec::new(alloc);
+    for (file, bytes) in files.list.iter().zip(all) {
+        list.push(File {
+            kind: file.kind,
             bytes: bytes.as_slice(),
         })?;
     }
-    Ok(files)
+    Ok(list)
 }
 
 // `Ok`, or the number of the first file that is refused and its fault.
@@ -85,10 +75,10 @@ fn reading_in_words(alloc: Global, files: &[File<'_>]) -> Result<String, Trouble
 
 /// `Ok` where all files are read, and else the number of the first that is refused, from 0, with its fault. Places are
 /// those of bytes.
-pub fn files_told(alloc: Global, sheet: &Sheet, parts: &[&str]) -> Result<String, Trouble> {
-    let all = all_bytes(alloc, sheet, parts)?;
-    let files = files_of(alloc, sheet, all.as_slice())?;
-    reading_in_words(alloc, files.as_slice())
+pub fn files_told(alloc: Global, files: &CaseFiles, parts: &[&str]) -> Result<String, Trouble> {
+    let all = all_bytes(alloc, files, parts)?;
+    let list = files_of(alloc, files, all.as_slice())?;
+    reading_in_words(alloc, list.as_slice())
 }
 
 /// What a file of this name holds.

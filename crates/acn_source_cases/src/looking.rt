@@ -5,9 +5,9 @@ ghost use Rattle.acn_world.specs.Viewed.{world_view};
 ghost use Rattle.acn_index.specs.World.{IsType};
 
 use crate::names::push_full_name;
-use crate::trouble::Trouble;
 use acn_asn_syntax::Constraint;
 use acn_case_lines::{small, word};
+use acn_case_sheets::Trouble;
 use acn_source_printer::{base_in_words, constraint_in_words, value_in_words};
 use acn_world::{Chain, EntryAt, TypeId, World};
 use std::alloc::Global;

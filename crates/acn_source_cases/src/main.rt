@@ -1,10 +1,7 @@
 //! Prints its input, with the answer behind each `=>`.
 //!
-//! A line `ask QUESTION` begins a group, and a line `asn TEXT`, `acn TEXT` or `map TEXT` a file of it, which goes on in the
-//! lines that are indented, and in a line `times LOW HIGH TEXT` once for each number from LOW up to HIGH, with the number in the
-//! place of `$i`, the one before it in that of `$h` and twice the number in that of `$e`. A line `CASE =>` asks the question of these
-//! files, with CASE in the place of `$1`, or, where `;;` divides it, its parts in the places of `$1`, `$2` and `$3`. In a file `\` and
-//! two hexadecimal digits are one byte.
+//! A line `ask QUESTION` begins a group, and the lines behind it its files (`acn_case_sheets`). A line `CASE =>` asks the question
+//! of these files, with CASE in the place of `$1`, or, where `;;` divides it, its parts in the places of `$1`, `$2` and `$3`.
 #![tactic(auto)]
 
 mod answer;
@@ -16,8 +13,6 @@ mod names;
 mod reading;
 mod sheet;
 mod siting;
-mod texts;
-mod trouble;
 
 use acn_case_lines::{Line, line_of};
 use acn_num::NoMemory;

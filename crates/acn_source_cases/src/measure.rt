@@ -1,7 +1,7 @@
 //! What the constraints of a type leave, in words.
 
-use crate::trouble::Trouble;
 use acn_asn_syntax::AsnValue;
+use acn_case_sheets::Trouble;
 use acn_constraint::{ConstraintFault, OpenSet, TextSets, alphabet_of, range_of, size_of, text_of};
 use acn_num::RangeSet;
 use acn_world::{Chain, World};

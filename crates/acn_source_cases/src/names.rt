@@ -1,6 +1,6 @@
 //! The fault of names in words.
 
-use crate::trouble::Trouble;
+use acn_case_sheets::Trouble;
 use acn_names::resolve;
 use acn_num::Name;
 use acn_world::{NameFault, Sources};

@@ -1,22 +1,21 @@
 //! Tokens, and trees that are printed back.
 
-use crate::sheet::{Kind, Sheet};
-use crate::texts::{add, bytes_of, no_files, tokens_of};
-use crate::trouble::Trouble;
-use acn_lex::{Kind as TokenKind, Token, Tokens};
+use acn_case_sheets::{CaseFiles, Trouble, add, bytes_of, no_files, tokens_of};
+use acn_lex::{Kind, Token, Tokens};
 use acn_num::NoMemory;
 use acn_source_printer::{acn_in_words, asn_in_words, map_in_words};
+use acn_sources::FileKind;
 use acn_world::Sources;
 use std::alloc::Global;
 
-fn kind_in_words(kind: TokenKind) -> &'static str {
+fn kind_in_words(kind: Kind) -> &'static str {
     match kind {
-        TokenKind::Word => "Word",
-        TokenKind::Number => "Number",
-        TokenKind::Bits => "Bits",
-        TokenKind::Hex => "Hex",
-        TokenKind::Text => "Text",
-        TokenKind::Mark => "Mark",
+        Kind::Word => "Word",
+        Kind::Number => "Number",
+        Kind::Bits => "Bits",
+        Kind::Hex => "Hex",
+        Kind::Text => "Text",
+        Kind::Mark => "Mark",
     }
 }
 
@@ -45,9 +44,13 @@ fn tokens_in_words(alloc: Global, tokens: &Tokens<'_>) -> Result<String, NoMemor
     Ok(words)
 }
 
-// The bytes of the first file, and its sort.
-fn first_file(alloc: Global, sheet: &Sheet, parts: &[&str]) -> Result<(Kind, Vec<u8>), Trouble> {
-    match sheet.files.first() {
+// The bytes of the first file, and what it holds.
+fn first_file(
+    alloc: Global,
+    files: &CaseFiles,
+    parts: &[&str],
+) -> Result<(FileKind, Vec<u8>), Trouble> {
+    match files.list.first() {
         Some(file) => {
             let text = file.filled(alloc, parts)?;
             Ok((file.kind, bytes_of(alloc, text.as_str())?))
@@ -57,8 +60,8 @@ fn first_file(alloc: Global, sheet: &Sheet, parts: &[&str]) -> Result<(Kind, Vec
 }
 
 /// The tokens of the first file in words.
-pub fn tokens_told(alloc: Global, sheet: &Sheet, parts: &[&str]) -> Result<String, Trouble> {
-    let (_, bytes) = first_file(alloc, sheet, parts)?;
+pub fn tokens_told(alloc: Global, files: &CaseFiles, parts: &[&str]) -> Result<String, Trouble> {
+    let (_, bytes) = first_file(alloc, files, parts)?;
     let tokens = tokens_of(alloc, bytes.as_slice())?;
     Ok(tokens_in_words(alloc, &tokens)?)
 }
@@ -78,15 +81,15 @@ fn trees_in_words(alloc: Global, all: &Sources) -> Result<Vec<u8>, NoMemory> {
 }
 
 // The tree of a file as a text.
-fn printed(alloc: Global, kind: Kind, bytes: &[u8]) -> Result<Vec<u8>, Trouble> {
+fn printed(alloc: Global, kind: FileKind, bytes: &[u8]) -> Result<Vec<u8>, Trouble> {
     let mut all = no_files(alloc);
     add(alloc, kind, bytes, &mut all)?;
     Ok(trees_in_words(alloc, &all)?)
 }
 
 /// The tree of the first file as a text.
-pub fn print_told(alloc: Global, sheet: &Sheet, parts: &[&str]) -> Result<String, Trouble> {
-    let (kind, bytes) = first_file(alloc, sheet, parts)?;
+pub fn print_told(alloc: Global, files: &CaseFiles, parts: &[&str]) -> Result<String, Trouble> {
+    let (kind, bytes) = first_file(alloc, files, parts)?;
     let text = printed(alloc, kind, bytes.as_slice())?;
     let words = String::from_utf8_lossy(alloc, text.as_slice())?;
     Ok(words.as_str().trim().to_string(alloc)?)
@@ -116,8 +119,8 @@ fn first_other(read: &[Token<'_>], again: &[Token<'_>]) -> Option<usize> {
 }
 
 /// `Ok` where the tree of the first file has the tokens of its text, and else the number of the first one that is lost.
-pub fn kept_told(alloc: Global, sheet: &Sheet, parts: &[&str]) -> Result<String, Trouble> {
-    let (kind, bytes) = first_file(alloc, sheet, parts)?;
+pub fn kept_told(alloc: Global, files: &CaseFiles, parts: &[&str]) -> Result<String, Trouble> {
+    let (kind, bytes) = first_file(alloc, files, parts)?;
     let text = printed(alloc, kind, bytes.as_slice())?;
     let read = tokens_of(alloc, bytes.as_slice())?;
     let again = tokens_of(alloc, text.as_slice())?;

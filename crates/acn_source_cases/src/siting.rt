@@ -4,8 +4,8 @@ ghost use Rattle.acn_world.specs.Viewed.{world_view};
 ghost use Rattle.acn_index.specs.World.{IsType};
 
 use crate::measure::fault_in_words;
-use crate::trouble::Trouble;
 use acn_acn_syntax::{AcnPath, Attr, SizeAttr};
+use acn_case_sheets::Trouble;
 use acn_num::Name;
 use acn_reasons::{
     PathFault, attribute_not_here, bad_path, constraint_fault, has_no_such_field,
