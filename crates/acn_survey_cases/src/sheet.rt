@@ -1,0 +1,48 @@
+//! The asked type and the files of a group.
+
+use acn_case_sheets::CaseFiles;
+use acn_num::NoMemory;
+use std::alloc::Global;
+
+/// The asked type and the files of a group.
+#[derive(Drop)]
+pub struct Sheet {
+    /// The name of its module.
+    pub module: String,
+    /// Its name.
+    pub name: String,
+    /// The files, in order.
+    pub files: CaseFiles,
+}
+
+impl Sheet {
+    /// No type of no files.
+    pub fn new(alloc: Global) -> Sheet {
+        Sheet {
+            module: String::new(alloc),
+            name: String::new(alloc),
+            files: CaseFiles::new(alloc),
+        }
+    }
+
+    // Begins a group.
+    fn ask(&mut self, alloc: Global, asked: &str) -> Result<bool, NoMemory> {
+        match asked.split_once(".") {
+            Some((module, name)) => {
+                self.module = module.to_string(alloc)?;
+                self.name = name.to_string(alloc)?;
+                self.files = CaseFiles::new(alloc);
+                Ok(true)
+            }
+            None => Ok(false),
+        }
+    }
+
+    /// Takes a line that is no case. False comes where it isn't understood.
+    pub fn take(&mut self, alloc: Global, line: &str) -> Result<bool, NoMemory> {
+        match line.strip_prefix("ask ") {
+            Some(asked) => self.ask(alloc, asked),
+            None => self.files.take(alloc, line),
+        }
+    }
+}
