@@ -3,7 +3,7 @@ use Rattle.std.proofs.Common.{◌≡◌, ℕ, zero, suc, ◌+◌, ◌-◌, ◌<�
 use Rattle.std.proofs.lemmas.List.{length-append}
 use Rattle.std.proofs.lemmas.List.{append-nil, append_assoc, at_drop_more}
 use Rattle.std.proofs.lemmas.Grind.{flat_map-append}
-use Rattle.std.specs.Prelude.{Result, Ok, Err, flat_map, get_or, option_to_list}
+use Rattle.std.specs.Prelude.{Result, Ok, Err, flat_map, get_or, option_to_list, IsTrue, is_some}
 use Rattle.std.specs.Option.{option_or}
 use Rattle.acn_index.specs.World.{World}
 use Rattle.acn_index.specs.declared.sources.TypeId.{TypeId}
@@ -166,6 +166,16 @@ module _ (w : World) where
   fault_told n ps None x h = absurd (cc h)
   fault_told n ps (Some f) None h = absurd (cc h)
   fault_told n ps (Some f) (Some g) h = cc h
+
+  fault_there : (n : Noted) (ps : List Placed) (o x : Option Fault) → option_map Err o ≡ Some (unless_fault x (behind w n ps)) → IsTrue (is_some x)
+  fault_there n ps None x h = absurd (cc h)
+  fault_there n ps (Some f) None h = absurd (cc h)
+  fault_there n ps (Some f) (Some g) h = tt
+
+  -- where a walk stops there is a fault
+  pub walk_has_fault : (n : Noted) (ps : List Placed) (o : Option Fault) → option_map Err o ≡ Some (surveyed w n ps) → IsTrue (is_some (fault_from w n.next ps))
+  unfolding surveyed
+  walk_has_fault n ps o h = fault_there n ps o (fault_from w n.next ps) h
 
   pub fault_of_walk : (n : Noted) (ps : List Placed) (o : Option Fault) → option_map Err o ≡ Some (surveyed w n ps) → o ≡ fault_from w n.next ps
   unfolding surveyed

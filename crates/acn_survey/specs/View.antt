@@ -1,5 +1,5 @@
 -- What the program's own types stand for.
-use Rattle.std.specs.Prelude.{ℕ, List, Option, Some, None, option_map, Result, Ok, Err, ◌≡◌}
+use Rattle.std.specs.Prelude.{ℕ, List, Option, Some, None, option_map, Result, Ok, Err, ◌≡◌, ◌×◌, IsTrue, is_some}
 use Rattle.acn_constraint.specs.Views.{fault_of}
 use Rattle.acn_survey.specs.declared.reason.MergeReason.{MergeReason}
 use Rattle.acn_survey.specs.declared.reason.MergeReason.TheVariants as reason
@@ -34,9 +34,9 @@ fault_with place r = record { place = place; reason = r }
 abbrev pub fault_of_site : Refused → Option spec.Fault
 fault_of_site f = option_map (fault_with f.place) (reason_of f.reason)
 
--- a refusal is this fault; want of memory is free
+-- a refusal is this fault, and there is one; want of memory is free
 abbrev pub Tells : Option spec.Fault → MergeFault → Type 0
-Tells want (fault.At f) = fault_of_site f ≡ want
+Tells want (fault.At f) = IsTrue (is_some want) × (fault_of_site f ≡ want)
 Tells want fault.NoMemory = Unit {0}
 
 abbrev pub noted_of : Walk → seen.Noted

@@ -1,0 +1,122 @@
+ghost use Rattle.std.specs.Prelude.{◌≡◌, ◌≤◌, ◌+◌, Some, None, true, length, option_map, IfOk, IfErr};
+ghost use Rattle.acn_grammar.specs.ItemsNamed.{ItemsNamed};
+ghost use Rattle.acn_grammar.specs.View.{grammar_of};
+ghost use Rattle.acn_homes.specs.Homes as homes;
+ghost use Rattle.acn_homes.specs.declared.homes.TheConstants.{MOST_SLOTS};
+ghost use Rattle.acn_index.specs.World as world_of;
+ghost use Rattle.acn_made.specs.Made.{made};
+ghost use Rattle.acn_num.specs.declared.limits.TheConstants.{MOST_STEPS};
+ghost use Rattle.acn_sites.specs.Sites as sites;
+ghost use Rattle.acn_merge.specs.Merged as spec;
+ghost use Rattle.acn_merge.specs.Told.{Tells, TellsOf, handed_on};
+ghost use Rattle.acn_world.specs.Viewed.{world_view};
+
+use crate::fault::MergeFault;
+use acn_grammar::Node;
+use acn_homes::{Homes, MOST_SLOTS, Use, slots_are_named};
+use acn_made::made;
+use acn_num::{Boxed, Name, NoMemory, Row};
+use acn_sites::{Position, root_site};
+use acn_slots::PlainTypes;
+use acn_survey::{survey, text_below};
+use acn_tree::{Tree, items_named};
+use acn_world::{TypeId, World};
+use std::alloc::Global;
+
+// Whether there are no more paths than slots have numbers.
+fn are_few(inserted: &[Row<usize>], uses: &[Use]) -> bool
+    ensures { result ≡ true → length (homes.slots inserted.now uses.now) ≤ MOST_SLOTS }
+{
+    let _law = slots_are_named();
+    inserted.len() <= MOST_SLOTS && uses.len() <= MOST_SLOTS - inserted.len()
+}
+
+// The root of the tree whose inserted fields and uses these are.
+fn root_of(
+    alloc: Global,
+    world: &World,
+    plain: &PlainTypes,
+    of: TypeId,
+    inserted: &[Row<usize>],
+    uses: &[Use],
+) -> Result<Boxed<Node>, NoMemory>
+    requires { world_of.IsType (world_view world.now) of }
+    ensures { IfOk result (λ root. Some (grammar_of root) ≡ option_map (made (MOST_STEPS + 1) (world_view world.now) (homes.slots inserted.now uses.now)) (sites.root_site (world_view world.now) of)) }
+{
+    if !are_few(inserted, uses) {
+        return Err(NoMemory);
+    }
+    let homes = Homes::new(alloc, inserted, uses)?;
+    let site = root_site(alloc, world, of)?;
+    made(alloc, world, plain, &homes, &site)
+}
+
+// The names of a type and its module as one text.
+fn full_name(alloc: Global, world: &World, of: TypeId) -> Result<Name, NoMemory>
+    requires { world_of.IsType (world_view world.now) of }
+    ensures { IfOk result (λ name. name ≡ spec.full_name (world_view world.now) of) }
+{
+    let (owner, name) = world.name_of(of);
+    let text = text_below(alloc, b"", &Position::Root { owner, name })?;
+    Name::copy(alloc, text.as_slice())
+}
+
+// The tree of this name and root, where that is well formed and its items have numbers of 32 bits.
+fn formed(name: Name, root: Boxed<Node>) -> Result<Tree, MergeFault>
+    ensures name { IfOk result (λ tree. tree.name ≡ name) }
+    ensures root { IfOk result (λ tree. tree.root ≡ root) }
+    ensures items { IfOk result (λ tree. ItemsNamed (grammar_of tree.root)) }
+    ensures fault { IfErr result (TellsOf (grammar_of root)) }
+{
+    match Tree::form(name, root.into_inner()) {
+        Ok(tree) => {
+            if items_named(&tree) {
+                Ok(tree)
+            } else {
+                Err(MergeFault::NoMemory)
+            }
+        }
+        Err(_) => Err(MergeFault::Unformed),
+    }
+}
+
+// A refusal of the sites, handed on.
+fn refusal(fault: acn_survey::MergeFault) -> MergeFault
+    ensures { result ≡ handed_on fault }
+{
+    match fault {
+        acn_survey::MergeFault::At(refused) => MergeFault::At(refused),
+        acn_survey::MergeFault::NoMemory => MergeFault::NoMemory,
+    }
+}
+
+/// The tree of a type: its root is the node of the type with all that is below it, by constraints and attributes, and its name is
+/// that of the type behind that of its module.
+///
+/// `At` comes exactly where a node can't be made, and keeps the text of the path of the first such and the first of its reasons.
+/// `Unformed` comes where none has a reason and the node that is made isn't well formed. `NoMemory` comes where memory is wanting, also
+/// where more than 2^32 paths are noted or an enumeration has as many items.
+pub fn merge(alloc: Global, world: &World, of: TypeId) -> Result<Tree, MergeFault>
+    requires { world_of.IsType (world_view world.now) of }
+    ensures none { IfOk result (λ tree. spec.reason_against (world_view world.now) of ≡ None) }
+    ensures root { IfOk result (λ tree. Some (grammar_of tree.root) ≡ spec.merged (world_view world.now) of) }
+    ensures name { IfOk result (λ tree. tree.name ≡ spec.full_name (world_view world.now) of) }
+    ensures items { IfOk result (λ tree. ItemsNamed (grammar_of tree.root)) }
+    ensures fault { IfErr result (Tells (world_view world.now) of) }
+{
+    let plain = PlainTypes::new(alloc);
+    let walk = match survey(alloc, world, &plain, of) {
+        Ok(walk) => walk,
+        Err(fault) => return Err(refusal(fault)),
+    };
+    let root = root_of(
+        alloc,
+        world,
+        &plain,
+        of,
+        walk.fields.items(),
+        walk.uses.items(),
+    )?;
+    let name = full_name(alloc, world, of)?;
+    formed(name, root)
+}
