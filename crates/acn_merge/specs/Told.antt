@@ -1,5 +1,5 @@
 -- What `merge` answers where it answers no tree.
-use Rattle.std.specs.Prelude.{◌≡◌, ◌×◌, ⊥, false, Option, Some, None, option_map, IsTrue, is_some}
+use Rattle.std.specs.Prelude.{◌≡◌, false, Option, Some, None, option_map, IsTrue, is_some}
 use Rattle.acn_grammar.specs.Grammar.{Grammar}
 use Rattle.acn_grammar.specs.Tree.{is_tree}
 use Rattle.acn_index.specs.World.{World}

@@ -170,7 +170,7 @@ module _ (w : World) where
   fault_there : (n : Noted) (ps : List Placed) (o x : Option Fault) → option_map Err o ≡ Some (unless_fault x (behind w n ps)) → IsTrue (is_some x)
   fault_there n ps None x h = absurd (cc h)
   fault_there n ps (Some f) None h = absurd (cc h)
-  fault_there n ps (Some f) (Some g) h = tt
+  fault_there n ps (Some f) (Some g) h = refl
 
   -- where a walk stops there is a fault
   pub walk_has_fault : (n : Noted) (ps : List Placed) (o : Option Fault) → option_map Err o ≡ Some (surveyed w n ps) → IsTrue (is_some (fault_from w n.next ps))

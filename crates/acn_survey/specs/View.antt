@@ -1,5 +1,5 @@
 -- What the program's own types stand for.
-use Rattle.std.specs.Prelude.{ℕ, List, Option, Some, None, option_map, Result, Ok, Err, ◌≡◌, ◌×◌, IsTrue, is_some}
+use Rattle.std.specs.Prelude.{ℕ, List, Option, Some, None, option_map, Result, Ok, Err, ◌≡◌, IsTrue, is_some}
 use Rattle.acn_constraint.specs.Views.{fault_of}
 use Rattle.acn_survey.specs.declared.reason.MergeReason.{MergeReason}
 use Rattle.acn_survey.specs.declared.reason.MergeReason.TheVariants as reason
