@@ -13,9 +13,10 @@ start = record { next = 1; fields = []; uses = [] }
 pub returns-in-Some-clause-fault : goal.returns-in-Some-clause-fault
 returns-in-Some-clause-fault c =
     let all = all_sites (world_view c.args.world.now) c.args.of (site_view c.in_ok-site.site) c.in_ok-site.ensures in
-    let stopped = ap (λ t. answer t (noted_of c.visit.new.walk)) (sym c.in-Some.is) ∙ (c.in_ok-refused.ensures ∙ (ap (λ n. Some (surveyed (world_view c.args.world.now) n (sites 65 (world_view c.args.world.now) [] (site_view c.in_ok-site.site)))) c.new-walk.ensures ∙ ap (λ ps. Some (surveyed (world_view c.args.world.now) start ps)) (sym all))) in
-    (walk_has_fault (world_view c.args.world.now) start (sites_of (world_view c.args.world.now) c.args.of) (fault_of_site c.in-Some.refused) stopped,
-    fault_of_walk (world_view c.args.world.now) start (sites_of (world_view c.args.world.now) c.args.of) (fault_of_site c.in-Some.refused) stopped)
+    let stopped = ap (λ t. answer t (noted_of c.visit.new.walk)) (sym c.in-Some.is) ∙ (c.in_ok-refused.ensures ∙ (ap (λ n. Some (surveyed (world_view c.args.world.now) n (sites 65 (world_view c.args.world.now) [] (site_view c.in_ok-site.site)))) c.new-walk.ensures ∙ ap (λ ps. Some (surveyed (world_view c.args.world.now) start ps)) (sym all))) in (
+      walk_has_fault (world_view c.args.world.now) start (sites_of (world_view c.args.world.now) c.args.of) (fault_of_site c.in-Some.refused) stopped,
+      fault_of_walk (world_view c.args.world.now) start (sites_of (world_view c.args.world.now) c.args.of) (fault_of_site c.in-Some.refused) stopped,
+    )
 
 pub returns-clause-none : goal.returns-clause-none
 returns-clause-none c =
