@@ -1,1 +1,1 @@
-mod Handed
+mod Unformed

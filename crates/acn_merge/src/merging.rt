@@ -7,6 +7,7 @@ ghost use Rattle.acn_index.specs.World as world_of;
 ghost use Rattle.acn_made.specs.Made.{made};
 ghost use Rattle.acn_num.specs.declared.limits.TheConstants.{MOST_STEPS};
 ghost use Rattle.acn_sites.specs.Sites as sites;
+ghost use Rattle.acn_survey.specs.Walk.{inserted_fields, uses_of};
 ghost use Rattle.acn_merge.specs.Merged as spec;
 ghost use Rattle.acn_merge.specs.Told.{Tells, TellsOf, handed_on};
 ghost use Rattle.acn_world.specs.Viewed.{world_view};
@@ -18,7 +19,7 @@ use acn_made::made;
 use acn_num::{Boxed, Name, NoMemory, Row};
 use acn_sites::{Position, root_site};
 use acn_slots::PlainTypes;
-use acn_survey::{survey, text_below};
+use acn_survey::{Walk, survey, text_below};
 use acn_tree::{Tree, items_named};
 use acn_world::{TypeId, World};
 use std::alloc::Global;
@@ -49,6 +50,29 @@ fn root_of(
     let homes = Homes::new(alloc, inserted, uses)?;
     let site = root_site(alloc, world, of)?;
     made(alloc, world, plain, &homes, &site)
+}
+
+// The root of the tree of a type, by what the walk over its sites noted.
+fn root_made(
+    alloc: Global,
+    world: &World,
+    plain: &PlainTypes,
+    of: TypeId,
+    walk: &Walk,
+) -> Result<Boxed<Node>, NoMemory>
+    requires is_type { world_of.IsType (world_view world.now) of }
+    requires fields { walk.now.fields ≡ inserted_fields (sites.sites_of (world_view world.now) of) }
+    requires uses { walk.now.uses ≡ uses_of (world_view world.now) (sites.sites_of (world_view world.now) of) }
+    ensures { IfOk result (λ root. Some (grammar_of root) ≡ spec.merged (world_view world.now) of) }
+{
+    root_of(
+        alloc,
+        world,
+        plain,
+        of,
+        walk.fields.items(),
+        walk.uses.items(),
+    )
 }
 
 // The names of a type and its module as one text.
@@ -90,6 +114,28 @@ fn refusal(fault: acn_survey::MergeFault) -> MergeFault
     }
 }
 
+// The tree of a type, of which each node can be made.
+fn tree_of(
+    alloc: Global,
+    world: &World,
+    plain: &PlainTypes,
+    of: TypeId,
+    walk: &Walk,
+) -> Result<Tree, MergeFault>
+    requires is_type { world_of.IsType (world_view world.now) of }
+    requires none { spec.reason_against (world_view world.now) of ≡ None }
+    requires fields { walk.now.fields ≡ inserted_fields (sites.sites_of (world_view world.now) of) }
+    requires uses { walk.now.uses ≡ uses_of (world_view world.now) (sites.sites_of (world_view world.now) of) }
+    ensures root { IfOk result (λ tree. Some (grammar_of tree.root) ≡ spec.merged (world_view world.now) of) }
+    ensures name { IfOk result (λ tree. tree.name ≡ spec.full_name (world_view world.now) of) }
+    ensures items { IfOk result (λ tree. ItemsNamed (grammar_of tree.root)) }
+    ensures fault { IfErr result (Tells (world_view world.now) of) }
+{
+    let root = root_made(alloc, world, plain, of, walk)?;
+    let name = full_name(alloc, world, of)?;
+    formed(name, root)
+}
+
 /// The tree of a type: its root is the node of the type with all that is below it, by constraints and attributes, and its name is
 /// that of the type behind that of its module.
 ///
@@ -105,18 +151,8 @@ pub fn merge(alloc: Global, world: &World, of: TypeId) -> Result<Tree, MergeFaul
     ensures fault { IfErr result (Tells (world_view world.now) of) }
 {
     let plain = PlainTypes::new(alloc);
-    let walk = match survey(alloc, world, &plain, of) {
-        Ok(walk) => walk,
-        Err(fault) => return Err(refusal(fault)),
-    };
-    let root = root_of(
-        alloc,
-        world,
-        &plain,
-        of,
-        walk.fields.items(),
-        walk.uses.items(),
-    )?;
-    let name = full_name(alloc, world, of)?;
-    formed(name, root)
+    match survey(alloc, world, &plain, of) {
+        Ok(walk) => tree_of(alloc, world, &plain, of, &walk),
+        Err(fault) => Err(refusal(fault)),
+    }
 }
