@@ -14,7 +14,7 @@ use acn_report::{
     put_bounds, put_check_fault, put_empty_packet, put_fault, put_input_too_long,
     put_line_too_long, put_packet_fault, put_path, put_unfit,
 };
-use acn_tree::{CheckFault, Fault, Tree, Unfit};
+use acn_tree::{CheckFault, Fault, Tree, Unfit, Value};
 use std::alloc::Global;
 
 fn not_understood(alloc: Global) -> Result<String, NoMemory> {
@@ -117,6 +117,12 @@ fn json_shown(
     shown(alloc, &out, printed)
 }
 
+// A line that gives a value has no fault.
+fn given(alloc: Global, value: &Value) -> Result<String, NoMemory> {
+    let _value = value;
+    Ok(format!(in alloc; "a value")?)
+}
+
 // The first fault of a line of JSON, behind its number.
 fn json(alloc: Global, tree: &Tree, words: &[&str]) -> Result<String, NoMemory> {
     let line = word(words, 1).as_bytes();
@@ -124,7 +130,7 @@ fn json(alloc: Global, tree: &Tree, words: &[&str]) -> Result<String, NoMemory> 
         return not_understood(alloc);
     }
     match from_line(alloc, tree, line) {
-        Ok(_) => Ok(format!(in alloc; "a value")?),
+        Ok(value) => given(alloc, &value),
         Err(fault) => json_shown(alloc, tree, wide(words, 0), &fault),
     }
 }
