@@ -9,6 +9,7 @@ ghost use Rattle.acn_num.specs.declared.limits.TheConstants.{MOST_STEPS};
 ghost use Rattle.acn_sites.specs.Sites as sites;
 ghost use Rattle.acn_survey.specs.Walk.{inserted_fields, uses_of};
 ghost use Rattle.acn_merge.specs.Merged as spec;
+ghost use Rattle.acn_merge.specs.declared.fault.MergeFault.TheVariants as fault;
 ghost use Rattle.acn_merge.specs.Told.{Tells, TellsOf, handed_on};
 ghost use Rattle.acn_world.specs.Viewed.{world_view};
 
@@ -85,6 +86,27 @@ fn full_name(alloc: Global, world: &World, of: TypeId) -> Result<Name, NoMemory>
     Name::copy(alloc, text.as_slice())
 }
 
+// The tree, where its items have numbers of 32 bits.
+fn named(tree: Tree) -> Result<Tree, MergeFault>
+    ensures same { IfOk result (λ t. t ≡ tree) }
+    ensures items { IfOk result (λ t. ItemsNamed (grammar_of t.root)) }
+    ensures fault { IfErr result (λ e. e ≡ fault.NoMemory) }
+{
+    if items_named(&tree) {
+        Ok(tree)
+    } else {
+        Err(MergeFault::NoMemory)
+    }
+}
+
+// What is no tree is let go.
+fn unformed(back: (Name, Node)) -> MergeFault
+    ensures { result ≡ fault.Unformed }
+{
+    let _back = back;
+    MergeFault::Unformed
+}
+
 // The tree of this name and root, where that is well formed and its items have numbers of 32 bits.
 fn formed(name: Name, root: Boxed<Node>) -> Result<Tree, MergeFault>
     ensures name { IfOk result (λ tree. tree.name ≡ name) }
@@ -93,14 +115,8 @@ fn formed(name: Name, root: Boxed<Node>) -> Result<Tree, MergeFault>
     ensures fault { IfErr result (TellsOf (grammar_of root)) }
 {
     match Tree::form(name, root.into_inner()) {
-        Ok(tree) => {
-            if items_named(&tree) {
-                Ok(tree)
-            } else {
-                Err(MergeFault::NoMemory)
-            }
-        }
-        Err(_) => Err(MergeFault::Unformed),
+        Ok(tree) => named(tree),
+        Err(back) => Err(unformed(back)),
     }
 }
 
