@@ -1,6 +1,6 @@
-mod Bits
 mod Ending
-mod Joining
+-- for acn_stream_laws
+pub mod Joining
 mod LinesGiving
 mod LinesPassing
 mod Taking

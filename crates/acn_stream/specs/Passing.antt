@@ -1,5 +1,5 @@
 -- What the calls inside do with lines.
-use Rattle.std.specs.Prelude.{◌≡◌, ℕ, zero, suc, ◌+◌, ◌^◌, ◌<◌, ◌≤◌, Bool, false, List, [], ◌∷◌, ◌++◌, length, Option, Some, None, Result, Ok, Err}
+use Rattle.std.specs.Prelude.{◌≡◌, ℕ, ◌+◌, ◌^◌, ◌<◌, ◌≤◌, Bool, List, [], ◌++◌, length, Option, Some, None, Result, Ok, Err}
 use Rattle.acn_grammar.specs.Code.{Mode}
 use Rattle.acn_grammar.specs.Faults.{unfit_of}
 use Rattle.acn_grammar.specs.Grammar.{Grammar, Data}
@@ -16,17 +16,6 @@ use Rattle.acn_stream.specs.declared.stream_fault.StreamFault.TheVariants as str
 use Rattle.acn_supply.specs.Reading.{Supplied}
 use Rattle.acn_supply.specs.declared.lines.NoLine.{NoLine}
 use Rattle.acn_supply.specs.declared.lines.NoLine.TheVariants.{TooLong, PastLimit, Failed, NoMemory}
-
--- the bit at a place; behind the last one there are zeros
-abbrev pub bit_at : List Bool → ℕ → Bool
-bit_at [] i = false
-bit_at (b ∷ bs) zero = b
-bit_at (b ∷ bs) (suc i) = bit_at bs i
-
--- so many bits from a place on
-abbrev pub bits_at : List Bool → (at n : ℕ) → List Bool
-bits_at bs at zero = []
-bits_at bs at (suc n) = bit_at bs at ∷ bits_at bs (suc at) n
 
 -- the value isn't written for this reason; want of memory says nothing of it
 abbrev pub RefusesValue : Grammar → Data → LineFault → Type 0

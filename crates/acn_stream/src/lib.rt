@@ -4,7 +4,6 @@
 mod decode;
 mod encode;
 mod lines;
-mod octets;
 mod packets;
 mod stream_fault;
 

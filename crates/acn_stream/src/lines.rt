@@ -13,11 +13,11 @@ ghost use Rattle.acn_stream.specs.Passing.{PutsLine, PutsValue, Fails};
 ghost use Rattle.acn_stream.specs.Steps.{IsBounded};
 ghost use Rattle.acn_supply.specs.declared.lines.TheConstants.{MOST_LINE_BYTES};
 
-use crate::octets::put_octets;
 use acn_check::Checked;
 use acn_grammar::{Unfit, Value};
 use acn_json::{JsonFault, from_line};
 use acn_num::{BitList, NoMemory};
+use acn_octets::filled_octets;
 use acn_plain::{PlainFault, plain_encode};
 use std::alloc::Global;
 
@@ -46,8 +46,7 @@ fn put_bits(alloc: Global, bits: &BitList, packets: &mut Vec<u8>) -> Result<(), 
     ensures added { OnOk result ((piece : List ℕ) × (packets.new.items ≡ packets.old.items ++ piece) × (bits_of piece ≡ filled bits.now)) }
     ensures kept { OnErr result (packets.new.items ≡ packets.old.items) }
 {
-    let mut packet = Vec::new(alloc);
-    put_octets(bits, &mut packet)?;
+    let packet = filled_octets(alloc, bits)?;
     packets.extend_from_slice(&packet)?;
     Ok(())
 }

@@ -2,7 +2,7 @@
 use Rattle.std.proofs.Common.{◌≡◌, ℕ, zero, suc, ◌+◌, ◌-◌, ◌*◌, ◌^◌, ◌<◌, ◌≤◌, Bool, false, List, [], ◌∷◌, ◌++◌, length, replicate, None, Some, refl, sym, ap, subst, ◌∙◌, arith, append-nil, slice_get}
 use Rattle.acn_num.specs.Bits.{weight, number, low_bits, bits, octets, filled}
 use Rattle.acn_num.proofs.BitLists.{number_below, number-append, low_bits-number, bits-append}
-use Rattle.acn_stream.specs.Passing.{bit_at, bits_at}
+use Rattle.acn_octets.specs.Places.{bit_at, bits_at}
 
 -- a bit by its place
 pub bit_there : (bs : List Bool) (i : ℕ) (b : Bool) → Some b ≡ slice_get bs i → bit_at bs i ≡ b

@@ -1,9 +1,9 @@
 use Rattle.std.proofs.Common.{◌≡◌, ◌+◌, ℕ, subst, arith}
 use Rattle.acn_num.specs.Bits.{number}
 use Rattle.acn_num.proofs.BitLists.{weight_below}
-use Rattle.acn_stream.specs.Passing.{bit_at, bits_at}
-use Rattle.acn_stream.proofs.Bits.{octet_small, digit_more, octet_is}
-use Rattle.acn_stream.proofs.octets.octet_at.Goals as goal
+use Rattle.acn_octets.specs.Places.{bit_at, bits_at}
+use Rattle.acn_octets.proofs.Bits.{octet_small, digit_more, octet_is}
+use Rattle.acn_octets.proofs.octets.octet_at.Goals as goal
 
 pub overflow_mul-octet : goal.overflow_mul-octet
 overflow_mul-octet c =

@@ -1,7 +1,7 @@
 use Rattle.std.proofs.Common.{◌∙◌, sym, ap, true, false}
 use Rattle.acn_num.specs.Bits.{weight}
-use Rattle.acn_stream.proofs.Bits.{bit_there, no_bit}
-use Rattle.acn_stream.proofs.octets.digit.Goals as goal
+use Rattle.acn_octets.proofs.Bits.{bit_there, no_bit}
+use Rattle.acn_octets.proofs.octets.digit.Goals as goal
 
 pub returns-in-Some-true : goal.returns-in-Some-true
 returns-in-Some-true c =

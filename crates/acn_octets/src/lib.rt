@@ -1,0 +1,6 @@
+//! Bits as whole octets.
+#![tactic(auto)]
+
+mod octets;
+
+pub use octets::filled_octets;

@@ -1,0 +1,3 @@
+mod OneSummaries
+mod Reading
+mod Tallies
