@@ -1,2 +1,2 @@
--- for acn_plain
+-- for acn_plain and acn_stream_laws
 pub mod Lying

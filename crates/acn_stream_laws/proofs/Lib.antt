@@ -1,0 +1,7 @@
+mod Pieces
+mod Gaining
+mod Refusing
+mod Whole
+mod LineCuts
+mod Octets
+mod Lines
