@@ -15,11 +15,11 @@ use Rattle.acn_codings.proofs.Apart.{low, high}
 
 -- Sets.
 
-union_ranges : (a b : Ranges) → AreRanges a → AreRanges b → AreRanges (union a b)
+pub union_ranges : (a b : Ranges) → AreRanges a → AreRanges b → AreRanges (union a b)
 unfolding union outside
 union_ranges a b h k = outside_above (bottom -ℤ pos 1) _ (meet_above (bottom -ℤ pos 1) (bottom -ℤ pos 1) _ _ (outside_above (bottom -ℤ pos 1) a h) (outside_above (bottom -ℤ pos 1) b k))
 
-union_has : (a b : Ranges) (x : ℤ) → AreRanges a → AreRanges b → has (union a b) x ≡ (has a x || has b x)
+pub union_has : (a b : Ranges) (x : ℤ) → AreRanges a → AreRanges b → has (union a b) x ≡ (has a x || has b x)
 unfolding union
 union_has a b x h k = has_union a b x h k
 
@@ -40,7 +40,7 @@ free_union a b c h k f g x = ap (λ t. has a x && t) (union_has b c x h k) ∙ n
 
 -- Ranges.
 
-range_ranges : (lo hi : ℤ) → bottom ≤ℤ lo → hi ≤ℤ top → AreRanges (some_range lo hi)
+pub range_ranges : (lo hi : ℤ) → bottom ≤ℤ lo → hi ≤ℤ top → AreRanges (some_range lo hi)
 range_ranges lo hi l h = by (int_le lo hi) refl
   where
     by : (t : Bool) → int_le lo hi ≡ t → AreRanges (if t then (lo, hi) ∷ [] else [])
@@ -52,7 +52,7 @@ in_both lo hi x true true e f h = (le_fact lo x e, le_fact x hi f)
 in_both lo hi x true false e f h = absurd (true≢false (sym h))
 in_both lo hi x false q e f h = absurd (true≢false (sym h))
 
-in_range : (lo hi x : ℤ) → has (some_range lo hi) x ≡ true → (lo ≤ℤ x) × (x ≤ℤ hi)
+pub in_range : (lo hi x : ℤ) → has (some_range lo hi) x ≡ true → (lo ≤ℤ x) × (x ≤ℤ hi)
 in_range lo hi x = by (int_le lo hi)
   where
     by : (t : Bool) → has (if t then (lo, hi) ∷ [] else []) x ≡ true → (lo ≤ℤ x) × (x ≤ℤ hi)
@@ -69,11 +69,11 @@ free_ranges lo hi lo' hi' h x = false_from_ne_true _ (λ t.
 
 -- Lines.
 
-record LineRanges (l : Line) : Type 0 where
+pub record LineRanges (l : Line) : Type 0 where
   pub of_keys : AreRanges (keys l)
   pub of_images : AreRanges (images l)
 
-line_ranges : (l : Line) → line_fine l ≡ true → LineRanges l
+pub line_ranges : (l : Line) → line_fine l ≡ true → LineRanges l
 line_ranges l h =
     let a = and_parts (int_le l.0 l.1) (is_number l.0 && (is_number l.1 && (is_number l.2 && is_number (last_image l)))) h in
     let b = and_parts (is_number l.0) (is_number l.1 && (is_number l.2 && is_number (last_image l))) a.1 in

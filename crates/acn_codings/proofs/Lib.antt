@@ -1,2 +1,4 @@
-mod Apart
-mod FineFront
+-- for acn_leaf_laws
+pub mod Apart
+-- for acn_leaf_laws
+pub mod FineFront

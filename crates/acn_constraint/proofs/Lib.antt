@@ -3,5 +3,6 @@ mod Firsts
 mod Judged
 mod Steps
 mod Unions
-mod Permitted
+-- for acn_leaf_laws
+pub mod Permitted
 mod Shared

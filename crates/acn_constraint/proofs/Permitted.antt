@@ -100,7 +100,7 @@ module _ (w : World) (k : ℕ) (before : Ranges) (ordered : AreRanges before) wh
   mutual
     unfolding set_in meets_in meet_in parts_in part_in element_in permits any_permits meet_permits all_permit part_permits element_permits
 
-    set_holds : (r : Reading) (s : Set) → Holds (set_in w k r s before) (λ x. permits w k before x r s)
+    pub set_holds : (r : Reading) (s : Set) → Holds (set_in w k r s before) (λ x. permits w k before x r s)
     set_holds r (all_except e) = less before (element_in w k r e before) (λ x. has before x) (λ x. element_permits w k before x r e) stood (element_holds r e)
     set_holds r (union_of m more) = meets_hold r more (meet_in w k r m before) (λ x. meet_permits w k before x r m) (meet_holds r m)
 

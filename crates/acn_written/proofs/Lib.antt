@@ -1,3 +1,4 @@
 mod Noted
 mod Passed
-mod Within
+-- for acn_leaf_laws
+pub mod Within

@@ -1,0 +1,4 @@
+mod Lists
+mod Once
+mod Standing
+mod Fine
