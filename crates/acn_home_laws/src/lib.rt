@@ -3,4 +3,7 @@
 
 mod laws;
 
-pub use laws::{enclosed_nodes_go_on, nodes_inside_go_on, nodes_rise};
+pub use laws::{
+    enclosed_nodes_go_on, homes_are_fine, homes_are_found, nodes_inside_go_on, nodes_rise,
+    slot_rules_hold, slots_are_counted, slots_are_used, uses_are_open,
+};

@@ -1,0 +1,16 @@
+mod Fine
+mod Options
+mod BelowSites
+mod Depth
+mod Standing
+mod Listed
+mod OnTheWay
+mod Leading
+mod Reaching
+mod Used
+mod Facts
+mod Roles
+mod Choices
+mod Names
+mod Whole
+mod Made
