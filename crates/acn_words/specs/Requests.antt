@@ -1,5 +1,5 @@
 -- What the words of a command ask for. (This program's own.)
-use Rattle.std.specs.Prelude.{ℕ, Bool, ◌&&◌, nat_le, List, [], ◌∷◌, Option, Some, None, option_and_then, option_map, if◌then◌else◌, codes}
+use Rattle.std.specs.Prelude.{ℕ, Bool, true, false, ◌&&◌, nat_le, List, [], ◌∷◌, Option, Some, None, option_and_then, option_map, if◌then◌else◌, codes}
 use Rattle.std.specs.Str.{bytes_eq}
 use Rattle.acn_lex.specs.Number.{number_in}
 use Rattle.acn_words.specs.Files.{are_files}
@@ -61,3 +61,32 @@ by_command command rest =
 abbrev pub request_in : List (List ℕ) → Option Request
 request_in [] = None
 request_in (command ∷ rest) = by_command command rest
+
+-- the FILEs of a request
+abbrev pub files_of : Request → List (List ℕ)
+files_of (check names) = names
+files_of (bounds names) = names
+files_of (layout of names) = names
+files_of (encode of names) = names
+files_of (decode of names) = names
+files_of (work of start count names) = names
+
+-- the type that a request names, where it names one
+abbrev pub type_of : Request → Option TypeName
+type_of (check names) = None
+type_of (bounds names) = None
+type_of (layout of names) = Some of
+type_of (encode of names) = Some of
+type_of (decode of names) = Some of
+type_of (work of start count names) = Some of
+
+-- whether it reads the input
+abbrev pub reads_input : Request → Bool
+reads_input (encode of names) = true
+reads_input (decode of names) = true
+reads_input _ = false
+
+-- whether a number of values that are made is one
+abbrev pub has_count : Request → Bool
+has_count (work of start count names) = is_count count
+has_count _ = true

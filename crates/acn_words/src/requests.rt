@@ -1,6 +1,8 @@
 //! What words ask for.
 
-ghost use Rattle.std.specs.Prelude.{◌≡◌, ◌∷◌, option_map, map, string_bytes};
+ghost use Rattle.std.specs.Prelude.{◌≡◌, ◌∷◌, option_map, map, string_bytes, IfSome, IsTrue, true};
+ghost use Rattle.std.specs.List.{list_all};
+ghost use Rattle.acn_words.specs.Files.{is_file};
 ghost use Rattle.acn_words.specs.Requests as spec;
 ghost use Rattle.acn_words.specs.View.{request_view, type_view};
 
@@ -46,6 +48,22 @@ pub enum Request<'a> {
     },
 }
 
+impl<'a> Request<'a> {
+    /// The FILEs.
+    pub fn files(&self) -> &'a [String]
+        ensures { map string_bytes result.now ≡ spec.files_of (request_view self.now) }
+    {
+        match self {
+            Request::Check { files } => files,
+            Request::Bounds { files } => files,
+            Request::Layout { files, .. } => files,
+            Request::Encode { files, .. } => files,
+            Request::Decode { files, .. } => files,
+            Request::Work { files, .. } => files,
+        }
+    }
+}
+
 fn check<'a>(files: &'a [String]) -> Option<Request<'a>>
     ensures { option_map request_view result ≡ spec.with_files spec.check (map string_bytes files.now) }
 {
@@ -68,7 +86,8 @@ fn bounds<'a>(files: &'a [String]) -> Option<Request<'a>>
 
 // TYPE and the FILEs behind it.
 fn type_and_files<'a>(of: &'a String, files: &'a [String]) -> Option<TypeName<'a>>
-    ensures { option_map type_view result ≡ option_map (λ p. p.0) (spec.type_and_files (string_bytes of.now ∷ map string_bytes files.now)) }
+    ensures name { option_map type_view result ≡ option_map (λ p. p.0) (spec.type_and_files (string_bytes of.now ∷ map string_bytes files.now)) }
+    ensures files { IfSome result (λ name. IsTrue (list_all is_file (map string_bytes files.now))) }
 {
     match type_named(of.as_str().as_bytes()) {
         Some(of) => { if are_files(files) { Some(of) } else { None } }
@@ -77,7 +96,8 @@ fn type_and_files<'a>(of: &'a String, files: &'a [String]) -> Option<TypeName<'a
 }
 
 fn layout<'a>(rest: &'a [String]) -> Option<Request<'a>>
-    ensures { option_map request_view result ≡ spec.with_type spec.layout (map string_bytes rest.now) }
+    ensures request { option_map request_view result ≡ spec.with_type spec.layout (map string_bytes rest.now) }
+    ensures files { IfSome result (λ request. IsTrue (list_all is_file (spec.files_of (request_view request)))) }
 {
     match rest {
         [] => None,
@@ -89,7 +109,8 @@ fn layout<'a>(rest: &'a [String]) -> Option<Request<'a>>
 }
 
 fn encode<'a>(rest: &'a [String]) -> Option<Request<'a>>
-    ensures { option_map request_view result ≡ spec.with_type spec.encode (map string_bytes rest.now) }
+    ensures request { option_map request_view result ≡ spec.with_type spec.encode (map string_bytes rest.now) }
+    ensures files { IfSome result (λ request. IsTrue (list_all is_file (spec.files_of (request_view request)))) }
 {
     match rest {
         [] => None,
@@ -101,7 +122,8 @@ fn encode<'a>(rest: &'a [String]) -> Option<Request<'a>>
 }
 
 fn decode<'a>(rest: &'a [String]) -> Option<Request<'a>>
-    ensures { option_map request_view result ≡ spec.with_type spec.decode (map string_bytes rest.now) }
+    ensures request { option_map request_view result ≡ spec.with_type spec.decode (map string_bytes rest.now) }
+    ensures files { IfSome result (λ request. IsTrue (list_all is_file (spec.files_of (request_view request)))) }
 {
     match rest {
         [] => None,
@@ -114,7 +136,8 @@ fn decode<'a>(rest: &'a [String]) -> Option<Request<'a>>
 
 // A number of values from 1 to `MOST_MADE`.
 fn count_of(word: &[u8]) -> Option<u64>
-    ensures { result ≡ spec.count_in word.now }
+    ensures count { result ≡ spec.count_in word.now }
+    ensures few { IfSome result (λ count. spec.is_count count ≡ true) }
 {
     let count = number_of(word)?;
     if 1 <= count && count <= MOST_MADE {
@@ -130,7 +153,11 @@ fn made<'a>(
     count: Option<u64>,
     files: &'a [String],
 ) -> Option<Request<'a>>
-    ensures { option_map request_view result ≡ spec.made (type_view of.now) start count (map string_bytes files.now) }
+    requires few { IfSome count (λ n. spec.is_count n ≡ true) }
+    requires files { IsTrue (list_all is_file (map string_bytes files.now)) }
+    ensures request { option_map request_view result ≡ spec.made (type_view of.now) start count (map string_bytes files.now) }
+    ensures files { IfSome result (λ request. IsTrue (list_all is_file (spec.files_of (request_view request)))) }
+    ensures count { IfSome result (λ request. spec.has_count (request_view request) ≡ true) }
 {
     match (start, count) {
         (Some(start), Some(count)) => Some(Request::Work {
@@ -150,7 +177,9 @@ fn work_with<'a>(
     count: &'a String,
     files: &'a [String],
 ) -> Option<Request<'a>>
-    ensures { option_map request_view result ≡ spec.work_with (string_bytes of.now) (string_bytes start.now) (string_bytes count.now) (map string_bytes files.now) }
+    ensures request { option_map request_view result ≡ spec.work_with (string_bytes of.now) (string_bytes start.now) (string_bytes count.now) (map string_bytes files.now) }
+    ensures files { IfSome result (λ request. IsTrue (list_all is_file (spec.files_of (request_view request)))) }
+    ensures count { IfSome result (λ request. spec.has_count (request_view request) ≡ true) }
 {
     match type_named(of.as_str().as_bytes()) {
         Some(of) => {
@@ -167,7 +196,9 @@ fn work_with<'a>(
 }
 
 fn work<'a>(rest: &'a [String]) -> Option<Request<'a>>
-    ensures { option_map request_view result ≡ spec.with_work (map string_bytes rest.now) }
+    ensures request { option_map request_view result ≡ spec.with_work (map string_bytes rest.now) }
+    ensures files { IfSome result (λ request. IsTrue (list_all is_file (spec.files_of (request_view request)))) }
+    ensures count { IfSome result (λ request. spec.has_count (request_view request) ≡ true) }
 {
     match rest {
         [of, start, count, files @ ..] => work_with(of, start, count, files),
@@ -177,7 +208,9 @@ fn work<'a>(rest: &'a [String]) -> Option<Request<'a>>
 
 /// What the words behind the program's name ask for. None exactly where they have none of the forms of `Request`.
 pub fn read_words(words: &[String]) -> Option<Request<'_>>
-    ensures { option_map request_view result ≡ spec.request_in (map string_bytes words.now) }
+    ensures request { option_map request_view result ≡ spec.request_in (map string_bytes words.now) }
+    ensures files { IfSome result (λ request. IsTrue (list_all is_file (spec.files_of (request_view request)))) }
+    ensures count { IfSome result (λ request. spec.has_count (request_view request) ≡ true) }
 {
     let (command, rest) = words.split_first()?;
     match command.as_str() {

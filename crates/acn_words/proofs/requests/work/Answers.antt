@@ -15,15 +15,15 @@ long (x ∷ []) of start count h a b c = absurd (omega arith)
 long (x ∷ y ∷ []) of start count h a b c = absurd (omega arith)
 long (x ∷ y ∷ z ∷ ws) of start count h a b c = rw (a, b, c) refl
 
-pub returns-in_default : goal.returns-in_default
-returns-in_default c = short c.args.rest.now c.in_default.len_below
+pub returns-in_default-clause-request : goal.returns-in_default-clause-request
+returns-in_default-clause-request c = short c.args.rest.now c.in_default.len_below
 
 whole : (ws : List (String Global)) → take (length ws - 3) (drop 3 ws) ≡ drop 3 ws
 whole ws =
     let left = length-drop 3 ws in
     take_all (length ws - 3) (drop 3 ws) (omega (arith, left))
 
-pub returns-in-len3-up : goal.returns-in-len3-up
-returns-in-len3-up c =
-    c.work_with.ensures ∙ (ap (λ (ws : List (String Global)). work_with (string_bytes c.of-item.result) (string_bytes c.start-item.result) (string_bytes c.count-item.result) (map string_bytes ws)) (whole c.args.rest.now)
+pub returns-in-len3-up-clause-request : goal.returns-in-len3-up-clause-request
+returns-in-len3-up-clause-request c =
+    c.work_with.ensures.request ∙ (ap (λ (ws : List (String Global)). work_with (string_bytes c.of-item.result) (string_bytes c.start-item.result) (string_bytes c.count-item.result) (map string_bytes ws)) (whole c.args.rest.now)
     ∙ long c.args.rest.now c.of-item.result c.start-item.result c.count-item.result c.in-len3-up.len_at_least c.of-item.is c.start-item.is c.count-item.is)
