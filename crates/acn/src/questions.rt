@@ -1,12 +1,27 @@
 ghost use Rattle.std.specs.Prelude.{◌≡◌, map, string_bytes};
 ghost use Rattle.acn.specs.Questions as spec;
 
-const HELP: &str = "Usage: acn decode MODULE.TYPE FILE
+const HELP: &str = "Usage: acn check FILE..              acn check tm.asn tm.acn
+       acn bounds FILE..             acn bounds tm.asn tm.acn
+       acn layout TYPE FILE..        acn layout Tm.Packet tm.asn tm.acn
+       acn encode TYPE FILE..        acn encode Tm.Packet tm.asn tm.acn < lines > packets
+       acn decode TYPE FILE..        acn decode Tm.Packet tm.asn tm.acn < packets > lines
+       acn work TYPE START COUNT FILE..
+                                     acn work Tm.Packet 1 1000 tm.asn tm.acn
        acn --help
        acn --version
 
-Reads packets from the standard input and writes one JSON line for each.
-FILE ends in .asn or .asn1 and holds one SEQUENCE of ranged integers.
+check     says of each root type that its packets can be decoded
+bounds    prints the least and the greatest number of bits of each root type
+layout    prints a line for each node of the type
+encode    reads JSON lines and writes packets
+decode    reads packets and writes JSON lines
+work      makes COUNT values from the number START, writes and reads each
+
+A FILE ends in .asn or .asn1, .acn or .map; at least one holds ASN.1 modules.
+TYPE is MODULE.NAME. A refusal is one line on standard error; the status is
+1 for bad words, 2 for refused files, 3 for refused input, 4, 5 and 6 where a
+file, the input or the output fails, and 7 where memory runs out.
 ";
 
 const VERSION: &str = "acn 0.1\n";

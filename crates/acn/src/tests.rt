@@ -27,7 +27,7 @@ fn each_question_has_its_text(rt: HostRuntime) {
     assert!(rt;
         Question::Help
             .text()
-            .starts_with("Usage: acn decode MODULE.TYPE FILE\n")
+            .starts_with("Usage: acn check FILE..  ")
     );
     assert_eq!(rt; Question::Version.text(), "acn 0.1\n");
 }

@@ -1,164 +1,102 @@
--- How a run ends, and its status.
-use Rattle.std.specs.Prelude.{◌≡◌, ◌⊎◌, ℕ, true, false, List, [], Option, Result, Ok, Err}
-use Rattle.acn_outside.specs.Moves.{Takes, IsUsedUp}
-use Rattle.acn_outside.specs.Whole.{IsWhole, IsTooLong}
-use Rattle.acn_outside.specs.declared.whole.WholeFault.{WholeFault}
-use Rattle.acn_outside.specs.declared.whole.WholeFault.TheVariants as whole
-use Rattle.acn_grammar.specs.Grammar.{Grammar}
-use Rattle.acn_grammar.specs.Tree.{IsTree}
-use Rattle.acn_run.specs.declared.components.Component.{Component}
-use Rattle.acn_run.specs.declared.input.InputFault.{InputFault}
-use Rattle.acn_run.specs.declared.input.InputFault.TheVariants as input
-use Rattle.acn_run.specs.declared.form.FormFault.{FormFault}
-use Rattle.acn_run.specs.declared.form.FormFault.TheVariants as form
-use Rattle.acn_run.specs.declared.top_call.RunFault.{RunFault}
-use Rattle.acn_run.specs.declared.top_call.RunFault.TheVariants.{Usage, File, FileTooLong, OtherForm, Input, InputTooLong, Packet, Output, NoMemory}
-use Rattle.acn_run.specs.Decoding.{WritesLines, WritesUpTo, WritesFront, WritesSome}
-use Rattle.acn_run.specs.Form.{IsForm}
-use Rattle.acn_run.specs.Input.{GivesTooMuch}
-use Rattle.acn_run.specs.Packet.{grammar_of}
-use Rattle.acn_run.specs.Words.{is_decode, module_word, type_word, file_word}
+-- How a run ends, by its status. (This program's own.)
+use Rattle.std.specs.Prelude.{◌≡◌, ℕ, Bool, true, false, List, [], ◌∷◌, Some, None, Result, Ok, Err, slice_get}
+use Rattle.std.specs.List.{flat_map}
+use Rattle.acn_grammar.specs.View.{grammar_of}
+use Rattle.acn_layout.specs.Layout.{layout_text}
+use Rattle.acn_outside.specs.Counts.{Rose}
+use Rattle.acn_outside.specs.Moves.{Gains}
+use Rattle.acn_outside.specs.Whole.{GainsFront}
+use Rattle.acn_report.specs.CheckTexts.{no_memory_line}
+use Rattle.acn_report.specs.Texts.{bounds_line}
+use Rattle.acn_source_report.specs.Texts.{unreadable_line}
+use Rattle.acn_stream.specs.Decoding.{DecodeEnds}
+use Rattle.acn_stream.specs.Encoding.{EncodeEnds}
+use Rattle.acn_stream.specs.declared.stream_fault.StreamFault.{StreamFault}
+use Rattle.acn_stream.specs.declared.stream_fault.StreamFault.TheVariants as stream
+use Rattle.acn_tree.specs.declared.tree.Tree.{Tree}
+use Rattle.acn_words.specs.Requests.{Request, check, bounds, layout, encode, decode, work, request_in, files_of}
+use Rattle.acn_work.specs.Line.{summary_line}
+use Rattle.acn_work.specs.Summaries.{IsSummary}
+use Rattle.acn_work.specs.declared.summary.Summary.{Summary}
+use Rattle.acn_run.specs.Asked.{HasGrammars}
+use Rattle.acn_run.specs.Lines.{usage_line, input_failed_line, output_failed_line, ok_line, stream_line}
+use Rattle.acn_run.specs.Outside.{Outside, Says, IsSilent, IsUnread, IsUntouched}
+use Rattle.acn_run.specs.Refusals.{Refuses}
+use Rattle.acn_run.specs.declared.status.Status.{Status}
+use Rattle.acn_run.specs.declared.status.Status.TheVariants.{Done, Usage, NoGrammar, BadInput, FileFailed, InputFailed, OutputFailed, NoMemory}
+use Rattle.acn_run.specs.declared.streams.TheConstants.{MOST_INPUT_BYTES}
 
-abbrev pub file_fault_of : WholeFault → RunFault
-file_fault_of whole.Failed = File
-file_fault_of whole.TooLong = FileTooLong
-file_fault_of whole.NoMemory = NoMemory
+-- the number of a status
+abbrev pub code_of : Status → ℕ
+code_of Done = 0
+code_of Usage = 1
+code_of NoGrammar = 2
+code_of BadInput = 3
+code_of FileFailed = 4
+code_of InputFailed = 5
+code_of OutputFailed = 6
+code_of NoMemory = 7
 
-abbrev pub form_fault_of : FormFault → RunFault
-form_fault_of form.OtherForm = OtherForm
-form_fault_of form.NoMemory = NoMemory
+-- a packet, a line or the length of the input is at fault, and no device
+abbrev pub is_of_input : StreamFault → Bool
+is_of_input (stream.LineTooLong number) = true
+is_of_input stream.InputTooLong = true
+is_of_input stream.EmptyPacket = false
+is_of_input (stream.Packet number fault) = true
+is_of_input (stream.BadLine number fault) = true
+is_of_input (stream.Unfit number fault) = true
+is_of_input stream.InputFault = false
+is_of_input stream.OutputFault = false
+is_of_input stream.NoMemory = false
 
-abbrev pub input_fault_of : InputFault → RunFault
-input_fault_of input.Failed = Input
-input_fault_of input.TooLong = InputTooLong
-input_fault_of input.NoMemory = NoMemory
+-- the text of a command that doesn't read the input
+abbrev pub IsText : Request → List Tree → List ℕ → Type 0
+IsText (check names) trees text = text ≡ flat_map ok_line trees
+IsText (bounds names) trees text = text ≡ flat_map bounds_line trees
+IsText (layout of names) trees text = text ≡ flat_map layout_text trees
+IsText (encode of names) trees text = ⊥
+IsText (decode of names) trees text = ⊥
+IsText (work of start count names) (tree ∷ []) text = (s : Summary) × IsSummary (grammar_of tree.root) start count s × (text ≡ summary_line s)
+IsText (work of start count names) _ text = ⊥
 
-abbrev pub status_of : RunFault → ℕ
-status_of Usage = 1
-status_of FileTooLong = 2
-status_of OtherForm = 2
-status_of InputTooLong = 3
-status_of Packet = 3
-status_of File = 4
-status_of Input = 5
-status_of Output = 6
-status_of NoMemory = 7
+-- how a command that reads the input converts it
+abbrev pub Converts : Request → Tree → (b a : Outside) → Result ℕ StreamFault → Type 0
+Converts (encode of names) tree b a result = EncodeEnds (grammar_of tree.root) MOST_INPUT_BYTES b.input a.input b.out.0 a.out.0 result
+Converts (decode of names) tree b a result = DecodeEnds (grammar_of tree.root) MOST_INPUT_BYTES b.input a.input b.out.0 a.out.0 result
+Converts _ tree b a result = ⊥
 
-abbrev pub status_by : Result (Unit {0}) RunFault → ℕ
-status_by (Ok x) = 0
-status_by (Err fault) = status_of fault
+-- What a run did between what it saw first and what it saw last.
+module _ (b a : Outside) where
+  pub data Serves (request : Request) : Status → Type 0 where
+    -- 0: the text of the command was written
+    printed : (trees : List Tree) (text : List ℕ) → HasGrammars b.files request trees → IsText request trees text → IsUnread b a → Gains b.out.0 a.out.0 text → IsSilent b.err a.err → Serves request Done
+    -- 0: the input was converted to its end
+    converted : (tree : Tree) (count : ℕ) → HasGrammars b.files request (tree ∷ []) → Converts request tree b a (Ok count) → IsSilent b.err a.err → Serves request Done
+    -- 2: the sources are refused
+    refused : (line : List ℕ) → Refuses b.files request line → IsUntouched b a → Says line b.err a.err → Serves request NoGrammar
+    -- 3: a packet, a line or the length of the input is refused
+    unconverted : (tree : Tree) (fault : StreamFault) → HasGrammars b.files request (tree ∷ []) → is_of_input fault ≡ true → Converts request tree b a (Err fault) → Says (stream_line tree fault) b.err a.err → Serves request BadInput
+    -- 4: a file among the words can't be read
+    unreadable : (k : ℕ) (name : List ℕ) → slice_get (files_of request) k ≡ Some name → Rose (b.file_faults name) (a.file_faults name) → IsUntouched b a → Says (unreadable_line name) b.err a.err → Serves request FileFailed
+    -- 5: the input failed
+    broken_off : (tree : Tree) → HasGrammars b.files request (tree ∷ []) → Converts request tree b a (Err stream.InputFault) → Rose b.input_faults a.input_faults → Says input_failed_line b.err a.err → Serves request InputFailed
+    -- 6: the output failed within the text of the command
+    unwritten : (trees : List Tree) (text : List ℕ) → HasGrammars b.files request trees → IsText request trees text → IsUnread b a → GainsFront b.out.0 a.out.0 text → Rose b.out.1 a.out.1 → Says output_failed_line b.err a.err → Serves request OutputFailed
+    -- 6: the output failed within what the input is converted to
+    cut : (tree : Tree) → HasGrammars b.files request (tree ∷ []) → Converts request tree b a (Err stream.OutputFault) → Rose b.out.1 a.out.1 → Says output_failed_line b.err a.err → Serves request OutputFailed
+    -- 7: memory ran out before anything was read or written
+    stopped : IsUntouched b a → Says no_memory_line b.err a.err → Serves request NoMemory
+    -- 7: memory ran out while the input was converted
+    halted : (tree : Tree) → HasGrammars b.files request (tree ∷ []) → Converts request tree b a (Err stream.NoMemory) → Says no_memory_line b.err a.err → Serves request NoMemory
 
--- the file was read whole, and is in the form with these components, whose grammar is well formed
-pub record Opened (contents : Option (List ℕ)) (owner name : List ℕ) (cs : List Component) : Type 0 where
-  pub file : List ℕ
-  pub whole : IsWhole contents file
-  pub form : IsForm file owner name cs
-  pub formed : IsTree (grammar_of cs)
+  pub data Ends (words : List (List ℕ)) : Status → Type 0 where
+    -- 1: the words have none of the forms of a command
+    no_form : request_in words ≡ None → IsUntouched b a → Says usage_line b.err a.err → Ends words Usage
+    -- the request of the words was served
+    served : (request : Request) (status : Status) → request_in words ≡ Some request → Serves request status → Ends words status
 
--- the file was read whole, and isn't in the form
-pub record IsOther (contents : Option (List ℕ)) (owner name : List ℕ) : Type 0 where
-  pub file : List ℕ
-  pub whole : IsWhole contents file
-  pub other : (cs : List Component) → IsForm file owner name cs → ⊥
-
--- the input was read to its end
-pub record ReadWhole (before after : Option (List ℕ)) (given : List ℕ) : Type 0 where
-  pub taken : Takes before after given
-  pub used_up : IsUsedUp after
-
--- What decoding by a grammar did, by the way it ended: i are the bytes of the input before and after, o those of the output.
-module _ (g : Grammar) (i i' o o' : Option (List ℕ)) where
-  abbrev pub Whole : (List ℕ → Type 0) → Type 0
-  Whole P = (given : List ℕ) × ReadWhole i i' given × P given
-
-  -- the input is a recording, and its lines were written
-  abbrev pub IsDone : Type 0
-  IsDone = Whole (λ given. WritesLines g given [] o o')
-
-  -- too many bytes came, and nothing was written
-  abbrev pub IsLong : Type 0
-  IsLong = GivesTooMuch i i' × (o' ≡ o)
-
-  -- the input is a recording and a rest without a packet at its front, and the lines of the recording were written
-  abbrev pub IsRefused : Type 0
-  IsRefused = Whole (λ given. WritesUpTo g given o o')
-
-  -- the lines of a recording at the front of the input were written up to some byte
-  abbrev pub IsCut : Type 0
-  IsCut = Whole (λ given. WritesFront g given o o')
-
-  -- whole lines of packets at the front of the input were written, or nothing
-  abbrev pub IsShort : Type 0
-  IsShort = (o' ≡ o) ⊎ Whole (λ given. WritesSome g given o o')
-
-  abbrev pub DecodeEnds : Result (Unit {0}) RunFault → Type 0
-  DecodeEnds (Ok x) = IsDone
-  DecodeEnds (Err InputTooLong) = IsLong
-  DecodeEnds (Err Packet) = IsRefused
-  DecodeEnds (Err Input) = o' ≡ o
-  DecodeEnds (Err Output) = IsCut
-  DecodeEnds (Err NoMemory) = IsShort
-  DecodeEnds (Err fault) = ⊥
-
--- what decoding these bytes did to the output, by the way it ended
-abbrev pub BytesEnd : Grammar → List ℕ → Option (List ℕ) → Option (List ℕ) → Result (Unit {0}) RunFault → Type 0
-BytesEnd g bytes o o' (Ok x) = WritesLines g bytes [] o o'
-BytesEnd g bytes o o' (Err Packet) = WritesUpTo g bytes o o'
-BytesEnd g bytes o o' (Err Output) = WritesFront g bytes o o'
-BytesEnd g bytes o o' (Err NoMemory) = (o' ≡ o) ⊎ WritesSome g bytes o o'
-BytesEnd g bytes o o' (Err fault) = ⊥
-
--- how opening the file fails
-abbrev pub OpenFails : Option (List ℕ) → (owner name : List ℕ) → RunFault → Type 0
-OpenFails contents owner name OtherForm = IsOther contents owner name
-OpenFails contents owner name FileTooLong = IsTooLong contents
-OpenFails contents owner name File = Unit {0}
-OpenFails contents owner name NoMemory = Unit {0}
-OpenFails contents owner name fault = ⊥
-
-abbrev pub Opens : Option (List ℕ) → (owner name : List ℕ) → Result (List Component) RunFault → Type 0
-Opens contents owner name (Ok cs) = Opened contents owner name cs
-Opens contents owner name (Err fault) = OpenFails contents owner name fault
-
--- What a run did, by the way it ended.
-module _ (words : List (List ℕ)) (contents : List ℕ → Option (List ℕ)) (i i' o o' : Option (List ℕ)) where
-  -- the file of the words is in the form for their type, and decoding by its grammar did this
-  abbrev pub Decodes : (Grammar → Type 0) → Type 0
-  Decodes P = (cs : List Component) × Opened (contents (file_word words)) (module_word words) (type_word words) cs × P (grammar_of cs)
-
-  -- neither the input nor the output was touched
-  pub record IsUntouched : Type 0 where
-    pub input : i' ≡ i
-    pub output : o' ≡ o
-
-  -- the file of the words is too long, or isn't in the form
-  abbrev pub IsNoSource : Type 0
-  IsNoSource = IsTooLong (contents (file_word words)) ⊎ IsOther (contents (file_word words)) (module_word words) (type_word words)
-
-  abbrev pub Ended : Result (Unit {0}) RunFault → Type 0
-  Ended (Err Usage) = IsUntouched × (is_decode words ≡ false)
-  Ended (Err FileTooLong) = (is_decode words ≡ true) × IsUntouched × IsNoSource
-  Ended (Err OtherForm) = (is_decode words ≡ true) × IsUntouched × IsNoSource
-  Ended (Err File) = (is_decode words ≡ true) × IsUntouched
-  Ended (Err NoMemory) = (is_decode words ≡ true) × ((o' ≡ o) ⊎ Decodes (λ g. IsShort g i i' o o'))
-  Ended result = (is_decode words ≡ true) × Decodes (λ g. DecodeEnds g i i' o o' result)
-
-  -- the same by the status
-  abbrev pub RunEnds : ℕ → Type 0
-  RunEnds status = (result : Result (Unit {0}) RunFault) × (status ≡ status_by result) × Ended result
-
-  -- the input is a recording, and the output gained its lines
-  abbrev pub Finished : Type 0
-  Finished = Decodes (λ g. IsDone g i i' o o')
-
-  -- Too many bytes came, or the input is a recording and a rest without a packet at its front. The output gained nothing, or the lines of the recording.
-  abbrev pub Refused : Type 0
-  Refused = Decodes (λ g. IsLong g i i' o o' ⊎ IsRefused g i i' o o')
-
-  -- the output gained a front of the lines of packets at the front of the input
-  abbrev pub Cut : Type 0
-  Cut = Decodes (λ g. IsCut g i i' o o')
-
-  -- the output gained nothing, or whole lines of packets at the front of the input
-  abbrev pub Stopped : Type 0
-  Stopped = (o' ≡ o) ⊎ Decodes (λ g. IsShort g i i' o o')
+  -- by the number of the status
+  pub record EndsWith (words : List (List ℕ)) (code : ℕ) : Type 0 where
+    pub status : Status
+    pub is : code ≡ code_of status
+    pub ends : Ends words status

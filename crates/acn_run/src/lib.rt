@@ -1,20 +1,17 @@
-//! The top call: it reads the words of a command and does what they say with the files, the input and the outputs.
+//! The top call: what the words of a command ask for is done with the files, the input and the outputs.
 #![tactic(auto)]
 
-mod components;
-mod decode;
-mod form;
-mod grammar;
-mod input;
+mod answers;
+mod grammars;
 mod laws;
-mod line;
-mod order;
-mod packet;
+mod reports;
+mod sources;
+mod status;
+mod streams;
+mod texts;
 mod top_call;
-mod words;
 
-pub use laws::members_are_printed_in_byte_order;
+pub use laws::each_grammar_keeps_its_promise;
+pub use status::Status;
+pub use streams::MOST_INPUT_BYTES;
 pub use top_call::run;
-
-#[cfg(test)]
-mod tests;

@@ -1,0 +1,61 @@
+-- Why a request is refused for its sources, with the line that says so. (This program's own. The order of the reasons is that of X.680's layers: text, names, types.)
+use Rattle.std.specs.Prelude.{◌≡◌, ℕ, List, [], ◌∷◌, Some, None, slice_get, codes, IsTrue}
+use Rattle.std.specs.List.{concat}
+use Rattle.acn_files.specs.Contents.{Told, IsFirstTooLong}
+use Rattle.acn_front.specs.Grammars.{IsFirstTypeFault}
+use Rattle.acn_front.specs.Loaded.{IsLoadFault}
+use Rattle.acn_front.specs.declared.grammars.TypeFault.{TypeFault}
+use Rattle.acn_front.specs.declared.grammars.TypeFault.TheVariants as type_fault
+use Rattle.acn_front.specs.declared.loading.LoadFault.TheVariants as load_fault
+use Rattle.acn_grammar.specs.Interval.{span}
+use Rattle.acn_grammar.specs.View.{grammar_of}
+use Rattle.acn_grammar.specs.declared.check_fault.CheckFault.{CheckFault}
+use Rattle.acn_index.specs.World.{World}
+use Rattle.acn_index.specs.declared.sources.TypeId.{TypeId}
+use Rattle.acn_report.specs.CheckTexts.{check_line}
+use Rattle.acn_report.specs.Texts.{empty_line}
+use Rattle.acn_source_report.specs.Texts.{long_file_line, file_line, name_line, name_line_with, refused_line}
+use Rattle.acn_sources.specs.declared.fault.SourcesFault.{SourcesFault}
+use Rattle.acn_sources.specs.declared.sources.File.{File}
+use Rattle.acn_survey.specs.declared.reason.Refused.{Refused}
+use Rattle.acn_tree.specs.declared.tree.Tree.{Tree}
+use Rattle.acn_words.specs.Names.{TypeName}
+use Rattle.acn_words.specs.Requests.{Request, files_of, type_of, reads_input}
+use Rattle.acn_world.specs.Faults.{module_name_at, name_at}
+use Rattle.acn_world.specs.declared.fault.NameFault.{NameFault}
+use Rattle.acn_run.specs.Asked.{AreRead, IsWorldOfNames, types_for, HasGrammars}
+
+-- a type that the merge makes into what is no tree, which isn't proved to be none
+abbrev pub unformed_line : (owner name : List ℕ) → List ℕ
+unformed_line owner name = concat (codes "acn: " ∷ owner ∷ codes "." ∷ name ∷ codes ": Unformed\n" ∷ [])
+
+-- where no type has this name
+abbrev pub unknown_line : TypeName → List ℕ
+unknown_line of = name_line_with (codes "Unknown") of.module_name of.name
+
+-- the types in question, and why not all of them have a grammar
+pub record HasTypeFault (told : Told) (request : Request) (w : World) (f : TypeFault) : Type 0 where
+  pub types : List TypeId
+  pub read : IsWorldOfNames told (files_of request) w
+  pub question : types_for w (type_of request) ≡ Some types
+  pub first : IsFirstTypeFault w types f
+
+module _ (told : Told) (request : Request) where
+  pub data Refuses : (line : List ℕ) → Type 0 where
+    -- a file has too many bytes
+    too_long : (k : ℕ) (name : List ℕ) → slice_get (files_of request) k ≡ Some name → IsFirstTooLong told (files_of request) k → Refuses (long_file_line name)
+    -- a file has no tree
+    file : (contents : List (List ℕ)) (files : List File) (name bytes : List ℕ) (f : SourcesFault) → AreRead told (files_of request) contents files → IsLoadFault files (load_fault.File f)
+        → slice_get (files_of request) f.file ≡ Some name → slice_get contents f.file ≡ Some bytes → Refuses (file_line name bytes f.fault)
+    -- a name leads nowhere
+    name : (contents : List (List ℕ)) (files : List File) (f : NameFault) → AreRead told (files_of request) contents files → IsLoadFault files (load_fault.Name f) → Refuses (name_line f)
+    -- no type has the name in question
+    unknown : (w : World) (of : TypeName) → IsWorldOfNames told (files_of request) w → type_of request ≡ Some of → types_for w (type_of request) ≡ None → Refuses (unknown_line of)
+    -- a node of a type can't be made
+    unmade : (w : World) (r : Refused) → HasTypeFault told request w (type_fault.Refused r) → Refuses (refused_line r)
+    -- what is made of a type isn't well formed
+    unformed : (w : World) (of : TypeId) (owner own : List ℕ) → HasTypeFault told request w (type_fault.Unformed of) → module_name_at w of ≡ Some owner → name_at w of ≡ Some own → Refuses (unformed_line owner own)
+    -- packets of a type can't be decoded
+    undecodable : (w : World) (tree : Tree) (f : CheckFault) → HasTypeFault told request w (type_fault.Undecodable tree f) → Refuses (check_line tree f)
+    -- nothing says how many packets there are
+    empty : (tree : Tree) → HasGrammars told request (tree ∷ []) → IsTrue (reads_input request) → (span (grammar_of tree.root)).least ≡ 0 → Refuses (empty_line tree)
