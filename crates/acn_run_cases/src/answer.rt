@@ -1,0 +1,157 @@
+//! Answers to cases.
+
+use crate::input::{input_of, times_of};
+use crate::outputs::taken_in_words;
+use crate::setting::{Setting, setting_of};
+use crate::sheet::Sheet;
+use acn_case_lines::word;
+use acn_case_sheets::{Trouble, parts_of};
+use acn_num::NoMemory;
+use acn_outside::{MemSink, MemSource};
+use acn_run::run;
+use std::alloc::Global;
+
+// The most bytes that an output keeps.
+const ROOM: usize = 16_384;
+
+// The most bytes that a long output keeps.
+const LONG_ROOM: usize = 500_000;
+
+// The most bytes that are given or taken at once, where nothing is said.
+const WHOLE: usize = 1_000_000;
+
+// A case.
+#[derive(Drop)]
+struct Case<'a> {
+    sheet: &'a Sheet,
+    words: Vec<String>,
+    input: Vec<u8>,
+    parts: Vec<&'a str>,
+}
+
+// The numbers of calls that fail.
+fn failing(alloc: Global, call: Option<u64>) -> Result<Vec<u64>, NoMemory> {
+    let mut calls = Vec::new(alloc);
+    match call {
+        Some(call) => calls.push(call)?,
+        None => {}
+    }
+    Ok(calls)
+}
+
+fn sink(alloc: Global, setting: &Setting, call: Option<u64>) -> Result<MemSink, NoMemory> {
+    let fail = failing(alloc, call)?;
+    let size = if setting.long { LONG_ROOM } else { ROOM };
+    let room = vec![in alloc; 0u8; size]?;
+    Ok(MemSink::new(room, setting.room.unwrap_or(WHOLE).max(1), fail))
+}
+
+fn source(alloc: Global, setting: &Setting, bytes: &[u8]) -> Result<MemSource, NoMemory> {
+    let fail = failing(alloc, setting.input)?;
+    let bytes = Vec::from_slice(alloc, bytes)?;
+    Ok(MemSource::new(bytes, setting.piece.unwrap_or(WHOLE).max(1), fail))
+}
+
+fn told(alloc: Global, out: &MemSink, group: Option<usize>) -> Result<String, NoMemory> {
+    match out.bytes() {
+        Some(bytes) => taken_in_words(alloc, bytes, group),
+        None => Ok(format!(in alloc; " too much")?),
+    }
+}
+
+// The octets of a group, where octets are written.
+fn group_of(words: &[String], setting: &Setting) -> Option<usize> {
+    match words.first() {
+        Some(word) if word.as_str() == "encode" => Some(setting.group.unwrap_or(WHOLE)),
+        _ => None,
+    }
+}
+
+// The answer to one run.
+fn once(alloc: Global, case: &Case<'_>, setting: &Setting) -> Result<String, Trouble> {
+    let parts = case.parts.as_slice().get(1..).unwrap_or(&[]);
+    let fail = failing(alloc, setting.file)?;
+    let mut files = case.sheet.in_memory(alloc, parts, fail)?;
+    let mut input = source(alloc, setting, case.input.as_slice())?;
+    let mut out = sink(alloc, setting, setting.output)?;
+    let mut err = sink(alloc, setting, setting.errors)?;
+    let status = run(
+        alloc,
+        &case.words,
+        &mut files,
+        &mut input,
+        &mut out,
+        &mut err,
+    );
+    let written = told(alloc, &out, group_of(case.words.as_slice(), setting))?;
+    let errors = told(alloc, &err, None)?;
+    Ok(format!(in alloc; "{status};{written};{errors}")?)
+}
+
+// The answer of another run, which has to be the same.
+fn again(
+    alloc: Global,
+    case: &Case<'_>,
+    setting: &Setting,
+    piece: usize,
+    first: String,
+) -> Result<String, Trouble> {
+    let other = once(alloc, case, &setting.in_pieces(piece, piece))?;
+    if other.as_str() == first.as_str() {
+        return Ok(first);
+    }
+    Ok(format!(in alloc; "{first} by {piece}: {other}")?)
+}
+
+fn of_case(alloc: Global, case: &Case<'_>, setting: &Setting) -> Result<String, Trouble> {
+    let first = once(alloc, case, setting)?;
+    if setting.is_single() {
+        return Ok(first);
+    }
+    let mut said = again(alloc, case, setting, 1, first)?;
+    if setting.each {
+        for piece in 2..case.input.len() {
+            said = again(alloc, case, setting, piece, said)?;
+        }
+    }
+    Ok(said)
+}
+
+fn put_word(alloc: Global, word: &str, times: u32, all: &mut Vec<String>) -> Result<(), NoMemory> {
+    for _ in 0..times {
+        all.push(word.to_string(alloc)?)?;
+    }
+    Ok(())
+}
+
+fn words_of(alloc: Global, text: &str) -> Result<Vec<String>, NoMemory> {
+    let mut all = Vec::new(alloc);
+    let mut times = 1;
+    for word in text.split_whitespace() {
+        match times_of(word) {
+            Some(count) => times = count,
+            None => {
+                put_word(alloc, word, times, &mut all)?;
+                times = 1;
+            }
+        }
+    }
+    Ok(all)
+}
+
+/// The answer to a case.
+pub fn answer(alloc: Global, sheet: &Sheet, case: &str) -> Result<String, Trouble> {
+    let parts = parts_of(alloc, case)?;
+    let question = word(parts.as_slice(), 0);
+    let (words, rest) = question.split_once(" :").unwrap_or((question, ""));
+    let (input, settings) = rest.split_once(" :").unwrap_or((rest, ""));
+    let settings: Vec<&str> = settings.split_whitespace().collect(alloc)?;
+    let setting = setting_of(settings.as_slice());
+    let case = Case {
+        sheet,
+        words: words_of(alloc, words)?,
+        input: input_of(alloc, input)?,
+        parts,
+    };
+    of_case(alloc, &case, &setting)
+}

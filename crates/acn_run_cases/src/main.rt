@@ -1,0 +1,62 @@
+//! Prints its input, with the answer behind each `=>`.
+//!
+//! A line `sources` begins a group. A line `file NAME TEXT` is a file of it, which goes on as `acn_case_sheets` says, and a line
+//! `spaces NAME COUNT` a file of so many spaces. A case `WORDS : INPUT : SETTINGS ;; PARTS =>` asks what the top call does with these
+//! words, the files of the group, in which the parts stand in the places of `$1`, `$2` and `$3`, and this input. The parts, the settings
+//! and the input may be left out.
+//!
+//! The words of an input are hexadecimal digits, two a byte, or characters behind a `'`, where `\` and two hexadecimal digits are one
+//! byte. `5000x` writes the word behind it 5,000 times.
+//!
+//! The answer is `STATUS; OUTPUT; ERRORS`. An output is its lines with ` |` for each line feed, and that of `encode` its octets; what
+//! stands several times one behind the other is written once, with `x5000` behind it.
+//!
+//! Settings: `piece N`, the most bytes that a read of the input gives; `room N`, the most that a write takes; `file K`, `input K`,
+//! `output K` and `errors K`, the call, from 0, of that object that fails; `each`, the input comes in pieces of every size; `long`, the
+//! output has more than 16,384 bytes; `group N`, the octets of `encode` are written in groups of so many. Without `piece`, `room` and a
+//! call that fails a case runs a second time, where each read gives an octet and each write takes one; the answers have to be the same.
+#![tactic(auto)]
+
+mod answer;
+mod input;
+mod outputs;
+mod setting;
+mod sheet;
+
+use acn_case_lines::{Line, line_of};
+use acn_case_sheets::Trouble;
+use answer::answer;
+use sheet::Sheet;
+use std::alloc::Global;
+use std::io;
+
+// What is printed for a line.
+fn reply(alloc: Global, sheet: &mut Sheet, line: &str) -> Result<String, Trouble> {
+    match line_of(line) {
+        Line::Case(case) => {
+            let said = answer(alloc, sheet, case)?;
+            Ok(format!(in alloc; "{case}=> {said}")?)
+        }
+        Line::Note => Ok(line.to_string(alloc)?),
+        Line::Other(text) => {
+            if sheet.take(alloc, text)? {
+                Ok(line.to_string(alloc)?)
+            } else {
+                Ok(format!(in alloc; "not understood: {line}")?)
+            }
+        }
+    }
+}
+
+fn main(rt: HostRuntime) -> io::Result<()> {
+    let alloc = rt.alloc();
+    let mut sheet = Sheet::new(alloc);
+    for line in rt.lines(alloc) {
+        let line = line?;
+        match reply(alloc, &mut sheet, line.as_str()) {
+            Ok(text) => println!(rt; "{text}")?,
+            Err(_) => println!(rt; "no memory")?,
+        }
+    }
+    Ok(())
+}
