@@ -1,4 +1,7 @@
-mod Lists
-mod Once
+-- for acn_tree_laws
+pub mod Lists
+-- for acn_tree_laws
+pub mod Once
 mod Standing
+mod Listed
 mod Fine

@@ -20,11 +20,11 @@ first_empty : {A : Type 0} (xs ys : List A) → first (xs ++ ys) ≡ None → xs
 first_empty [] ys h = refl
 first_empty (x ∷ xs) ys h = cc
 
-no_repeats : (w : World) → IsSound w → repeats w ≡ []
+pub no_repeats : (w : World) → IsSound w → repeats w ≡ []
 unfolding early_fault
 no_repeats w s = first_empty (repeats w) (missing_modules w ++ unknowns w) s.early
 
-modules_once : (w : World) → IsSound w → asn_repeats [] w.modules ≡ []
+pub modules_once : (w : World) → IsSound w → asn_repeats [] w.modules ≡ []
 unfolding repeats
 modules_once w s = append_left (asn_repeats [] w.modules) (acn_repeats [] w.acn ++ table_repeats w.tables) (no_repeats w s)
 

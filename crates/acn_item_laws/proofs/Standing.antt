@@ -1,5 +1,5 @@
 -- The type at the end of each site's chain stands in the world, where it isn't one of those that inserted fields have by themselves.
-use Rattle.std.proofs.Common.{◌≡◌, ℕ, zero, suc, List, [], ◌∷◌, ◌++◌, map, reverse, Option, Some, None, refl, sym, ap, subst, ◌∙◌}
+use Rattle.std.proofs.Common.{◌≡◌, ℕ, zero, suc, List, [], ◌∷◌, ◌++◌, map, reverse, Option, Some, None, refl, sym, subst}
 use Rattle.std.specs.Prelude.{option_map, option_and_then, option_to_list}
 use Rattle.std.specs.List.{AllByRecursion, flat_map, enumerate_from}
 use Rattle.std.specs.Str.{bytes_eq}
@@ -11,46 +11,25 @@ use Rattle.acn_index.specs.Chains.{base_part, constraints_part, Link, written, a
 use Rattle.acn_index.specs.Lookup.{type_named}
 use Rattle.acn_index.specs.World.{World, count, type_part, assignment, type_at}
 use Rattle.acn_index.specs.declared.sources.TypeId.{TypeId}
-use Rattle.acn_leaf_laws.specs.Laws.{HasItems}
-use Rattle.acn_leaf_laws.proofs.Repeats.{names_differ}
 use Rattle.acn_names.specs.Standing.{constraint_parts, base_parts, parts, Stands, assigned, inside}
 use Rattle.acn_num.specs.Names.{Name}
 use Rattle.acn_sites.specs.Sites.{Site, base_of, Below, below, in_sequence, field_site, alternative_site, element_site, content_among, content_of, content_site, inside_of, sites_in, sites_below, Placed, sites, mark, root_of, root_site, sites_of}
 use Rattle.acn_slots.specs.Slots.{default_of, Field, component, extra, component_named, field_in, numbered_field, bare_field, fields_of, plain_type, kind_chain}
-use Rattle.acn_world.specs.Faults.{IsSound}
-use Rattle.acn_world.specs.Repeated.{twice_base}
-use Rattle.acn_item_laws.specs.Laws.{EnumerationsAreListed}
+use Rattle.acn_item_laws.specs.Laws.{BaseStands, in_text, own}
 use Rattle.acn_item_laws.proofs.Lists.{chosen, mapped, all_among, all_append, all_left, all_right, all_reverse, all_flat_map, each_flat_map, all_found, all_numbered, all_listed, all_map, each_map, all_filter_map}
-use Rattle.acn_item_laws.proofs.Once.{stands_once, base_repeats_none}
 
 -- what is contained by a constraint in the text of a module stands there
 abbrev Content : World → ℕ × Constraint → Type 0
 Content w q = AllByRecursion (Stands w q.0) (constraint_parts q.1)
 
--- what a chain keeps: its items are items; the types inside its base, and those that its constraints contain, stand in the world
+-- what a chain keeps: its base stands in the world; the types inside it, and those that its constraints contain, stand in the world
 pub record IsKept (w : World) (c : ChainOf) : Type 0 where
-  items : HasItems (base_part c.base)
+  base : BaseStands w (base_part c.base)
   parts : AllByRecursion (Stands w c.owner) (base_parts (base_part c.base))
   contents : AllByRecursion (Content w) c.constraints
 
-module _ (w : World) (sound : IsSound w) (listed : EnumerationsAreListed w) where
+module _ (w : World) where
   -- ---- a type that stands in the world
-
-  items_stand : (k : ℕ) (t : AsnType) → Stands w k t → (b : AsnBase) → base_part t ≡ b → HasItems b
-  items_stand k t s boolean e = tt
-  items_stand k t s null e = tt
-  items_stand k t s (integer ns) e = tt
-  items_stand k t s (enumerated items) e =
-      let l = listed k t items s e in
-      record { some = l.0; few = l.1; differ = names_differ items (ap twice_base (sym e) ∙ base_repeats_none t (stands_once w k sound s)) }
-  items_stand k t s octet_string e = tt
-  items_stand k t s bit_string e = tt
-  items_stand k t s ia5_string e = tt
-  items_stand k t s (sequence cs) e = tt
-  items_stand k t s (sequence_of u) e = tt
-  items_stand k t s (sequence_size c u) e = tt
-  items_stand k t s (choice more) e = tt
-  items_stand k t s (reference from name) e = tt
 
   base_stands : (k : ℕ) (t : AsnType) → Stands w k t → AllByRecursion (Stands w k) (base_parts (base_part t))
   base_stands k (type_of tag b cs) s = all_left (Stands w k) (base_parts b) (flat_map constraint_parts (constraint_list cs)) (all_among (Stands w k) (parts (type_of tag b cs)) (λ u a. inside a s))
@@ -109,7 +88,7 @@ module _ (w : World) (sound : IsSound w) (listed : EnumerationsAreListed w) wher
   chain_kept l ls h k =
       let last = last_stands l ls h k in
       record {
-        items = items_stand (last_link l ls).owner (last_link l ls).of last (base_part (last_link l ls).of) refl;
+        base = in_text (last_link l ls).owner (last_link l ls).of last refl;
         parts = base_stands (last_link l ls).owner (last_link l ls).of last;
         contents = all_constraints (reverse ls) (all_reverse LinkStands ls k);
       }
@@ -122,15 +101,15 @@ module _ (w : World) (sound : IsSound w) (listed : EnumerationsAreListed w) wher
 
   boolean_kept : (k : ℕ) → IsKept w (chain_of w (written k (plain_type boolean)))
   unfolding chain_of links links_within next_link
-  boolean_kept k = record { items = tt; parts = tt; contents = tt }
+  boolean_kept k = record { base = own refl; parts = tt; contents = tt }
 
   null_kept : (k : ℕ) → IsKept w (chain_of w (written k (plain_type null)))
   unfolding chain_of links links_within next_link
-  null_kept k = record { items = tt; parts = tt; contents = tt }
+  null_kept k = record { base = own refl; parts = tt; contents = tt }
 
   integer_kept : (k : ℕ) → IsKept w (chain_of w (written k (plain_type (integer None))))
   unfolding chain_of links links_within next_link
-  integer_kept k = record { items = tt; parts = tt; contents = tt }
+  integer_kept k = record { base = own refl; parts = tt; contents = tt }
 
   named_kept : (k : ℕ) (o : Option Link) → ((l : Link) → o ≡ Some l → LinkStands l) → IsKept w (default_of (option_map (chain_of w) o) (chain_of w (written k (plain_type null))))
   named_kept k None f = null_kept k
@@ -219,15 +198,15 @@ module _ (w : World) (sound : IsSound w) (listed : EnumerationsAreListed w) wher
 
   -- ---- all sites of a type
 
-  abbrev PlacedItems : Placed → Type 0
-  PlacedItems p = HasItems (base_of p.site)
+  abbrev PlacedStands : Placed → Type 0
+  PlacedStands p = BaseStands w (base_of p.site)
 
-  sites_kept : (n : ℕ) (above : List ℕ) (s : Site) → SiteKept s → AllByRecursion PlacedItems (sites n w above s)
+  sites_kept : (n : ℕ) (above : List ℕ) (s : Site) → SiteKept s → AllByRecursion PlacedStands (sites n w above s)
   unfolding sites
-  sites_kept zero above s h = (h.items, tt)
-  sites_kept (suc n) above s h = (h.items, all_flat_map PlacedItems (sites n w (above ++ mark s.position)) (sites_below w s) (each (sites_below w s) (below_kept s h) (sites_kept n (above ++ mark s.position))))
+  sites_kept zero above s h = (h.base, tt)
+  sites_kept (suc n) above s h = (h.base, all_flat_map PlacedStands (sites n w (above ++ mark s.position)) (sites_below w s) (each (sites_below w s) (below_kept s h) (sites_kept n (above ++ mark s.position))))
     where
-      each : (all : List Site) → AllByRecursion SiteKept all → ((x : Site) → SiteKept x → AllByRecursion PlacedItems (sites n w (above ++ mark s.position) x)) → AllByRecursion (λ (x : Site). AllByRecursion PlacedItems (sites n w (above ++ mark s.position) x)) all
+      each : (all : List Site) → AllByRecursion SiteKept all → ((x : Site) → SiteKept x → AllByRecursion PlacedStands (sites n w (above ++ mark s.position) x)) → AllByRecursion (λ (x : Site). AllByRecursion PlacedStands (sites n w (above ++ mark s.position) x)) all
       each [] k f = tt
       each (x ∷ all) k f = (f x k.0, each all k.1 f)
 
@@ -239,10 +218,10 @@ module _ (w : World) (sound : IsSound w) (listed : EnumerationsAreListed w) wher
       by None f g = cc
       by (Some l) f g = (let i : root_of w p (chain_of w l) ≡ s = cc in subst SiteKept i (kept l (assigned_stands p l f)))
 
-  pub all_have_items : (p : TypeId) → AllByRecursion PlacedItems (sites_of w p)
+  pub all_stand : (p : TypeId) → AllByRecursion PlacedStands (sites_of w p)
   unfolding sites_of
-  all_have_items p = by (root_site w p) (root_kept p)
+  all_stand p = by (root_site w p) (root_kept p)
     where
-      by : (o : Option Site) → ((s : Site) → o ≡ Some s → SiteKept s) → AllByRecursion PlacedItems (flat_map (sites 65 w []) (option_to_list o))
+      by : (o : Option Site) → ((s : Site) → o ≡ Some s → SiteKept s) → AllByRecursion PlacedStands (flat_map (sites 65 w []) (option_to_list o))
       by None f = tt
-      by (Some s) f = all_append PlacedItems (sites 65 w [] s) [] (sites_kept 65 [] s (f s refl)) tt
+      by (Some s) f = all_append PlacedStands (sites 65 w [] s) [] (sites_kept 65 [] s (f s refl)) tt

@@ -1,7 +1,7 @@
--- The enumerations at the sites of a sound world, and the forms of these sites. (X.680 clauses 19, 20, 25 and 29: names in one place differ.)
-use Rattle.std.specs.Prelude.{◌≡◌, ℕ, ◌<◌, ◌^◌, true, false, List, [], length, None}
+-- Where the types at sites stand; the enumerations at the sites of a sound world, and the forms of these sites. (X.680 clauses 19, 20, 25 and 29: names in one place differ.)
+use Rattle.std.specs.Prelude.{◌≡◌, ℕ, ◌<◌, ◌^◌, Bool, true, false, List, [], length, None}
 use Rattle.std.specs.List.{AllByRecursion}
-use Rattle.acn_asn_syntax.specs.Mirror.{AsnType, enumerated}
+use Rattle.acn_asn_syntax.specs.Mirror.{AsnType, AsnBase, boolean, null, integer, enumerated}
 use Rattle.acn_asn_syntax.specs.declared.types.Item.{Item}
 use Rattle.acn_grammar.specs.Grammar.{Grammar}
 use Rattle.acn_grammar.specs.Tree.{form_fine}
@@ -17,6 +17,22 @@ use Rattle.acn_sites.specs.Sites.{Site, Placed, base_of, sites_of}
 use Rattle.acn_survey.specs.Reasons.{fault_from}
 use Rattle.acn_world.specs.Faults.{IsSound}
 use Rattle.acn_world.specs.Repeated.{twice}
+
+-- a base that an inserted field can have by itself
+abbrev pub is_own : AsnBase → Bool
+is_own boolean = true
+is_own null = true
+is_own (integer None) = true
+is_own _ = false
+
+-- a base that stands in the text of a world, or that an inserted field has by itself
+pub data BaseStands (w : World) (b : AsnBase) : Type 0 where
+  in_text : (k : ℕ) (t : AsnType) → Stands w k t → base_part t ≡ b → BaseStands w b
+  own : is_own b ≡ true → BaseStands w b
+
+-- The type at the end of each site's chain stands there, in any world.
+abbrev pub BasesStand : Type 0
+BasesStand = (w : World) (of : TypeId) → AllByRecursion (λ (p : Placed). BaseStands w (base_of p.site)) (sites_of w of)
 
 -- no type that stands in a sound world gives a name twice in one place
 abbrev pub NoTypeRepeatsAName : Type 0

@@ -1,6 +1,11 @@
-ghost use Rattle.acn_item_laws.specs.Laws.{FormsOfSitesAreFine, NoTypeRepeatsAName, SitesHaveItems};
+ghost use Rattle.acn_item_laws.specs.Laws.{BasesStand, FormsOfSitesAreFine, NoTypeRepeatsAName, SitesHaveItems};
 
 use acn_leaf_laws::forms_are_fine;
+
+/// The type at the end of each site's chain stands in the text of the world, or is one that inserted fields have by themselves.
+pub fn bases_stand()
+    ensures { BasesStand }
+{}
 
 /// No type in the text of a sound world gives a name twice in one place.
 pub fn no_type_repeats_a_name()

@@ -22,5 +22,5 @@ mod Items
 mod Enumerations
 mod EnumerationSites
 mod Forms
--- for acn_item_laws
+-- for acn_item_laws and acn_tree_laws
 pub mod Repeats

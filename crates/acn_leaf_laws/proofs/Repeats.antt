@@ -33,7 +33,7 @@ none_again front x back (name ∷ more) h =
     or_from (same_name x name) (list_any (same_name x) more) (other x name (not_among front x back name n.0))
     (none_again front x (back ++ name ∷ []) more (subst (λ (l : List Name). repeated l more ≡ []) (append_assoc front (x ∷ back) (name ∷ [])) n.1))
 
-differ_behind : (seen names : List Name) → repeated seen names ≡ [] → all_differ same_name names ≡ true
+pub differ_behind : (seen names : List Name) → repeated seen names ≡ [] → all_differ same_name names ≡ true
 unfolding repeated
 differ_behind seen [] h = refl
 differ_behind seen (name ∷ more) h =

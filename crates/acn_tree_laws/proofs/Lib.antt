@@ -1,0 +1,7 @@
+mod Braces
+mod Entries
+mod FieldKinds
+mod Kept
+mod Differ
+mod Fit
+mod Joined
