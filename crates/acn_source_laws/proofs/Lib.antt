@@ -1,0 +1,4 @@
+mod Lists
+mod Inside
+mod Kept
+mod Listed
