@@ -9,7 +9,7 @@ use Rattle.acn_grammar.specs.ItemsNamed.{ItemsNamed}
 use Rattle.acn_grammar.specs.View.{grammar_of}
 use Rattle.acn_grammar.specs.declared.check_fault.CheckFault.{CheckFault}
 use Rattle.acn_grammar.specs.declared.check_fault.CheckFault.TheVariants as check_fault
-use Rattle.acn_index.specs.World.{World, IsType}
+use Rattle.acn_index.specs.World.{World}
 use Rattle.acn_index.specs.declared.sources.TypeId.{TypeId}
 use Rattle.acn_merge.specs.Merged.{reason_against, merged, full_name}
 use Rattle.acn_merge.specs.Told as merge
@@ -40,14 +40,8 @@ pub record IsUndecodable (root : Grammar) (f : CheckFault) : Type 0 where
 -- Why a type has no grammar. Want of memory is free.
 abbrev pub IsTypeFault : World → TypeId → TypeFault → Type 0
 IsTypeFault w of (fault.Refused r) = merge.Tells w of (merge_fault.At r)
-IsTypeFault w of (fault.Unformed t) = (t ≡ of) × merge.Tells w of merge_fault.Unformed
 IsTypeFault w of (fault.Undecodable tree f) = IsTreeOf w of tree × IsUndecodable (grammar_of tree.root) f
 IsTypeFault w of fault.NoMemory = Unit {0}
-
--- a type that is named is one of the world
-abbrev pub IsOfWorld : World → TypeFault → Type 0
-IsOfWorld w (fault.Unformed of) = IsType w of
-IsOfWorld w _ = Unit {0}
 
 -- a grammar for each type
 abbrev pub AreGrammarsOf : World → List TypeId → List Tree → Type 0
@@ -67,10 +61,9 @@ pub record IsFirstTypeFault (w : World) (types : List TypeId) (f : TypeFault) : 
   pub fault : IsTypeFault w of f
 
 -- a refusal of the merge, handed on
-abbrev pub merge_told : TypeId → MergeFault → TypeFault
-merge_told of (merge_fault.At r) = fault.Refused r
-merge_told of merge_fault.Unformed = fault.Unformed of
-merge_told of merge_fault.NoMemory = fault.NoMemory
+abbrev pub merge_told : MergeFault → TypeFault
+merge_told (merge_fault.At r) = fault.Refused r
+merge_told merge_fault.NoMemory = fault.NoMemory
 
 -- a refusal of the checker, handed on
 abbrev pub Tells : Tree → CheckFault → TypeFault → Type 0

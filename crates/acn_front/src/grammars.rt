@@ -3,9 +3,10 @@
 ghost use Rattle.std.specs.Prelude.{◌≡◌, ◌++◌, ◌∷◌, [], IfOk, IfErr, OnOk, map};
 ghost use Rattle.std.specs.List.{All};
 ghost use Rattle.acn_front.specs.Grammars as spec;
-ghost use Rattle.acn_front.specs.Grammars.{IsGrammarOf, IsTypeFault, AreGrammarsOf, IsFirstTypeFault, IsOfWorld};
+ghost use Rattle.acn_front.specs.Grammars.{IsGrammarOf, IsTypeFault, AreGrammarsOf, IsFirstTypeFault};
 ghost use Rattle.acn_front.specs.declared.grammars.TypeFault.TheVariants as fault;
 ghost use Rattle.acn_index.specs.World as world_of;
+ghost use Rattle.acn_tree_laws.specs.Laws.{IsOfSources};
 ghost use Rattle.acn_world.specs.Viewed.{world_view};
 
 use acn_check::{Checked, check};
@@ -23,8 +24,6 @@ use std::alloc::Global;
 pub enum TypeFault {
     /// A node of the type can't be made: the first such, with the first of its reasons.
     Refused(Refused),
-    /// Each node of this type can be made, but what is made isn't well formed. That this never comes isn't proved.
-    Unformed(TypeId),
     /// The packets of this tree can't be decoded, for this fault, the first.
     Undecodable(Boxed<Tree>, CheckFault),
     /// Memory ran out.
@@ -41,12 +40,11 @@ impl From<NoMemory> for TypeFault {
     }
 }
 
-fn refusal(of: TypeId, fault: MergeFault) -> TypeFault
-    ensures { result ≡ spec.merge_told of fault }
+fn refusal(fault: MergeFault) -> TypeFault
+    ensures { result ≡ spec.merge_told fault }
 {
     match fault {
         MergeFault::At(refused) => TypeFault::Refused(refused),
-        MergeFault::Unformed => TypeFault::Unformed(of),
         MergeFault::NoMemory => TypeFault::NoMemory,
     }
 }
@@ -71,24 +69,24 @@ fn undecodable(alloc: Global, back: (Tree, CheckFault)) -> TypeFault
     }
 }
 
-/// The grammar of a type: its tree, in which nothing keeps packets from being decoded.
+/// The grammar of a type of a world that proper sources give: its tree, in which nothing keeps packets from being decoded.
 ///
 /// # Errors
 ///
-/// `Refused` comes exactly where a node of the type can't be made, `Unformed` where what is made isn't well formed, and `Undecodable`
-/// where its packets can't be decoded, with the first fault. `NoMemory` comes where memory is wanting.
+/// `Refused` comes exactly where a node of the type can't be made, and `Undecodable` where its packets can't be decoded, with the
+/// first fault. `NoMemory` comes where memory is wanting.
 pub fn grammar_of_type(alloc: Global, world: &World, of: TypeId) -> Result<Checked, TypeFault>
-    requires { world_of.IsType (world_view world.now) of }
+    requires is_type { world_of.IsType (world_view world.now) of }
+    requires sources { IsOfSources (world_view world.now) }
     ensures grammar { IfOk result (λ checked. IsGrammarOf (world_view world.now) of checked.tree) }
     ensures fault { IfErr result (IsTypeFault (world_view world.now) of) }
-    ensures of_world { IfErr result (IsOfWorld (world_view world.now)) }
 {
     match merge(alloc, world, of) {
         Ok(tree) => match check(alloc, tree) {
             Ok(checked) => Ok(checked),
             Err(back) => Err(undecodable(alloc, back)),
         },
-        Err(fault) => Err(refusal(of, fault)),
+        Err(fault) => Err(refusal(fault)),
     }
 }
 
@@ -103,7 +101,7 @@ fn keep(all: &mut Vec<Checked>, checked: Checked) -> Result<(), TypeFault>
     }
 }
 
-/// The grammars of these types, in their order.
+/// The grammars of these types of a world that proper sources give, in their order.
 ///
 /// # Errors
 ///
@@ -113,10 +111,10 @@ pub fn grammars_of_types(
     world: &World,
     types: &[TypeId],
 ) -> Result<Vec<Checked>, TypeFault>
-    requires { All (world_of.IsType (world_view world.now)) types.now }
+    requires types { All (world_of.IsType (world_view world.now)) types.now }
+    requires sources { IsOfSources (world_view world.now) }
     ensures grammars { IfOk result (λ all. AreGrammarsOf (world_view world.now) types.now (map (λ c. c.tree) all.items)) }
     ensures fault { IfErr result (IsFirstTypeFault (world_view world.now) types.now) }
-    ensures of_world { IfErr result (IsOfWorld (world_view world.now)) }
 {
     let mut all = Vec::new(alloc);
     for of in types {

@@ -3,9 +3,11 @@
 ghost use Rattle.std.specs.Prelude.{◌≡◌, IfOk, IfErr};
 ghost use Rattle.acn_front.specs.Loaded.{IsLoadFault, IsWorldOf, file_told, name_told};
 ghost use Rattle.acn_sources.specs.Files.{AreShort};
+ghost use Rattle.acn_tree_laws.specs.Laws.{IsOfSources};
 ghost use Rattle.acn_world.specs.Viewed.{world_view};
 
 use acn_names::resolve;
+use acn_source_laws::types_of_sources_are_listed;
 use acn_sources::{File, FileFault, SourcesFault, read_sources};
 use acn_world::{NameFault, World};
 use std::alloc::Global;
@@ -48,8 +50,10 @@ fn name_fault(fault: NameFault) -> LoadFault
 pub fn load(alloc: Global, files: &[File<'_>]) -> Result<World, LoadFault>
     requires { AreShort files.now }
     ensures world { IfOk result (λ all. IsWorldOf files.now (world_view all)) }
+    ensures of_sources { IfOk result (λ all. IsOfSources (world_view all)) }
     ensures fault { IfErr result (IsLoadFault files.now) }
 {
+    types_of_sources_are_listed();
     match read_sources(alloc, files) {
         Ok(sources) => match resolve(alloc, sources) {
             Ok(world) => Ok(world),

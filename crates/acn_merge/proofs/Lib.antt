@@ -1,1 +1,1 @@
-mod Unformed
+mod Formed

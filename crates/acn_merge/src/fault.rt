@@ -8,8 +8,6 @@ use acn_survey::Refused;
 pub enum MergeFault {
     /// A node can't be made: the first such, with the first of its reasons.
     At(Refused),
-    /// Each node can be made, but what is made isn't well formed. That this never comes isn't proved.
-    Unformed,
     /// Memory ran out.
     NoMemory,
 }

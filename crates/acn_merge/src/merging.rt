@@ -1,5 +1,6 @@
 ghost use Rattle.std.specs.Prelude.{◌≡◌, ◌≤◌, ◌+◌, Some, None, true, length, option_map, IfOk, IfErr};
 ghost use Rattle.acn_grammar.specs.ItemsNamed.{ItemsNamed};
+ghost use Rattle.acn_grammar.specs.Tree.{is_tree};
 ghost use Rattle.acn_grammar.specs.View.{grammar_of};
 ghost use Rattle.acn_homes.specs.Homes as homes;
 ghost use Rattle.acn_homes.specs.declared.homes.TheConstants.{MOST_SLOTS};
@@ -10,7 +11,8 @@ ghost use Rattle.acn_sites.specs.Sites as sites;
 ghost use Rattle.acn_survey.specs.Walk.{inserted_fields, uses_of};
 ghost use Rattle.acn_merge.specs.Merged as spec;
 ghost use Rattle.acn_merge.specs.declared.fault.MergeFault.TheVariants as fault;
-ghost use Rattle.acn_merge.specs.Told.{Tells, TellsOf, handed_on};
+ghost use Rattle.acn_merge.specs.Told.{Tells, handed_on};
+ghost use Rattle.acn_tree_laws.specs.Laws.{IsOfSources};
 ghost use Rattle.acn_world.specs.Viewed.{world_view};
 
 use crate::fault::MergeFault;
@@ -22,6 +24,7 @@ use acn_sites::{Position, root_site};
 use acn_slots::PlainTypes;
 use acn_survey::{Walk, survey, text_below};
 use acn_tree::{Tree, items_named};
+use acn_tree_laws::made_trees_are_trees;
 use acn_world::{TypeId, World};
 use std::alloc::Global;
 
@@ -99,24 +102,17 @@ fn named(tree: Tree) -> Result<Tree, MergeFault>
     }
 }
 
-// What is no tree is let go.
-fn unformed(back: (Name, Node)) -> MergeFault
-    ensures { result ≡ fault.Unformed }
-{
-    let _back = back;
-    MergeFault::Unformed
-}
-
-// The tree of this name and root, where that is well formed and its items have numbers of 32 bits.
+// The tree of this name and root, which is well formed, where its items have numbers of 32 bits.
 fn formed(name: Name, root: Boxed<Node>) -> Result<Tree, MergeFault>
+    requires { is_tree (grammar_of root) ≡ true }
     ensures name { IfOk result (λ tree. tree.name ≡ name) }
     ensures root { IfOk result (λ tree. tree.root ≡ root) }
     ensures items { IfOk result (λ tree. ItemsNamed (grammar_of tree.root)) }
-    ensures fault { IfErr result (TellsOf (grammar_of root)) }
+    ensures fault { IfErr result (λ e. e ≡ fault.NoMemory) }
 {
     match Tree::form(name, root.into_inner()) {
         Ok(tree) => named(tree),
-        Err(back) => Err(unformed(back)),
+        Err(_) => unreachable!(),
     }
 }
 
@@ -139,14 +135,16 @@ fn tree_of(
     walk: &Walk,
 ) -> Result<Tree, MergeFault>
     requires is_type { world_of.IsType (world_view world.now) of }
+    requires sources { IsOfSources (world_view world.now) }
     requires none { spec.reason_against (world_view world.now) of ≡ None }
     requires fields { walk.now.fields ≡ inserted_fields (sites.sites_of (world_view world.now) of) }
     requires uses { walk.now.uses ≡ uses_of (world_view world.now) (sites.sites_of (world_view world.now) of) }
     ensures root { IfOk result (λ tree. Some (grammar_of tree.root) ≡ spec.merged (world_view world.now) of) }
     ensures name { IfOk result (λ tree. tree.name ≡ spec.full_name (world_view world.now) of) }
     ensures items { IfOk result (λ tree. ItemsNamed (grammar_of tree.root)) }
-    ensures fault { IfErr result (Tells (world_view world.now) of) }
+    ensures fault { IfErr result (λ e. e ≡ fault.NoMemory) }
 {
+    made_trees_are_trees();
     let root = root_made(alloc, world, plain, of, walk)?;
     let name = full_name(alloc, world, of)?;
     formed(name, root)
@@ -155,11 +153,13 @@ fn tree_of(
 /// The tree of a type: its root is the node of the type with all that is below it, by constraints and attributes, and its name is
 /// that of the type behind that of its module.
 ///
+/// The world is one that proper sources give, as `load` of acn_front has it: what is made is then well formed.
+///
 /// `At` comes exactly where a node can't be made, and keeps the text of the path of the first such and the first of its reasons.
-/// `Unformed` comes where none has a reason and the node that is made isn't well formed. `NoMemory` comes where memory is wanting, also
-/// where more than 2^32 paths are noted or an enumeration has as many items.
+/// `NoMemory` comes where memory is wanting, also where more than 2^32 paths are noted or an enumeration has as many items.
 pub fn merge(alloc: Global, world: &World, of: TypeId) -> Result<Tree, MergeFault>
-    requires { world_of.IsType (world_view world.now) of }
+    requires is_type { world_of.IsType (world_view world.now) of }
+    requires sources { IsOfSources (world_view world.now) }
     ensures none { IfOk result (λ tree. spec.reason_against (world_view world.now) of ≡ None) }
     ensures root { IfOk result (λ tree. Some (grammar_of tree.root) ≡ spec.merged (world_view world.now) of) }
     ensures name { IfOk result (λ tree. tree.name ≡ spec.full_name (world_view world.now) of) }

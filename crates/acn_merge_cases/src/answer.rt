@@ -2,13 +2,13 @@
 
 ghost use Rattle.acn_world.specs.Viewed.{world_view};
 ghost use Rattle.acn_index.specs.World.{IsType};
+ghost use Rattle.acn_tree_laws.specs.Laws.{IsOfSources};
 
 use crate::fault_words::reason_in_words;
 use crate::sheet::Sheet;
 use crate::tree_words::tree_in_words;
 use crate::trouble::Trouble;
 use acn_merge::{MergeFault, Refused, merge};
-use acn_names::resolve;
 use acn_num::NoMemory;
 use acn_world::{TypeId, World};
 use std::alloc::Global;
@@ -22,13 +22,13 @@ fn refused_in_words(alloc: Global, refused: &Refused) -> Result<String, Trouble>
 fn fault_in_words(alloc: Global, fault: &MergeFault) -> Result<String, Trouble> {
     match fault {
         MergeFault::At(refused) => refused_in_words(alloc, refused),
-        MergeFault::Unformed => Ok(format!(in alloc; "not well formed")?),
         MergeFault::NoMemory => Err(Trouble::NoMemory),
     }
 }
 
 fn merged(alloc: Global, world: &World, of: TypeId) -> Result<String, Trouble>
-    requires { IsType (world_view world.now) of }
+    requires is_type { IsType (world_view world.now) of }
+    requires sources { IsOfSources (world_view world.now) }
 {
     match merge(alloc, world, of) {
         Ok(tree) => Ok(tree_in_words(alloc, &tree)?),
@@ -36,7 +36,9 @@ fn merged(alloc: Global, world: &World, of: TypeId) -> Result<String, Trouble>
     }
 }
 
-fn of_world(alloc: Global, world: &World, sheet: &Sheet) -> Result<String, Trouble> {
+fn of_world(alloc: Global, world: &World, sheet: &Sheet) -> Result<String, Trouble>
+    requires { IsOfSources (world_view world.now) }
+{
     match world.find(sheet.owner.as_bytes(), sheet.name.as_bytes()) {
         Some(of) => merged(alloc, world, of),
         None => Err(Trouble::Absent),
@@ -44,8 +46,7 @@ fn of_world(alloc: Global, world: &World, sheet: &Sheet) -> Result<String, Troub
 }
 
 fn found(alloc: Global, sheet: &Sheet, parts: &[&str]) -> Result<String, Trouble> {
-    let sources = sheet.sources(alloc, parts)?;
-    let world = resolve(alloc, sources)?;
+    let world = sheet.world(alloc, parts)?;
     of_world(alloc, &world, sheet)
 }
 

@@ -1,12 +1,15 @@
 //! The files of a group.
 
-ghost use Rattle.std.specs.Prelude.{◌≡◌, true};
+ghost use Rattle.std.specs.Prelude.{◌≡◌, true, IfOk};
 ghost use Rattle.acn_sources.specs.Files.{AreShort};
+ghost use Rattle.acn_tree_laws.specs.Laws.{IsOfSources};
+ghost use Rattle.acn_world.specs.Viewed.{world_view};
 
 use crate::trouble::Trouble;
+use acn_front::load;
 use acn_num::{MOST_FILE_BYTES, NoMemory};
-use acn_sources::{File, FileKind, read_sources};
-use acn_world::Sources;
+use acn_sources::{File, FileKind};
+use acn_world::World;
 use std::alloc::Global;
 
 // The text of a file, in which `$1`, `$2` and `$3` stand for the parts of a case.
@@ -53,11 +56,16 @@ fn are_short(files: &[File<'_>]) -> bool
     true
 }
 
-fn read(alloc: Global, files: &[File<'_>]) -> Result<Sources, Trouble> {
+fn read(alloc: Global, files: &[File<'_>]) -> Result<World, Trouble>
+    ensures { IfOk result (λ w. IsOfSources (world_view w)) }
+{
     if !are_short(files) {
         return Err(Trouble::Unread);
     }
-    Ok(read_sources(alloc, files)?)
+    match load(alloc, files) {
+        Ok(world) => Ok(world),
+        Err(fault) => Err(Trouble::from(fault)),
+    }
 }
 
 // The files whose texts aren't empty.
@@ -161,8 +169,10 @@ impl Sheet {
         Ok(all)
     }
 
-    /// The trees of the files, with the parts in their places. Files without a text are left out.
-    pub fn sources(&self, alloc: Global, parts: &[&str]) -> Result<Sources, Trouble> {
+    /// The world of the files, with the parts in their places. Files without a text are left out.
+    pub fn world(&self, alloc: Global, parts: &[&str]) -> Result<World, Trouble>
+        ensures { IfOk result (λ w. IsOfSources (world_view w)) }
+    {
         let filled = self.filled(alloc, parts)?;
         let files = files_of(alloc, self.texts.as_slice(), filled.as_slice())?;
         read(alloc, files.as_slice())

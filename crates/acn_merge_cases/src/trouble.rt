@@ -1,8 +1,7 @@
 //! Why there is no answer.
 
+use acn_front::LoadFault;
 use acn_num::NoMemory;
-use acn_sources::{FileFault, SourcesFault};
-use acn_world::NameFault;
 use std::alloc::{AllocError, AllocFailed};
 
 /// Why there is no answer.
@@ -18,20 +17,12 @@ pub enum Trouble {
     NoMemory,
 }
 
-impl From<SourcesFault> for Trouble {
-    fn from(fault: SourcesFault) -> Trouble {
-        match fault.fault {
-            FileFault::NoMemory => Trouble::NoMemory,
-            _ => Trouble::Unread,
-        }
-    }
-}
-
-impl From<NameFault> for Trouble {
-    fn from(fault: NameFault) -> Trouble {
+impl From<LoadFault> for Trouble {
+    fn from(fault: LoadFault) -> Trouble {
         match fault {
-            NameFault::NoMemory => Trouble::NoMemory,
-            _ => Trouble::Misnamed,
+            LoadFault::File(_) => Trouble::Unread,
+            LoadFault::Name(_) => Trouble::Misnamed,
+            LoadFault::NoMemory => Trouble::NoMemory,
         }
     }
 }
