@@ -2,8 +2,10 @@ mod Ascending
 mod Back
 mod CanReadLaw
 mod DistinctLaw
-mod Escapes
-mod FieldLists
+-- for acn_lines
+pub mod Escapes
+-- for acn_lines
+pub mod FieldLists
 mod Names
 mod Objects
 mod Plain
@@ -12,4 +14,6 @@ mod Said
 mod ShapedLaw
 mod SizeLaw
 mod Steps
+-- for acn_lines
+pub mod Texts
 mod Turns

@@ -1,5 +1,5 @@
--- The text of arrays and objects, one part at a time, and the walk that notes the components that are there.
-use Rattle.std.proofs.Common.{◌≡◌, ℕ, ◌+◌, ◌<◌, ◌≤◌, Bool, true, List, [], ◌∷◌, ◌++◌, length, get_or, drop, Option, Some, None, option_map, Bor, Ordering, Less, Equal, Greater, nat_cmp, refl, sym, ap, subst, ◌∙◌, append_assoc}
+-- The walk that notes the components that are there.
+use Rattle.std.proofs.Common.{◌≡◌, ℕ, ◌+◌, ◌<◌, ◌≤◌, List, [], ◌∷◌, length, get_or, drop, Option, Some, None, option_map, Bor, Ordering, Less, Equal, Greater, nat_cmp, refl, sym, ap, subst, ◌∙◌}
 use Rattle.std.specs.BTreeMap.{insert_entry}
 use Rattle.std.specs.Cmp.Lexicographic.{slice_cmp}
 use Rattle.std.specs.List.{slice_get}
@@ -8,52 +8,17 @@ use Rattle.std.proofs.lemmas.List.{drop_more, drop_all}
 use Rattle.std.proofs.lemmas.Option.{slice_get_read}
 use Rattle.serde_json.specs.Data.{Members, member, put}
 use Rattle.serde_json.specs.Data as json
-use Rattle.json.specs.Print.{quoted}
-use Rattle.serde_json.specs.Written.{compact_text, comma_if, items_text, members_text}
-use Rattle.acn_grammar.specs.Grammar.{Grammar, Fields, Data, Places, no_fields, component, inserted, no_places, empty, filled, element}
-use Rattle.acn_grammar.specs.View.{a_component, with_field, field_of, fields_view, places_view, elements_view, grammar_of, data_of}
+use Rattle.acn_grammar.specs.Grammar.{Grammar, Fields, Data, component}
+use Rattle.acn_grammar.specs.View.{with_field, field_of, fields_view, places_view, grammar_of, data_of}
 use Rattle.acn_grammar.specs.declared.node.Field.{Field, Component, Inserted}
 use Rattle.acn_grammar.specs.declared.node.Node.{Node}
 use Rattle.acn_grammar.specs.declared.node.Presence.{Presence}
 use Rattle.acn_grammar.specs.declared.value.Value.{Value}
 use Rattle.acn_grammar.proofs.Views.{view_component, view_inserted}
-use Rattle.acn_json.specs.Lines.{json_of, each_json, fields_json}
+use Rattle.acn_json.specs.Lines.{json_of, fields_json}
 use Rattle.acn_json.specs.Spots.{Spots, place_json, json_at, members_at, put_there, AreWithin}
 use Rattle.acn_json.specs.declared.spots.Spot.{Spot}
 use Rattle.acn_json.proofs.FieldLists.{fields_from}
-
--- Arrays.
-
-elements_from : (vs : List Value) (i : ℕ) (v : Value) → i < length vs → v ≡ get_or vs i v → elements_view (drop i vs) ≡ element (data_of v) (elements_view (drop (i + 1) vs))
-elements_from vs i v h e = rw (drop_more vs i v h, ← e) refl
-
-regroup : (a b c d : List ℕ) → ((a ++ b) ++ c) ++ d ≡ a ++ (b ++ (c ++ d))
-regroup a b c d = append_assoc (a ++ b) c d ∙ append_assoc a b (c ++ d)
-
-pub array-turn : (one : Data → json.Data) (vs : List Value) (i : ℕ) (v : Value) (later : Bool) (out mid new whole : List ℕ) → i < length vs → v ≡ get_or vs i v → mid ≡ out ++ comma_if later → new ≡ mid ++ compact_text (one (data_of v))
-    → out ++ items_text later (each_json one (elements_view (drop i vs))) ≡ whole → new ++ items_text true (each_json one (elements_view (drop (i + 1) vs))) ≡ whole
-array-turn one vs i v later out mid new whole h e p q w =
-    let rest = items_text true (each_json one (elements_view (drop (i + 1) vs))) in
-    ap (λ t. t ++ rest) (q ∙ ap (λ t. t ++ compact_text (one (data_of v))) p)
-    ∙ (regroup out (comma_if later) (compact_text (one (data_of v))) rest
-    ∙ (sym (ap (λ es. out ++ items_text later (each_json one es)) (elements_from vs i v h e)) ∙ w))
-
-pub array-end : (one : Data → json.Data) (vs : List Value) (i : ℕ) (later : Bool) (out whole : List ℕ) → length vs ≤ i
-    → out ++ items_text later (each_json one (elements_view (drop i vs))) ≡ whole → out ++ 93 ∷ [] ≡ whole
-array-end one vs i later out whole h w = sym (ap (λ xs. out ++ items_text later (each_json one (elements_view xs))) (drop_all i vs h)) ∙ w
-
--- Members.
-
-pub members-turn : (later : Bool) (k : List ℕ) (j : json.Data) (ms : Members) (out mid keyed new whole : List ℕ) → mid ≡ out ++ comma_if later → keyed ≡ mid ++ (quoted k ++ 58 ∷ []) → new ≡ keyed ++ compact_text j
-    → out ++ members_text later (member k j ms) ≡ whole → new ++ members_text true ms ≡ whole
-members-turn later k j ms out mid keyed new whole p q r w =
-    let rest = members_text true ms in
-    let text = compact_text j in
-    ap (λ t. t ++ rest) (r ∙ ap (λ t. t ++ text) (q ∙ ap (λ t. t ++ (quoted k ++ 58 ∷ [])) p))
-    ∙ (append_assoc ((out ++ comma_if later) ++ (quoted k ++ 58 ∷ [])) text rest
-    ∙ (append_assoc (out ++ comma_if later) (quoted k ++ 58 ∷ []) (text ++ rest)
-    ∙ (append_assoc out (comma_if later) ((quoted k ++ 58 ∷ []) ++ (text ++ rest))
-    ∙ (ap (λ t. out ++ (comma_if later ++ t)) (append_assoc (quoted k) (58 ∷ []) (text ++ rest)) ∙ w))))
 
 -- Spots.
 

@@ -14,4 +14,5 @@ mod write;
 pub use json_fault::JsonFault;
 pub use laws::lines_give_the_value;
 pub use read::{MOST_JSON_BYTES, from_line};
-pub use write::to_line;
+pub use text::{put, put_bits, put_octet, put_quoted};
+pub use write::{put_comma, put_key, put_null, to_line, write_number};

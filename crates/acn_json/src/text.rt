@@ -12,7 +12,7 @@ use acn_num::NoMemory;
 use itoa::Buffer;
 use std::alloc::Global;
 
-/// Puts these octets.
+/// Puts these octets. It fails only where memory runs out.
 pub fn put(octets: &[u8], out: &mut Vec<u8>) -> Result<(), NoMemory>
     ensures { OnOk result (out.new.items ≡ out.old.items ++ octets.now) }
 {
@@ -20,7 +20,7 @@ pub fn put(octets: &[u8], out: &mut Vec<u8>) -> Result<(), NoMemory>
     Ok(())
 }
 
-/// Puts one octet.
+/// Puts one octet. It fails only where memory runs out.
 pub fn put_octet(octet: u8, out: &mut Vec<u8>) -> Result<(), NoMemory>
     ensures { OnOk result (out.new.items ≡ out.old.items ++ octet ∷ []) }
 {
@@ -28,7 +28,7 @@ pub fn put_octet(octet: u8, out: &mut Vec<u8>) -> Result<(), NoMemory>
     Ok(())
 }
 
-/// Puts a whole number.
+/// Puts a whole number. It fails only where memory runs out.
 pub fn put_number(x: &i128, out: &mut Vec<u8>) -> Result<(), NoMemory>
     ensures { OnOk result (out.new.items ≡ out.old.items ++ signed_decimal x.now) }
 {
@@ -119,7 +119,7 @@ fn put_inside(text: &[u8], out: &mut Vec<u8>) -> Result<(), NoMemory>
     }
 }
 
-/// Puts a string.
+/// Puts a string. It fails only where memory runs out.
 pub fn put_quoted(text: &[u8], out: &mut Vec<u8>) -> Result<(), NoMemory>
     ensures { OnOk result (out.new.items ≡ out.old.items ++ quoted text.now) }
 {
@@ -128,7 +128,7 @@ pub fn put_quoted(text: &[u8], out: &mut Vec<u8>) -> Result<(), NoMemory>
     put_octet(b'"', out)
 }
 
-/// Puts a string of hexadecimal digits.
+/// Puts a string of hexadecimal digits. It fails only where memory runs out.
 pub fn put_octets(alloc: Global, octets: &[u8], out: &mut Vec<u8>) -> Result<(), NoMemory>
     ensures { OnOk result (out.new.items ≡ out.old.items ++ quoted (encode_lower octets.now)) }
 {
@@ -151,7 +151,7 @@ fn put_digits(bits: &[bool], out: &mut Vec<u8>) -> Result<(), NoMemory>
     Ok(())
 }
 
-/// Puts a string of the digits 0 and 1.
+/// Puts a string of the digits 0 and 1. It fails only where memory runs out.
 pub fn put_bits(bits: &[bool], out: &mut Vec<u8>) -> Result<(), NoMemory>
     ensures { OnOk result (out.new.items ≡ out.old.items ++ quoted (map bit_digit bits.now)) }
 {

@@ -20,7 +20,8 @@ use std::collections::BTreeMap;
 /// The room that a line begins with.
 const USUAL_BYTES: usize = 128;
 
-fn put_null(out: &mut Vec<u8>) -> Result<(), NoMemory>
+/// Puts `null`. It fails only where memory runs out.
+pub fn put_null(out: &mut Vec<u8>) -> Result<(), NoMemory>
     ensures { OnOk result (out.new.items ≡ out.old.items ++ token_text token.null) }
 {
     put(b"null", out)
@@ -36,13 +37,15 @@ fn put_truth(truth: bool, out: &mut Vec<u8>) -> Result<(), NoMemory>
     }
 }
 
-fn put_comma(later: bool, out: &mut Vec<u8>) -> Result<(), NoMemory>
+/// Puts a comma, where something stands before. It fails only where memory runs out.
+pub fn put_comma(later: bool, out: &mut Vec<u8>) -> Result<(), NoMemory>
     ensures { OnOk result (out.new.items ≡ out.old.items ++ comma_if later) }
 {
     if later { put_octet(b',', out) } else { Ok(()) }
 }
 
-fn put_key(name: &[u8], out: &mut Vec<u8>) -> Result<(), NoMemory>
+/// Puts a name and a colon. It fails only where memory runs out.
+pub fn put_key(name: &[u8], out: &mut Vec<u8>) -> Result<(), NoMemory>
     ensures { OnOk result (out.new.items ≡ out.old.items ++ (quoted name.now ++ 58 ∷ [])) }
 {
     put_quoted(name, out)?;
@@ -58,7 +61,8 @@ fn item_name(items: &[(Name, i128)], at: u32) -> &[u8]
     }
 }
 
-fn write_number(leaf: &NumLeaf, v: &Value, out: &mut Vec<u8>) -> Result<(), NoMemory>
+/// Puts the value of a leaf whose value is a number. It fails only where memory runs out.
+pub fn write_number(leaf: &NumLeaf, v: &Value, out: &mut Vec<u8>) -> Result<(), NoMemory>
     ensures { OnOk result (out.new.items ≡ out.old.items ++ compact_text (lines.num_json leaf.now.kind leaf.now.items.items (data_of v.now))) }
 {
     match (leaf.kind, v) {

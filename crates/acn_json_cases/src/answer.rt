@@ -4,6 +4,7 @@ use crate::bytes::{bytes_of, nested_of};
 use acn_case_lines::word;
 use acn_case_trees::{Built, Sheet, path_in_words, value_in_words, value_of};
 use acn_json::{JsonFault, MOST_JSON_BYTES, from_line, to_line};
+use acn_lines::Lines;
 use acn_num::{Boxed, NoMemory, Path};
 use acn_tree::{Tree, Value};
 use std::alloc::Global;
@@ -28,8 +29,21 @@ fn fault_in_words(alloc: Global, fault: &JsonFault) -> Result<String, NoMemory> 
     }
 }
 
+// The line of a value, as `Lines` puts it.
+fn put(alloc: Global, tree: &Tree, value: &Value) -> Result<Vec<u8>, NoMemory> {
+    let lines = Lines::new(alloc, tree)?;
+    let mut line = Vec::new(alloc);
+    lines.put(tree, value, &mut line)?;
+    Ok(line)
+}
+
+// The line of a value, if both calls that print it say the same.
 fn line_in_words(alloc: Global, tree: &Tree, value: &Value) -> Result<String, NoMemory> {
     let line = to_line(alloc, tree, value)?;
+    let same = put(alloc, tree, value)?;
+    if line.as_slice() != same.as_slice() {
+        return Ok(format!(in alloc; "two lines")?);
+    }
     Ok(String::from_utf8_lossy(alloc, line.as_slice())?)
 }
 

@@ -5,6 +5,7 @@ ghost use Rattle.acn_grammar.specs.Grammar.{Grammar};
 ghost use Rattle.acn_grammar.specs.Interval.{span};
 ghost use Rattle.acn_grammar.specs.ItemsNamed.{ItemsNamed};
 ghost use Rattle.acn_grammar.specs.View.{grammar_of};
+ghost use Rattle.acn_lines.specs.Order.{IsOrder};
 ghost use Rattle.acn_outside.specs.Counts.{Rose};
 ghost use Rattle.acn_stream.specs.Decoding.{DecodeEnds};
 ghost use Rattle.acn_stream.specs.Steps as spec;
@@ -16,6 +17,7 @@ use crate::stream_fault::StreamFault;
 use acn_bounds::bounds;
 use acn_check::Checked;
 use acn_grammar::Fault;
+use acn_lines::Lines;
 use acn_outside::{Sink, Source, write_all};
 use acn_supply::{More, Supply};
 use std::alloc::Global;
@@ -60,12 +62,14 @@ fn read_on<S: Source>(
 fn decode_supply<S: Source, O: Sink>(
     alloc: Global,
     checked: &Checked,
+    order: &Lines,
     supply: &mut Supply,
     input: &mut S,
     out: &mut O,
 ) -> Result<u64, StreamFault>
     requires named { ItemsNamed (grammar_of checked.now.tree.root) }
     requires bounded { IsBounded (grammar_of checked.now.tree.root) }
+    requires ordered { IsOrder (grammar_of checked.now.tree.root) order.now.order }
     requires begins { supply.old.hand ≡ [] }
     requires limit { supply.old.left < 2 ^ 64 }
     ensures ends { DecodeEnds (grammar_of checked.now.tree.root) supply.old.left (S.rest input.old) (S.rest input.new) (O.taken out.old) (O.taken out.new) result }
@@ -76,10 +80,13 @@ fn decode_supply<S: Source, O: Sink>(
     ensures some { IsErrOf result StreamFault.EmptyPacket → ⊥ }
 {
     let mut lines = Vec::new(alloc);
+    let mut line = Vec::new(alloc);
     let mut count = 0u64;
     loop {
         lines.clear();
-        let pause = take_packets(alloc, checked, supply, &mut lines, &mut count);
+        let pause = take_packets(
+            alloc, checked, order, supply, &mut line, &mut lines, &mut count,
+        );
         match write_all(out, &lines) {
             Ok(()) => {}
             Err(_) => return Err(StreamFault::OutputFault),
@@ -101,12 +108,37 @@ fn decode_supply<S: Source, O: Sink>(
     }
 }
 
+// Decodes the input, with what its lines need.
+fn decode_in_order<S: Source, O: Sink>(
+    alloc: Global,
+    checked: &Checked,
+    order: &Lines,
+    input: &mut S,
+    out: &mut O,
+    limit: u64,
+) -> Result<u64, StreamFault>
+    requires named { ItemsNamed (grammar_of checked.now.tree.root) }
+    requires bounded { IsBounded (grammar_of checked.now.tree.root) }
+    requires ordered { IsOrder (grammar_of checked.now.tree.root) order.now.order }
+    ensures ends { DecodeEnds (grammar_of checked.now.tree.root) limit (S.rest input.old) (S.rest input.new) (O.taken out.old) (O.taken out.new) result }
+    ensures input { S.faults input.old ≤ S.faults input.new }
+    ensures output { O.faults out.old ≤ O.faults out.new }
+    ensures input_fault { IsErrOf result StreamFault.InputFault → Rose (S.faults input.old) (S.faults input.new) }
+    ensures output_fault { IsErrOf result StreamFault.OutputFault → Rose (O.faults out.old) (O.faults out.new) }
+    ensures some { IsErrOf result StreamFault.EmptyPacket → ⊥ }
+{
+    match Supply::new(alloc, limit) {
+        Ok(mut supply) => decode_supply(alloc, checked, order, &mut supply, input, out),
+        Err(_) => Err(StreamFault::NoMemory),
+    }
+}
+
 /// Reads packets until the input ends and writes the line of each with a line feed, and answers how many packets there were. In a
 /// recording fewer than 8 fill bits, whichever they are, stand behind each packet up to an octet. At most `limit` bytes are read,
 /// and one more to see whether the input ends there.
 ///
-/// Lines are written in blocks, and before each read. The input is read only where what is in hand ends inside a packet, or at its
-/// end, and at most `MOST_IN_HAND` bytes are in hand.
+/// What all lines of the tree need is made once, before anything is read. Lines are written in blocks, and before each read. The input
+/// is read only where what is in hand ends inside a packet, or at its end, and at most `MOST_IN_HAND` bytes are in hand.
 ///
 /// `EmptyPacket` comes exactly where the least bound is 0; then nothing is read. `Packet` names the first packet that can't be read,
 /// with the one failure that there is. `InputTooLong` comes where the bytes up to the limit end inside a packet, or at its end, and
@@ -131,8 +163,8 @@ pub fn decode_all<S: Source, O: Sink>(
     if bounds(checked).least == 0 {
         return Err(StreamFault::EmptyPacket);
     }
-    match Supply::new(alloc, limit) {
-        Ok(mut supply) => decode_supply(alloc, checked, &mut supply, input, out),
+    match Lines::new(alloc, checked.tree()) {
+        Ok(order) => decode_in_order(alloc, checked, &order, input, out, limit),
         Err(_) => Err(StreamFault::NoMemory),
     }
 }

@@ -5,13 +5,14 @@ ghost use Rattle.acn_num.specs.Bits.{octets};
 ghost use Rattle.acn_grammar.specs.ItemsNamed.{ItemsNamed};
 ghost use Rattle.acn_grammar.specs.View.{grammar_of, data_of};
 ghost use Rattle.acn_json.specs.Lines.{line_of};
+ghost use Rattle.acn_lines.specs.Order.{IsOrder};
 ghost use Rattle.acn_stream.specs.Steps as spec;
 ghost use Rattle.acn_stream.specs.Steps.{IsBounded};
 ghost use Rattle.acn_supply.specs.declared.window.TheConstants.{MOST_IN_HAND};
 
 use acn_check::Checked;
 use acn_grammar::{Fault, Reason, Refuse, Value};
-use acn_json::to_line;
+use acn_lines::Lines;
 use acn_num::NoMemory;
 use acn_packet_laws::short_is_near;
 use acn_plain::plain_decode;
@@ -49,14 +50,22 @@ fn is_short(reason: &Reason) -> bool
     matches!(reason, Reason::Short)
 }
 
-// Adds the line of a value.
-fn put_line(alloc: Global, tree: &Tree, value: &Value, lines: &mut Vec<u8>) -> Result<(), NoMemory>
+// Adds the line of a value, which is put together in a buffer of its own.
+fn put_line(
+    order: &Lines,
+    tree: &Tree,
+    value: &Value,
+    line: &mut Vec<u8>,
+    lines: &mut Vec<u8>,
+) -> Result<(), NoMemory>
+    requires { IsOrder (grammar_of tree.now.root) order.now.order }
     ensures added { OnOk result (lines.new.items ≡ lines.old.items ++ (line_of (grammar_of tree.now.root) (data_of value.now) ++ 10 ∷ [])) }
     ensures kept { OnErr result (lines.new.items ≡ lines.old.items) }
 {
-    let mut line = to_line(alloc, tree, value)?;
+    line.clear();
+    order.put(tree, value, line)?;
     line.push(b'\n')?;
-    lines.extend_from_slice(&line)?;
+    lines.extend_from_slice(line)?;
     Ok(())
 }
 
@@ -80,11 +89,14 @@ fn pause_of(refuse: Refuse) -> Pause
 fn take_packet(
     alloc: Global,
     checked: &Checked,
+    order: &Lines,
     supply: &mut Supply,
+    line: &mut Vec<u8>,
     lines: &mut Vec<u8>,
 ) -> Result<(), Pause>
     requires named { ItemsNamed (grammar_of checked.now.tree.root) }
     requires bounded { IsBounded (grammar_of checked.now.tree.root) }
+    requires ordered { IsOrder (grammar_of checked.now.tree.root) order.now.order }
     ensures step { spec.StepsOn (grammar_of checked.now.tree.root) supply.old supply.new lines.old.items lines.new.items result }
     ensures near { length supply.new.hand ≤ MOST_IN_HAND }
 {
@@ -95,7 +107,7 @@ fn take_packet(
         return Err(Pause::Wants(None));
     }
     match plain_decode(alloc, checked, hand) {
-        Ok((value, bits)) => match put_line(alloc, tree, &value, lines) {
+        Ok((value, bits)) => match put_line(order, tree, &value, line, lines) {
             Ok(()) => {
                 supply.skip(octets_of(bits));
                 Ok(())
@@ -110,12 +122,15 @@ fn take_packet(
 pub fn take_packets(
     alloc: Global,
     checked: &Checked,
+    order: &Lines,
     supply: &mut Supply,
+    line: &mut Vec<u8>,
     lines: &mut Vec<u8>,
     count: &mut u64,
 ) -> Pause
     requires named { ItemsNamed (grammar_of checked.now.tree.root) }
     requires bounded { IsBounded (grammar_of checked.now.tree.root) }
+    requires ordered { IsOrder (grammar_of checked.now.tree.root) order.now.order }
     requires room { count.old + length supply.old.hand < 2 ^ 64 }
     ensures taken { spec.TakesMany (grammar_of checked.now.tree.root) supply.old supply.new lines.old.items lines.new.items count.old count.new }
     ensures paused { spec.Pauses (grammar_of checked.now.tree.root) supply.new.hand result }
@@ -123,7 +138,7 @@ pub fn take_packets(
     ensures near { length supply.new.hand ≤ MOST_IN_HAND }
 {
     loop {
-        match take_packet(alloc, checked, supply, lines) {
+        match take_packet(alloc, checked, order, supply, line, lines) {
             Ok(()) => *count += 1,
             Err(pause) => return pause,
         }

@@ -10,7 +10,8 @@ use Rattle.acn_grammar.proofs.Views.{view_seq, view_node, view_seq_form}
 use Rattle.acn_json.specs.Lines.{json_of, alternative_json}
 use Rattle.acn_json.specs.Lines.{fields_json}
 use Rattle.acn_json.specs.Spots.{json_at, members_at}
-use Rattle.acn_json.proofs.Objects.{members-turn, first-within, first-member, json-here}
+use Rattle.acn_json.proofs.Objects.{first-within, first-member, json-here}
+use Rattle.acn_json.proofs.Texts.{members-turn}
 use Rattle.std.proofs.lemmas.Result.{on_ok_weaker}
 use Rattle.serde_json.specs.Written.{compact_text, members_text}
 use Rattle.acn_grammar.specs.View.{field_of, fields_view, places_view}

@@ -1,6 +1,7 @@
 use Rattle.std.proofs.Common.{◌≡◌, ◌∙◌, ℕ, drop, length, refl, sym, ap, subst, arith}
 use Rattle.acn_num.proofs.BitLists.{length-bits}
 use Rattle.acn_grammar.specs.View.{grammar_of}
+use Rattle.acn_lines.specs.Order.{IsOrder}
 use Rattle.acn_packet_laws.specs.Laws.{IsAccepted}
 use Rattle.acn_stream.specs.Steps.{Pauses, NotFull}
 use Rattle.acn_stream.proofs.Taking.{takes_one, some_bytes, paused}
@@ -13,6 +14,9 @@ octets_of-requires c = omega (arith, c.in-Ok.ensures.front.within, length-bits c
 
 pub skip-requires : goal.skip-requires
 skip-requires c = omega (arith, c.in-Ok.ensures.front.within, length-bits c.hand-hand.result.now, ap length c.hand-hand.ensures.same, c.octets_of.ensures)
+
+pub put_line-requires : goal.put_line-requires
+put_line-requires c = subst (λ (t : Tree). IsOrder (grammar_of t.root) c.args.order.now.order) (sym c.tree-tree.ensures.same) c.requires.ordered
 
 pub returns-in-Ok-put_line-clause-step : goal.returns-in-Ok-put_line-clause-step
 returns-in-Ok-put_line-clause-step c =

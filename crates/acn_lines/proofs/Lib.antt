@@ -1,0 +1,5 @@
+mod Digits
+mod NamesLaw
+mod Noting
+mod OrderLaw
+mod Parts

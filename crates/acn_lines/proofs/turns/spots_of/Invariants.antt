@@ -1,0 +1,10 @@
+use Rattle.std.proofs.Common.{◌≤◌, drop}
+use Rattle.acn_grammar.specs.View.{fields_view}
+use Rattle.acn_lines.proofs.OrderLaw.{Noted}
+use Rattle.acn_lines.proofs.turns.spots_of.Given as goal
+
+abbrev pub invariant-loop-k : goal.invariant-loop-k
+invariant-loop-k l = record {
+  few : l.at ≤ l.k;
+  noted : Noted (fields_view l.fields) (fields_view (drop l.k l.fields)) l.at l.known.entries;
+}

@@ -1,0 +1,106 @@
+//! What is kept of a tree for its lines.
+
+ghost use Rattle.std.specs.Prelude.{IfOk};
+ghost use Rattle.acn_grammar.specs.View.{grammar_of, field_of, fields_view, alternatives_view};
+ghost use Rattle.acn_lines.specs.Names as names;
+ghost use Rattle.acn_lines.specs.Order as spec;
+ghost use Rattle.acn_lines.specs.declared.order.Order.{out-Order};
+
+use crate::turns::{Turn, turns_of};
+use acn_grammar::{Alternative, Body, Field, Node};
+use acn_num::{NoMemory, Row};
+use std::alloc::Global;
+
+/// What is kept of a node: the turns of a SEQUENCE, and what is kept of the node of each field of a SEQUENCE, or of each
+/// alternative of a CHOICE. Of a list, and of a string that contains a value, it is what is kept of the node inside.
+#[cycle(kept)]
+#[derive(Drop)]
+pub struct Order {
+    pub turns: Row<Turn>,
+    pub inside: Row<Order>,
+}
+
+// Of a node in which no object is.
+fn nothing(alloc: Global) -> Order {
+    Order {
+        turns: Row::new(alloc),
+        inside: Row::new(alloc),
+    }
+}
+
+/// What is kept of a node. It fails only where memory runs out.
+#[cycle(order)]
+pub fn order_of(alloc: Global, node: &Node) -> Result<Order, NoMemory>
+    requires { names.NamesDiffer (grammar_of node.now) }
+    ensures { IfOk result (λ o. spec.IsOrder (grammar_of node.now) o) }
+{
+    match &node.body {
+        Body::Num(_) => Ok(nothing(alloc)),
+        Body::Octets(_) => Ok(nothing(alloc)),
+        Body::Bits(_) => Ok(nothing(alloc)),
+        Body::Text(_) => Ok(nothing(alloc)),
+        Body::Seq(seq) => sequence_order(alloc, seq.fields.items()),
+        Body::List(_, element) => order_of(alloc, element.get()),
+        Body::Choice(choice) => choice_order(alloc, choice.alternatives.items()),
+        Body::Contained(_, content) => order_of(alloc, content.get()),
+    }
+}
+
+#[cycle(order)]
+fn sequence_order(alloc: Global, fields: &[Field]) -> Result<Order, NoMemory>
+    requires differ { names.Differ (fields_view fields.now) }
+    requires inside { names.FieldsNamesDiffer (fields_view fields.now) }
+    ensures turns { IfOk result (λ o. spec.AreTurns (fields_view fields.now) (out-Order o).turns) }
+    ensures inside { IfOk result (λ o. spec.AreFieldOrders (fields_view fields.now) (out-Order o).inside) }
+{
+    let turns = turns_of(alloc, fields)?;
+    let inside = field_orders(alloc, fields)?;
+    Ok(Order { turns, inside })
+}
+
+#[cycle(order)]
+fn field_orders(alloc: Global, fields: &[Field]) -> Result<Row<Order>, NoMemory>
+    requires { names.FieldsNamesDiffer (fields_view fields.now) }
+    ensures { IfOk result (λ os. spec.AreFieldOrders (fields_view fields.now) os) }
+{
+    let mut orders = Row::new(alloc);
+    for field in fields {
+        orders.push(field_order(alloc, field)?)?;
+    }
+    Ok(orders)
+}
+
+#[cycle(order)]
+fn field_order(alloc: Global, field: &Field) -> Result<Order, NoMemory>
+    requires { names.FieldNamesDiffer (field_of field.now) }
+    ensures { IfOk result (λ o. spec.IsFieldOrder (field_of field.now) o) }
+{
+    match field {
+        Field::Component { node, .. } => order_of(alloc, node),
+        Field::Inserted { .. } => Ok(nothing(alloc)),
+    }
+}
+
+#[cycle(order)]
+fn choice_order(alloc: Global, alternatives: &[Alternative]) -> Result<Order, NoMemory>
+    requires { names.AlternativesNamesDiffer (alternatives_view alternatives.now) }
+    ensures { IfOk result (λ o. spec.AreAlternativeOrders (alternatives_view alternatives.now) (out-Order o).inside) }
+{
+    let inside = alternative_orders(alloc, alternatives)?;
+    Ok(Order {
+        turns: Row::new(alloc),
+        inside,
+    })
+}
+
+#[cycle(order)]
+fn alternative_orders(alloc: Global, alternatives: &[Alternative]) -> Result<Row<Order>, NoMemory>
+    requires { names.AlternativesNamesDiffer (alternatives_view alternatives.now) }
+    ensures { IfOk result (λ os. spec.AreAlternativeOrders (alternatives_view alternatives.now) os) }
+{
+    let mut orders = Row::new(alloc);
+    for alternative in alternatives {
+        orders.push(order_of(alloc, &alternative.node)?)?;
+    }
+    Ok(orders)
+}
