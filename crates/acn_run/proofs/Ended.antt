@@ -3,10 +3,11 @@ use Rattle.std.proofs.Common.{◌≡◌, ℕ, ◌≤◌, List, [], ◌∷◌, No
 use Rattle.std.specs.Prelude.{◌↔◌}
 use Rattle.std.specs.List.{AllByRecursion}
 use Rattle.acn_files.specs.Contents.{Told}
-use Rattle.acn_front.specs.Grammars.{AreGrammarsOf}
+use Rattle.acn_front.specs.Grammars.{AreGrammarsOf, IsGrammarOf}
 use Rattle.acn_grammar.specs.View.{grammar_of}
 use Rattle.acn_index.specs.World.{World}
 use Rattle.acn_index.specs.declared.sources.TypeId.{TypeId}
+use Rattle.acn_packet_laws.specs.Laws.{IsAccepted}
 use Rattle.acn_tree.specs.declared.tree.Tree.{Tree}
 use Rattle.acn_words.specs.Requests.{Request, request_in}
 use Rattle.acn_run.specs.Asked.{HasGrammars}
@@ -42,10 +43,21 @@ module _ (b a : Outside) where
   is_usage words Usage (no_form none u s) = ((λ e. none), (λ e. refl))
   is_usage words status (served request s is serves) = ((λ e. absurd (has_form request status serves e)), (λ e. cc))
 
+accepted : (w : World) (of : TypeId) (tree : Tree) → IsGrammarOf w of tree → IsAccepted (grammar_of tree.root)
+accepted w of tree is = record { formed = tree.formed; sound = is.decodable }
+
+-- the grammar of a request that asks for one is accepted
+pub is_accepted : (told : Told) (request : Request) (tree : Tree) → HasGrammars told request (tree ∷ []) → IsAccepted (grammar_of tree.root)
+is_accepted told request tree h = by h.types h.grammars
+  where
+    by : (types : List TypeId) → AreGrammarsOf h.world types (tree ∷ []) → IsAccepted (grammar_of tree.root)
+    by (of ∷ types) all = accepted h.world of tree all.0
+    by [] all = absurd all
+
 module _ (each : EachGrammarKeepsItsPromise) where
   kept : (w : World) (types : List TypeId) (trees : List Tree) → AreGrammarsOf w types trees → AllByRecursion (λ tree. KeepsItsPromise (grammar_of tree.root)) trees
   kept w [] [] all = tt
-  kept w (of ∷ types) (tree ∷ trees) all = (each (grammar_of tree.root) (record { formed = tree.formed; sound = all.0.decodable }), kept w types trees all.1)
+  kept w (of ∷ types) (tree ∷ trees) all = (each (grammar_of tree.root) (accepted w of tree all.0), kept w types trees all.1)
   kept w [] (tree ∷ trees) all = absurd all
   kept w (of ∷ types) [] all = absurd all
 

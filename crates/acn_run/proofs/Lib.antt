@@ -6,3 +6,4 @@ mod Refusing
 mod Summing
 mod Ended
 mod Begun
+mod Completing

@@ -80,12 +80,9 @@ module _ (w : World) (named : Option TypeName) (types : List TypeId) (question :
   fault_of : (told : Told) (request : Request) (f : TypeFault) → IsWorldOfNames told (files_of request) w → type_of request ≡ named → IsFirstTypeFault w types f → HasTypeFault told request w f
   fault_of told request f read is first = record { types = types; read = read; question = rw is question; first = first }
 
-  pub type_ends : (f : TypeFault) (status : Status) → IsFirstTypeFault w types f → TellsTypeFault w f err err' status → EndsForWorld w named err err' status
+  pub type_ends : (f : TypeFault) (status : Status) → IsFirstTypeFault w types f → TellsTypeFault f err err' status → EndsForWorld w named err err' status
   type_ends (type_fault.Refused r) status first t told faults faults' request read is =
       refusal_ends told faults faults' request err err' status _ t.0 (refusals.unmade w r (fault_of told request _ read is first)) t.1
-  type_ends (type_fault.Unformed of) status first t told faults faults' request read is =
-      let p = t.1.1 in
-      refusal_ends told faults faults' request err err' status _ t.0 (refusals.unformed w of p.owner p.own (fault_of told request _ read is first) p.owner_is p.own_is) (record { result = t.1.0; prints = p.prints })
   type_ends (type_fault.Undecodable tree g) status first t told faults faults' request read is =
       refusal_ends told faults faults' request err err' status _ t.0 (refusals.undecodable w tree g (fault_of told request _ read is first)) t.1
   type_ends type_fault.NoMemory status first t told faults faults' request read is = memory_ends told faults faults' request err err' status t.0 t.1

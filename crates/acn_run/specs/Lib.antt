@@ -5,3 +5,4 @@ pub mod Outside
 pub mod Refusals
 pub mod Run
 pub mod Steps
+pub mod Complete

@@ -1,6 +1,5 @@
--- Why a request is refused for its sources, with the line that says so. (This program's own. The order of the reasons is that of X.680's layers: text, names, types.)
+-- Why a request is refused for its sources, with the line that says so. (This program's own, as is the order in which the reasons are tried: text, names, types.)
 use Rattle.std.specs.Prelude.{◌≡◌, ℕ, List, [], ◌∷◌, Some, None, slice_get, codes, IsTrue}
-use Rattle.std.specs.List.{concat}
 use Rattle.acn_files.specs.Contents.{Told, IsFirstTooLong}
 use Rattle.acn_front.specs.Grammars.{IsFirstTypeFault}
 use Rattle.acn_front.specs.Loaded.{IsLoadFault}
@@ -21,13 +20,8 @@ use Rattle.acn_survey.specs.declared.reason.Refused.{Refused}
 use Rattle.acn_tree.specs.declared.tree.Tree.{Tree}
 use Rattle.acn_words.specs.Names.{TypeName}
 use Rattle.acn_words.specs.Requests.{Request, files_of, type_of, reads_input}
-use Rattle.acn_world.specs.Faults.{module_name_at, name_at}
 use Rattle.acn_world.specs.declared.fault.NameFault.{NameFault}
 use Rattle.acn_run.specs.Asked.{AreRead, IsWorldOfNames, types_for, HasGrammars}
-
--- a type that the merge makes into what is no tree, which isn't proved to be none
-abbrev pub unformed_line : (owner name : List ℕ) → List ℕ
-unformed_line owner name = concat (codes "acn: " ∷ owner ∷ codes "." ∷ name ∷ codes ": Unformed\n" ∷ [])
 
 -- where no type has this name
 abbrev pub unknown_line : TypeName → List ℕ
@@ -53,8 +47,6 @@ module _ (told : Told) (request : Request) where
     unknown : (w : World) (of : TypeName) → IsWorldOfNames told (files_of request) w → type_of request ≡ Some of → types_for w (type_of request) ≡ None → Refuses (unknown_line of)
     -- a node of a type can't be made
     unmade : (w : World) (r : Refused) → HasTypeFault told request w (type_fault.Refused r) → Refuses (refused_line r)
-    -- what is made of a type isn't well formed
-    unformed : (w : World) (of : TypeId) (owner own : List ℕ) → HasTypeFault told request w (type_fault.Unformed of) → module_name_at w of ≡ Some owner → name_at w of ≡ Some own → Refuses (unformed_line owner own)
     -- packets of a type can't be decoded
     undecodable : (w : World) (tree : Tree) (f : CheckFault) → HasTypeFault told request w (type_fault.Undecodable tree f) → Refuses (check_line tree f)
     -- nothing says how many packets there are

@@ -16,7 +16,7 @@ use Rattle.acn_grammar.specs.Grammar.{Grammar}
 use Rattle.acn_grammar.specs.Interval.{span}
 use Rattle.acn_grammar.specs.View.{grammar_of}
 use Rattle.acn_outside.specs.Counts.{Rose}
-use Rattle.acn_print.specs.Printing.{Output, Prints}
+use Rattle.acn_print.specs.Printing.{Output}
 use Rattle.acn_report.specs.CheckTexts.{check_line, no_memory_line}
 use Rattle.acn_report.specs.Texts.{empty_line}
 use Rattle.acn_source_report.specs.Texts.{file_line, long_file_line, refused_line, unreadable_line}
@@ -30,11 +30,9 @@ use Rattle.acn_words.specs.Requests.{Request, files_of, type_of}
 use Rattle.acn_work.specs.Line.{summary_line}
 use Rattle.acn_work.specs.Summaries.{IsSummary}
 use Rattle.acn_work.specs.declared.summary.Summary.{Summary}
-use Rattle.acn_world.specs.Faults.{module_name_at, name_at}
 use Rattle.acn_run.specs.Asked.{AreRead, AreFilesOf, IsWorldOfNames, types_for}
 use Rattle.acn_run.specs.Lines.{output_failed_line, stream_line}
 use Rattle.acn_run.specs.Outside.{seen, Says, IsSilent}
-use Rattle.acn_run.specs.Refusals.{unformed_line}
 use Rattle.acn_run.specs.Run.{Serves}
 use Rattle.acn_run.specs.declared.status.Status.{Status}
 use Rattle.acn_run.specs.declared.status.Status.TheVariants.{Done, NoGrammar, BadInput, FileFailed, InputFailed, OutputFailed, NoMemory}
@@ -107,20 +105,11 @@ status_of stream.InputFault = InputFailed
 status_of stream.OutputFault = OutputFailed
 status_of stream.NoMemory = NoMemory
 
--- the line of a type of which no tree is made, with its names
-pub record PrintsUnformed (w : World) (of : TypeId) (err err' : Output) (result : Result (Unit {0}) Failed) : Type 0 where
-  pub owner : List ℕ
-  pub own : List ℕ
-  pub owner_is : module_name_at w of ≡ Some owner
-  pub own_is : name_at w of ≡ Some own
-  pub prints : Prints (unformed_line owner own) err err' result
-
 -- a type has no grammar: what is said, and the status
-abbrev pub TellsTypeFault : World → TypeFault → (err err' : Output) → Status → Type 0
-TellsTypeFault w (type_fault.Refused r) err err' status = (status ≡ NoGrammar) × Says (refused_line r) err err'
-TellsTypeFault w (type_fault.Unformed of) err err' status = (status ≡ NoGrammar) × ((result : Result (Unit {0}) Failed) × PrintsUnformed w of err err' result)
-TellsTypeFault w (type_fault.Undecodable tree f) err err' status = (status ≡ NoGrammar) × Says (check_line tree f) err err'
-TellsTypeFault w type_fault.NoMemory err err' status = (status ≡ NoMemory) × Says no_memory_line err err'
+abbrev pub TellsTypeFault : TypeFault → (err err' : Output) → Status → Type 0
+TellsTypeFault (type_fault.Refused r) err err' status = (status ≡ NoGrammar) × Says (refused_line r) err err'
+TellsTypeFault (type_fault.Undecodable tree f) err err' status = (status ≡ NoGrammar) × Says (check_line tree f) err err'
+TellsTypeFault type_fault.NoMemory err err' status = (status ≡ NoMemory) × Says no_memory_line err err'
 
 -- the stream was converted to its end, or it is said why not
 abbrev pub TellsStream : Tree → Result ℕ StreamFault → (err err' : Output) → Status → Type 0

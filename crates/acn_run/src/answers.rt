@@ -5,6 +5,7 @@ ghost use Rattle.acn_grammar.specs.ItemsNamed.{ItemsNamed};
 ghost use Rattle.acn_grammar.specs.View.{grammar_of};
 ghost use Rattle.acn_grammar.specs.declared.limits.TheConstants.{MOST_PACKET_BITS};
 ghost use Rattle.acn_run.specs.Steps as spec;
+ghost use Rattle.acn_tree_laws.specs.Laws.{IsOfSources};
 ghost use Rattle.acn_words.specs.Requests as requests;
 ghost use Rattle.acn_words.specs.View.{type_view, request_view};
 ghost use Rattle.acn_world.specs.Viewed.{world_view};
@@ -23,6 +24,7 @@ use acn_world::World;
 use std::alloc::Global;
 
 fn check<O: Sink, E: Sink>(alloc: Global, world: &World, out: &mut O, err: &mut E) -> Status
+    requires { IsOfSources (world_view world.now) }
     ensures { (names : List (List ℕ)) → spec.AnswersText (requests.check names) (world_view world.now) (O.taken out.old, O.faults out.old) (O.taken out.new, O.faults out.new) (E.taken err.old, E.faults err.old) (E.taken err.new, E.faults err.new) result }
 {
     match root_grammars(alloc, world, err) {
@@ -32,6 +34,7 @@ fn check<O: Sink, E: Sink>(alloc: Global, world: &World, out: &mut O, err: &mut 
 }
 
 fn bounds<O: Sink, E: Sink>(alloc: Global, world: &World, out: &mut O, err: &mut E) -> Status
+    requires { IsOfSources (world_view world.now) }
     ensures { (names : List (List ℕ)) → spec.AnswersText (requests.bounds names) (world_view world.now) (O.taken out.old, O.faults out.old) (O.taken out.new, O.faults out.new) (E.taken err.old, E.faults err.old) (E.taken err.new, E.faults err.new) result }
 {
     match root_grammars(alloc, world, err) {
@@ -47,6 +50,7 @@ fn layout<O: Sink, E: Sink>(
     out: &mut O,
     err: &mut E,
 ) -> Status
+    requires { IsOfSources (world_view world.now) }
     ensures { (names : List (List ℕ)) → spec.AnswersText (requests.layout (type_view of.now) names) (world_view world.now) (O.taken out.old, O.faults out.old) (O.taken out.new, O.faults out.new) (E.taken err.old, E.faults err.old) (E.taken err.new, E.faults err.new) result }
 {
     match named_grammar(alloc, world, of, err) {
@@ -84,6 +88,7 @@ fn work<O: Sink, E: Sink>(
     err: &mut E,
 ) -> Status
     requires few { count * MOST_PACKET_BITS < 2 ^ 64 }
+    requires sources { IsOfSources (world_view world.now) }
     ensures { (names : List (List ℕ)) → spec.AnswersText (requests.work (type_view of.now) start count names) (world_view world.now) (O.taken out.old, O.faults out.old) (O.taken out.new, O.faults out.new) (E.taken err.old, E.faults err.old) (E.taken err.new, E.faults err.new) result }
 {
     match named_grammar(alloc, world, of, err) {
@@ -100,6 +105,7 @@ fn encode<S: Source, O: Sink, E: Sink>(
     out: &mut O,
     err: &mut E,
 ) -> Status
+    requires { IsOfSources (world_view world.now) }
     ensures { (names : List (List ℕ)) → spec.AnswersStream (requests.encode (type_view of.now) names) (world_view world.now) (S.rest input.old) (S.rest input.new) (S.faults input.old) (S.faults input.new) (O.taken out.old, O.faults out.old) (O.taken out.new, O.faults out.new) (E.taken err.old, E.faults err.old) (E.taken err.new, E.faults err.new) result }
 {
     match named_grammar(alloc, world, of, err) {
@@ -116,6 +122,7 @@ fn decode<S: Source, O: Sink, E: Sink>(
     out: &mut O,
     err: &mut E,
 ) -> Status
+    requires { IsOfSources (world_view world.now) }
     ensures { (names : List (List ℕ)) → spec.AnswersStream (requests.decode (type_view of.now) names) (world_view world.now) (S.rest input.old) (S.rest input.new) (S.faults input.old) (S.faults input.new) (O.taken out.old, O.faults out.old) (O.taken out.new, O.faults out.new) (E.taken err.old, E.faults err.old) (E.taken err.new, E.faults err.new) result }
 {
     match named_grammar(alloc, world, of, err) {
@@ -133,7 +140,8 @@ pub fn answer<S: Source, O: Sink, E: Sink>(
     out: &mut O,
     err: &mut E,
 ) -> Status
-    requires { requests.has_count (request_view request.now) ≡ true }
+    requires count { requests.has_count (request_view request.now) ≡ true }
+    requires sources { IsOfSources (world_view world.now) }
     ensures { spec.AnswersStream (request_view request.now) (world_view world.now) (S.rest input.old) (S.rest input.new) (S.faults input.old) (S.faults input.new) (O.taken out.old, O.faults out.old) (O.taken out.new, O.faults out.new) (E.taken err.old, E.faults err.old) (E.taken err.new, E.faults err.new) result }
 {
     match request {

@@ -1,12 +1,11 @@
 //! From a world to the grammars of the types in question.
 
 ghost use Rattle.std.specs.Prelude.{◌≡◌, ◌∷◌, [], Some, None, map, IfOk, IfErr, OnOk};
-ghost use Rattle.acn_front.specs.Grammars.{IsOfWorld};
-ghost use Rattle.acn_index.specs.World as world_of;
 ghost use Rattle.acn_run.specs.Outside.{IsSilent, Says};
-ghost use Rattle.acn_run.specs.Refusals.{unknown_line, unformed_line};
+ghost use Rattle.acn_run.specs.Refusals.{unknown_line};
 ghost use Rattle.acn_run.specs.Steps as spec;
 ghost use Rattle.acn_run.specs.declared.status.Status.TheVariants as status;
+ghost use Rattle.acn_tree_laws.specs.Laws.{IsOfSources};
 ghost use Rattle.acn_words.specs.View.{type_view};
 ghost use Rattle.acn_world.specs.Viewed.{world_view};
 
@@ -14,40 +13,19 @@ use crate::reports::no_memory;
 use crate::status::Status;
 use acn_check::Checked;
 use acn_front::{TypeFault, grammar_of_type, grammars_of_types};
-use acn_outside::{Failed, Sink};
-use acn_print::{Piece, put_all};
+use acn_outside::Sink;
 use acn_report::put_check_fault;
 use acn_source_report::{put_refused, put_unknown_type};
 use acn_words::TypeName;
-use acn_world::{TypeId, World};
+use acn_world::World;
 use std::alloc::Global;
 
-// What is made of a type isn't well formed.
-fn put_unformed<'a, E: Sink>(world: &'a World, of: TypeId, err: &mut E) -> Result<(), Failed>
-    requires { world_of.IsType (world_view world.now) of }
-    ensures { spec.PrintsUnformed (world_view world.now) of (E.taken err.old, E.faults err.old) (E.taken err.new, E.faults err.new) result }
-{
-    let (owner, name) = world.name_of(of);
-    put_all(
-        err,
-        &[
-            Piece::Text("acn: "),
-            Piece::Name(owner.bytes()),
-            Piece::Text("."),
-            Piece::Name(name.bytes()),
-            Piece::Text(": Unformed\n"),
-        ],
-    )
-}
-
 // A type has no grammar.
-fn type_refused<E: Sink>(world: &World, fault: &TypeFault, err: &mut E) -> Status
-    requires { IsOfWorld (world_view world.now) fault.now }
-    ensures { spec.TellsTypeFault (world_view world.now) fault.now (E.taken err.old, E.faults err.old) (E.taken err.new, E.faults err.new) result }
+fn type_refused<E: Sink>(fault: &TypeFault, err: &mut E) -> Status
+    ensures { spec.TellsTypeFault fault.now (E.taken err.old, E.faults err.old) (E.taken err.new, E.faults err.new) result }
 {
     let _ = match fault {
         TypeFault::Refused(refused) => put_refused(refused, err),
-        TypeFault::Unformed(of) => put_unformed(world, *of, err),
         TypeFault::Undecodable(tree, fault) => put_check_fault(tree.get(), fault, err),
         TypeFault::NoMemory => return no_memory(err),
     };
@@ -60,6 +38,7 @@ pub fn root_grammars<E: Sink>(
     world: &World,
     err: &mut E,
 ) -> Result<Vec<Checked>, Status>
+    requires { IsOfSources (world_view world.now) }
     ensures grammars { IfOk result (λ all. spec.Answers (world_view world.now) None (map (λ c. c.tree) all.items)) }
     ensures silent { OnOk result (IsSilent (E.taken err.old, E.faults err.old) (E.taken err.new, E.faults err.new)) }
     ensures fails { IfErr result (spec.EndsForWorld (world_view world.now) None (E.taken err.old, E.faults err.old) (E.taken err.new, E.faults err.new)) }
@@ -69,7 +48,7 @@ pub fn root_grammars<E: Sink>(
     };
     match grammars_of_types(alloc, world, &roots) {
         Ok(all) => Ok(all),
-        Err(fault) => Err(type_refused(world, &fault, err)),
+        Err(fault) => Err(type_refused(&fault, err)),
     }
 }
 
@@ -89,6 +68,7 @@ pub fn named_grammar<E: Sink>(
     of: &TypeName<'_>,
     err: &mut E,
 ) -> Result<Checked, Status>
+    requires { IsOfSources (world_view world.now) }
     ensures grammars { IfOk result (λ checked. spec.Answers (world_view world.now) (Some (type_view of.now)) (checked.tree ∷ [])) }
     ensures silent { OnOk result (IsSilent (E.taken err.old, E.faults err.old) (E.taken err.new, E.faults err.new)) }
     ensures fails { IfErr result (spec.EndsForWorld (world_view world.now) (Some (type_view of.now)) (E.taken err.old, E.faults err.old) (E.taken err.new, E.faults err.new)) }
@@ -97,7 +77,7 @@ pub fn named_grammar<E: Sink>(
         None => Err(type_unknown(of, err)),
         Some(found) => match grammar_of_type(alloc, world, found) {
             Ok(checked) => Ok(checked),
-            Err(fault) => Err(type_refused(world, &fault, err)),
+            Err(fault) => Err(type_refused(&fault, err)),
         },
     }
 }

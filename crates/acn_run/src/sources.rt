@@ -11,6 +11,7 @@ ghost use Rattle.acn_run.specs.declared.status.Status.TheVariants as status;
 ghost use Rattle.acn_source_report.specs.Texts.{name_line};
 ghost use Rattle.acn_sources.specs.Files.{AreShort};
 ghost use Rattle.acn_sources.specs.Names.{kind_of_name};
+ghost use Rattle.acn_tree_laws.specs.Laws.{IsOfSources};
 ghost use Rattle.acn_words.specs.Files.{is_file};
 ghost use Rattle.acn_words.specs.Requests.{Request, files_of};
 ghost use Rattle.acn_world.specs.Viewed.{world_view};
@@ -127,6 +128,7 @@ fn world_of<E: Sink>(
     requires short { AreShort files.now }
     requires same { length files.now ≡ length names.now }
     ensures world { IfOk result (λ w. IsWorldOf files.now (world_view w)) }
+    ensures of_sources { IfOk result (λ w. IsOfSources (world_view w)) }
     ensures silent { OnOk result (IsSilent (E.taken err.old, E.faults err.old) (E.taken err.new, E.faults err.new)) }
     ensures fails { IfErr result (λ status. (contents : List (List ℕ)) → spec.EndsForFiles (map string_bytes names.now) contents files.now (E.taken err.old, E.faults err.old) (E.taken err.new, E.faults err.new) status) }
 {
@@ -146,6 +148,7 @@ fn world_of_contents<E: Sink>(
     requires files { IsTrue (list_all is_file (map string_bytes names.now)) }
     requires read { spec.WereRead (map string_bytes names.now) (map (λ v. v.items) contents.now) }
     ensures world { IfOk result (λ w. spec.IsWorldOfContents (map string_bytes names.now) (map (λ v. v.items) contents.now) (world_view w)) }
+    ensures of_sources { IfOk result (λ w. IsOfSources (world_view w)) }
     ensures silent { OnOk result (IsSilent (E.taken err.old, E.faults err.old) (E.taken err.new, E.faults err.new)) }
     ensures fails { IfErr result (spec.EndsForContents (map string_bytes names.now) (map (λ v. v.items) contents.now) (E.taken err.old, E.faults err.old) (E.taken err.new, E.faults err.new)) }
 {
@@ -164,6 +167,7 @@ pub fn read_world<F: Files, E: Sink>(
 ) -> Result<World, Status>
     requires { IsTrue (list_all is_file (map string_bytes names.now)) }
     ensures world { IfOk result (λ w. IsWorldOfNames (F.contents files.old) (map string_bytes names.now) (world_view w)) }
+    ensures of_sources { IfOk result (λ w. IsOfSources (world_view w)) }
     ensures silent { OnOk result (IsSilent (E.taken err.old, E.faults err.old) (E.taken err.new, E.faults err.new)) }
     ensures fails { IfErr result (λ status. (request : Request) → files_of request ≡ map string_bytes names.now → spec.EndsEarly (F.contents files.old) (F.faults files.old) (F.faults files.new) (E.taken err.old, E.faults err.old) (E.taken err.new, E.faults err.new) request status) }
 {

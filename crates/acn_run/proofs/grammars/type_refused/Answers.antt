@@ -7,9 +7,6 @@ use Rattle.acn_run.proofs.grammars.type_refused.Goals as goal
 pub returns-in-Refused : goal.returns-in-Refused
 returns-in-Refused g c = rw c.in-Refused.is (refl, record { result = c.put_refused.result; prints = c.put_refused.ensures })
 
-pub returns-in-Unformed : goal.returns-in-Unformed
-returns-in-Unformed g c = rw c.in-Unformed.is (refl, (c.put_unformed.result, c.put_unformed.ensures))
-
 pub returns-in-Undecodable : goal.returns-in-Undecodable
 returns-in-Undecodable g c =
     let prints = subst (λ (t : Tree). Prints (check_line t c.in-Undecodable.fault) (g.E.Sink.taken c.args.err.now, g.E.Sink.faults c.args.err.now) (g.E.Sink.taken c.put_check_fault.new.out, g.E.Sink.faults c.put_check_fault.new.out) c.put_check_fault.result) c.get.ensures c.put_check_fault.ensures in

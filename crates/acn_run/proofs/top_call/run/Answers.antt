@@ -1,7 +1,8 @@
-use Rattle.std.proofs.Common.{◌≡◌, List, None, map, string_bytes, subst}
+use Rattle.std.proofs.Common.{◌≡◌, List, None, map, string_bytes, ap, subst}
 use Rattle.std.specs.Prelude.{◌↔◌}
 use Rattle.acn_words.specs.Requests.{request_in}
 use Rattle.acn_run.specs.Run.{code_of}
+use Rattle.acn_run.proofs.Completing.{completes}
 use Rattle.acn_run.proofs.Ended.{at_most_seven, is_usage, promises}
 use Rattle.acn_run.proofs.top_call.run.Goals as goal
 
@@ -14,3 +15,6 @@ returns-clause-usage g c =
 
 pub returns-clause-known : goal.returns-clause-known
 returns-clause-known g c = rw c.code.ensures (at_most_seven c.run_words.result)
+
+pub returns-clause-complete : goal.returns-clause-complete
+returns-clause-complete g c = completes c.recordings_are_decoded.ensures c.lines_are_encoded.ensures _ _ _ _ _ _ (ap (λ (ws : List _). map string_bytes ws) c.deref.ensures.value) c.code.ensures c.run_words.ensures
