@@ -1,6 +1,4 @@
-ghost use Rattle.std.specs.Prelude.{◌≡◌, ◌∷◌, [], ◌++◌, map, filter_map, find, option_map, option_and_then, option_to_list, IfOk, OnOk, Some, None};
-ghost use Rattle.std.specs.List.{enumerate_from};
-ghost use Rattle.std.specs.Str.{bytes_eq};
+ghost use Rattle.std.specs.Prelude.{◌≡◌, ◌∷◌, [], ◌++◌, map, option_map, option_and_then, option_to_list, IfOk, OnOk, Some, None};
 ghost use Rattle.acn_asn_syntax.specs.Mirror as tree;
 ghost use Rattle.acn_asn_syntax.specs.View.{base_view, component_view, alternative_view, constraint_view, type_view};
 ghost use Rattle.acn_acn_syntax.specs.View.{field_of};
@@ -17,9 +15,9 @@ use acn_acn_syntax::AcnField;
 use acn_asn_syntax::{Alternative, AsnBase, AsnType, Component, Constraint};
 use acn_num::{Name, NoMemory, Row};
 use acn_slots::{
-    Field, Frame, Origin, PlainTypes, Scope, Use, base_of, braces_at, braces_module, braces_origin,
-    component_name, component_rest, component_type, copied, extended, field_in, kind_chain,
-    name_in_text, no_use, use_of,
+    Field, Frame, Listed, Origin, PlainTypes, Scope, Use, base_of, braces_at, braces_module,
+    braces_origin, component_name, component_rest, component_type, copied, extended, kind_chain,
+    no_use, use_of,
 };
 use acn_world::{Chain, World};
 use std::alloc::Global;
@@ -144,14 +142,14 @@ fn below_of<'w>(
 }
 
 impl<'w> Below<'w> {
-    // The frame of a SEQUENCE with these components.
-    fn frame(&self, alloc: Global, components: &'w [Component]) -> Result<Frame<'w>, NoMemory>
-        ensures { IfOk result (λ f. frame_view f ≡ spec.frame_in (map component_view components.now) (below_view self.now)) }
+    // The frame of a SEQUENCE with these fields.
+    fn frame(&self, alloc: Global, listed: &Listed<'w>) -> Result<Frame<'w>, NoMemory>
+        requires { braces_view listed.now.braces ≡ braces_view self.now.braces }
+        ensures { IfOk result (λ f. frame_view f ≡ spec.frame_in (map component_view listed.now.components.now) (below_view self.now)) }
     {
         Ok(Frame {
             owner: self.owner,
-            components,
-            braces: self.braces,
+            listed: listed.copy()?,
             reader: self.reader,
             path: copied(alloc, self.path.items())?,
         })
@@ -174,12 +172,13 @@ fn entered<'w>(alloc: Global, frame: Frame<'w>, scope: Scope<'w>) -> Result<Scop
 // The fields of a SEQUENCE see each other.
 fn in_sequence<'w>(
     alloc: Global,
-    components: &'w [Component],
+    listed: &Listed<'w>,
     below: Below<'w>,
 ) -> Result<Below<'w>, NoMemory>
-    ensures { IfOk result (λ b. below_view b ≡ spec.in_sequence (map component_view components.now) (below_view below.entry)) }
+    requires { braces_view listed.now.braces ≡ braces_view below.braces }
+    ensures { IfOk result (λ b. below_view b ≡ spec.in_sequence (map component_view listed.now.components.now) (below_view below.entry)) }
 {
-    let frame = below.frame(alloc, components)?;
+    let frame = below.frame(alloc, listed)?;
     let Below {
         owner,
         braces,
@@ -305,22 +304,14 @@ fn push_fields<'w>(
     world: &'w World,
     plain: &'w PlainTypes,
     below: &Below<'w>,
-    components: &'w [Component],
+    listed: &Listed<'w>,
     fields: &'w [AcnField],
     all: &mut Row<Site<'w>>,
 ) -> Result<(), NoMemory>
-    ensures { OnOk result (sites_view all.new ≡ sites_view all.old ++ map (spec.field_site (world_view world.now) (below_view below.now)) (slots.fields_of (Some (map field_of fields.now)) (map component_view components.now))) }
+    ensures { OnOk result (sites_view all.new ≡ sites_view all.old ++ map (spec.field_site (world_view world.now) (below_view below.now)) (slots.fields_of (Some (map field_of fields.now)) (map component_view listed.now.components.now))) }
 {
     for (i, field) in fields.iter().enumerate() {
-        push_field(
-            alloc,
-            world,
-            plain,
-            below,
-            i,
-            field_in(components, field),
-            all,
-        )?;
+        push_field(alloc, world, plain, below, i, listed.field_in(field), all)?;
     }
     Ok(())
 }
@@ -330,15 +321,15 @@ fn sequence_sites<'w>(
     alloc: Global,
     world: &'w World,
     plain: &'w PlainTypes,
-    components: &'w [Component],
+    listed: &Listed<'w>,
     below: &Below<'w>,
 ) -> Result<Row<Site<'w>>, NoMemory>
-    ensures { IfOk result (λ all. sites_view all ≡ spec.sequence_sites (world_view world.now) (map component_view components.now) (below_view below.now)) }
+    ensures { IfOk result (λ all. sites_view all ≡ spec.sequence_sites (world_view world.now) (map component_view listed.now.components.now) (below_view below.now)) }
 {
     let mut all = Row::new(alloc);
     match below.braces {
-        None => push_components(alloc, world, plain, below, components, &mut all)?,
-        Some(fields) => push_fields(alloc, world, plain, below, components, fields, &mut all)?,
+        None => push_components(alloc, world, plain, below, listed.components, &mut all)?,
+        Some(fields) => push_fields(alloc, world, plain, below, listed, fields, &mut all)?,
     }
     Ok(all)
 }
@@ -359,18 +350,6 @@ fn alternative_type(alternative: &Alternative) -> &AsnType
     &alternative.of
 }
 
-// The first field of this name.
-fn text_named<'w>(fields: &'w [AcnField], name: &[u8]) -> Option<&'w AcnField>
-    ensures { option_map (λ f. field_of f.now) result ≡ find (λ f. bytes_eq (slots.name_in_text f) name.now) (map field_of fields.now) }
-{
-    for field in fields {
-        if name_in_text(field).bytes() == name {
-            return Some(field);
-        }
-    }
-    None
-}
-
 // A field as a use, where it is one.
 fn use_or_none<'w>(field: Option<&'w AcnField>) -> Use<'w>
     ensures { use_view result ≡ slots.default_of (option_and_then slots.use_of (option_map (λ f. field_of f.now) field.entry)) slots.no_use }
@@ -385,13 +364,10 @@ fn use_or_none<'w>(field: Option<&'w AcnField>) -> Use<'w>
 }
 
 // The use of an alternative.
-fn use_named<'w>(braces: Option<&'w [AcnField]>, name: &[u8]) -> Use<'w>
-    ensures { use_view result ≡ spec.use_named (braces_view braces.entry) name.now }
+fn use_named<'w>(listed: &Listed<'w>, name: &[u8]) -> Use<'w>
+    ensures { use_view result ≡ spec.use_named (braces_view listed.now.braces) name.now }
 {
-    match braces {
-        None => no_use(),
-        Some(fields) => use_or_none(text_named(fields, name)),
-    }
+    use_or_none(listed.text_named(name))
 }
 
 // The site of an alternative.
@@ -399,13 +375,15 @@ fn alternative_site<'w>(
     alloc: Global,
     world: &'w World,
     below: &Below<'w>,
+    listed: &Listed<'w>,
     number: usize,
     alternative: &'w Alternative,
 ) -> Result<Site<'w>, NoMemory>
+    requires { braces_view listed.now.braces ≡ braces_view below.now.braces }
     ensures { IfOk result (λ s. site_view s ≡ spec.alternative_site (world_view world.now) (below_view below.now) (number, alternative_view alternative.now)) }
 {
     let name = alternative_name(alternative);
-    let used = use_named(below.braces, name.bytes());
+    let used = use_named(listed, name.bytes());
     let chain = world.chain(alloc, below.owner, alternative_type(alternative))?;
     site_below(
         alloc,
@@ -426,9 +404,10 @@ fn alternative_sites<'w>(
 ) -> Result<Row<Site<'w>>, NoMemory>
     ensures { IfOk result (λ all. sites_view all ≡ spec.alternative_sites (world_view world.now) (map alternative_view alternatives.now) (below_view below.now)) }
 {
+    let listed = Listed::noted(alloc, &[], below.braces)?;
     let mut all = Row::new(alloc);
     for (i, alternative) in alternatives.iter().enumerate() {
-        all.push(alternative_site(alloc, world, below, i, alternative)?)?;
+        all.push(alternative_site(alloc, world, below, &listed, i, alternative)?)?;
     }
     Ok(all)
 }
@@ -583,8 +562,9 @@ fn sites_in<'w>(
     match inside {
         Inside::Components(components) => {
             let below = below_of(alloc, world, plain, site)?;
-            let below = in_sequence(alloc, components, below)?;
-            sequence_sites(alloc, world, plain, components, &below)
+            let listed = Listed::noted(alloc, components, below.braces)?;
+            let below = in_sequence(alloc, &listed, below)?;
+            sequence_sites(alloc, world, plain, &listed, &below)
         }
         Inside::Alternatives(alternatives) => {
             let below = below_of(alloc, world, plain, site)?;

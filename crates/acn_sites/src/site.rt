@@ -1,13 +1,13 @@
-ghost use Rattle.std.specs.Prelude.{◌≡◌, ◌∷◌, [], ◌++◌, map, filter_map, option_map, option_to_list, IfOk, OnOk, Some};
-ghost use Rattle.std.specs.List.{list_any, zip};
+ghost use Rattle.std.specs.Prelude.{◌≡◌, ◌++◌, map, filter_map, option_to_list, IfOk, OnOk, Some};
+ghost use Rattle.std.specs.List.{zip};
 ghost use Rattle.acn_world.specs.Chained.{chain_view, entry_view};
 ghost use Rattle.acn_index.specs.Chains as chains;
 ghost use Rattle.acn_index.specs.World as world_of;
 ghost use Rattle.acn_world.specs.Viewed.{world_view};
 ghost use Rattle.acn_slots.specs.Slots as slots;
 ghost use Rattle.acn_sites.specs.Sites as spec;
-ghost use Rattle.acn_slots.specs.View.{use_view, frame_view, scope_view, bound_view, origin_view};
-ghost use Rattle.acn_sites.specs.View.{position_view, site_view};
+ghost use Rattle.acn_slots.specs.View.{frame_view, scope_view, bound_view, origin_view};
+ghost use Rattle.acn_sites.specs.View.{site_view};
 
 use acn_acn_syntax::{AcnPath, FieldKind, Param};
 use acn_asn_syntax::Rest;

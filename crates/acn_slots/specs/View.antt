@@ -32,7 +32,7 @@ abbrev pub numbered_view : ℕ × Field → ℕ × slots.Field
 numbered_view f = (f.0, field_view f.1)
 
 abbrev pub frame_view : Frame → slots.Frame
-frame_view f = record { owner = f.owner; components = map component_view f.components.now; braces = braces_view f.braces; reader = f.reader; path = f.path }
+frame_view f = record { owner = f.owner; components = map component_view f.listed.components.now; braces = braces_view f.listed.braces; reader = f.reader; path = f.path }
 
 abbrev pub step_view : Step → slots.Step
 step_view s = record { optional = s.optional; slot = s.slot; inside = option_map frame_view s.inside }

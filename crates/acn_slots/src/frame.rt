@@ -1,14 +1,14 @@
-ghost use Rattle.std.specs.Prelude.{◌≡◌, ◌∷◌, [], ◌++◌, map, option_map, is_some, IfOk, Option, Some, None};
+ghost use Rattle.std.specs.Prelude.{◌≡◌, map, option_map, is_some, IfOk, Option, Some, None};
 ghost use Rattle.acn_asn_syntax.specs.Mirror as plain_data;
 ghost use Rattle.acn_asn_syntax.specs.View.{base_view, component_view};
-ghost use Rattle.acn_acn_syntax.specs.Mirror as acn;
 ghost use Rattle.acn_world.specs.Chained.{chain_view, entry_view, entries_view};
 ghost use Rattle.acn_index.specs.Chains as chains;
 ghost use Rattle.acn_world.specs.Viewed.{world_view};
 ghost use Rattle.acn_slots.specs.Slots as spec;
 ghost use Rattle.acn_slots.specs.View.{braces_view, use_view, numbered_view, frame_view, step_view, origin_view};
 
-use crate::fields::{Field, Use, braces_items, component_rest, component_type, field_named};
+use crate::fields::{Field, Use, braces_items, component_rest, component_type};
+use crate::listed::Listed;
 use crate::origin::Origin;
 use crate::plain::PlainTypes;
 use crate::rows::extended;
@@ -24,10 +24,8 @@ use std::alloc::Global;
 pub struct Frame<'w> {
     /// The module in whose text its components stand.
     pub owner: u32,
-    /// Its components.
-    pub components: &'w [Component],
-    /// The fields between its braces, where it has some.
-    pub braces: Option<&'w [AcnField]>,
+    /// Its components, and the fields between its braces, where it has some.
+    pub listed: Listed<'w>,
     /// The module in which references in these are read.
     pub reader: u32,
     /// The path of its node.
@@ -167,8 +165,7 @@ pub fn frame_of<'w>(
     let from = braces_origin(chain, used);
     Some(Frame {
         owner: chain.module,
-        components,
-        braces: braces_at(used, from),
+        listed: Listed::bare(components, braces_at(used, from)),
         reader: braces_module(reader, from),
         path,
     })
@@ -292,7 +289,7 @@ impl<'w> Frame<'w> {
     pub fn has_field(&self, name: &[u8]) -> bool
         ensures { result ≡ spec.has_field name.now (frame_view self.now) }
     {
-        field_named(self.braces, self.components, name).is_some()
+        self.listed.field_named(name).is_some()
     }
 
     /// The step to the field of this name, where there is one.
@@ -306,7 +303,7 @@ impl<'w> Frame<'w> {
     ) -> Result<Option<Step<'w>>, NoMemory>
         ensures { IfOk result (λ step. option_map step_view step ≡ spec.step_at (world_view world.now) (frame_view self.now) name.now) }
     {
-        match field_named(self.braces, self.components, name) {
+        match self.listed.field_named(name) {
             None => Ok(None),
             Some((number, field)) => {
                 let step = self.field_step(alloc, world, plain, number, field)?;
@@ -321,8 +318,7 @@ impl<'w> Frame<'w> {
     {
         Ok(Frame {
             owner: self.owner,
-            components: self.components,
-            braces: self.braces,
+            listed: self.listed.copy()?,
             reader: self.reader,
             path: crate::rows::copied(alloc, self.path.items())?,
         })

@@ -1,6 +1,6 @@
 ghost use Rattle.std.specs.Prelude.{◌≡◌, None};
 ghost use Rattle.acn_asn_syntax.specs.Mirror as plain;
-ghost use Rattle.acn_asn_syntax.specs.View.{type_view, base_view};
+ghost use Rattle.acn_asn_syntax.specs.View.{type_view};
 ghost use Rattle.acn_asn_syntax.specs.declared.types.AsnBase.TheVariants as base;
 ghost use Rattle.acn_slots.specs.Slots as spec;
 ghost use Rattle.acn_slots.specs.Bare.{bare};

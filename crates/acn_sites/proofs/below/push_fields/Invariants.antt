@@ -10,5 +10,5 @@ use Rattle.acn_sites.specs.View.{below_view, sites_view}
 use Rattle.acn_sites.proofs.below.push_fields.Given as goal
 
 abbrev pub invariant-loop-i : goal.invariant-loop-i
-invariant-loop-i l = sites_view l.all ++ map (field_site (world_view l.world) (below_view l.below)) (filter_map (numbered_field (map component_view l.components)) (enumerate_from l.i (map field_of (drop l.i l.fields))))
-    ≡ sites_view l.fn.all ++ map (field_site (world_view l.world) (below_view l.below)) (filter_map (numbered_field (map component_view l.components)) (enumerate_from 0 (map field_of l.fields)))
+invariant-loop-i l = sites_view l.all ++ map (field_site (world_view l.world) (below_view l.below)) (filter_map (numbered_field (map component_view l.listed.components.now)) (enumerate_from l.i (map field_of (drop l.i l.fields))))
+    ≡ sites_view l.fn.all ++ map (field_site (world_view l.world) (below_view l.below)) (filter_map (numbered_field (map component_view l.listed.components.now)) (enumerate_from 0 (map field_of l.fields)))
