@@ -1,6 +1,7 @@
 mod Ascending
 mod Back
-mod CanReadLaw
+-- for acn_lines
+pub mod CanReadLaw
 mod DistinctLaw
 -- for acn_lines
 pub mod Escapes
@@ -11,7 +12,8 @@ mod Objects
 mod Plain
 mod RoundTripLaw
 mod Said
-mod ShapedLaw
+-- for acn_lines
+pub mod ShapedLaw
 mod SizeLaw
 mod Steps
 -- for acn_lines

@@ -126,7 +126,8 @@ pub fn first_unknown(
     Ok(first_unnoted(&names, members))
 }
 
-fn may_be_absent(presence: &Presence) -> bool
+/// Whether a component may be absent.
+pub fn may_be_absent(presence: &Presence) -> bool
     ensures { result ≡ may_lack presence.now }
 {
     match presence {

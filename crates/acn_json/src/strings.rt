@@ -55,7 +55,8 @@ fn whole(json: &Json) -> Option<i128>
     }
 }
 
-fn item_of(items: &[(Name, i128)], name: &[u8]) -> Result<Value, Trouble>
+/// The item of a name.
+pub fn item_of(items: &[(Name, i128)], name: &[u8]) -> Result<Value, Trouble>
     ensures { LeafAnswers data_of result (option_map item (reads.item_number name.now 0 items.now)) }
 {
     match item_number(name, items) {
@@ -97,8 +98,8 @@ pub fn number_from(leaf: &NumLeaf, json: &Json) -> Result<Value, Trouble>
     }
 }
 
-// The octets of a text of hexadecimal digits.
-fn octets_of(alloc: Global, text: &str) -> Result<Row<u8>, Trouble>
+/// The octets of a text of hexadecimal digits.
+pub fn octets_of(alloc: Global, text: &str) -> Result<Row<u8>, Trouble>
     ensures { LeafAnswers (λ os. os) result (reads.octets_of text.now) }
 {
     match hex::decode(alloc, text) {
@@ -147,8 +148,8 @@ fn digits_of(alloc: Global, text: &[u8]) -> Result<Row<bool>, Trouble>
     Ok(bits)
 }
 
-// The bits of a text of the digits 0 and 1.
-fn bits_of(alloc: Global, text: &[u8]) -> Result<Row<bool>, Trouble>
+/// The bits of a text of the digits 0 and 1.
+pub fn bits_of(alloc: Global, text: &[u8]) -> Result<Row<bool>, Trouble>
     ensures { LeafAnswers (λ bs. bs) result (reads.bits_of text.now) }
 {
     if are_bits(text) {
@@ -185,8 +186,8 @@ fn are_characters(text: &[u8]) -> bool
     true
 }
 
-// The characters of a text, if none is over 127.
-fn characters_of(alloc: Global, text: &[u8]) -> Result<Row<u8>, Trouble>
+/// The characters of a text, if none is over 127.
+pub fn characters_of(alloc: Global, text: &[u8]) -> Result<Row<u8>, Trouble>
     ensures { LeafAnswers (λ cs. cs) result (reads.ascii_of text.now) }
 {
     if are_characters(text) {

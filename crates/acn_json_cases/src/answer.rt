@@ -4,7 +4,7 @@ use crate::bytes::{bytes_of, nested_of};
 use acn_case_lines::word;
 use acn_case_trees::{Built, Sheet, path_in_words, value_in_words, value_of};
 use acn_json::{JsonFault, MOST_JSON_BYTES, from_line, to_line};
-use acn_lines::Lines;
+use acn_lines::{Lines, Room};
 use acn_num::{Boxed, NoMemory, Path};
 use acn_tree::{Tree, Value};
 use std::alloc::Global;
@@ -47,20 +47,44 @@ fn line_in_words(alloc: Global, tree: &Tree, value: &Value) -> Result<String, No
     Ok(String::from_utf8_lossy(alloc, line.as_slice())?)
 }
 
+// The value of a line, or its fault.
+fn value_told(alloc: Global, said: &Result<Value, JsonFault>) -> Result<String, NoMemory> {
+    match said {
+        Ok(value) => Ok(
+            value_in_words(alloc, value)?
+                .as_str()
+                .trim()
+                .to_string(alloc)?,
+        ),
+        Err(fault) => fault_in_words(alloc, fault),
+    }
+}
+
+// The same, if both calls that read a line say so.
+fn both_told(
+    alloc: Global,
+    said: &Result<Value, JsonFault>,
+    same: &Result<Value, JsonFault>,
+) -> Result<String, NoMemory> {
+    let said = value_told(alloc, said)?;
+    let same = value_told(alloc, same)?;
+    if said.as_str() == same.as_str() {
+        Ok(said)
+    } else {
+        Ok(format!(in alloc; "two values")?)
+    }
+}
+
 // What a line gives.
 fn read(alloc: Global, tree: &Tree, line: &[u8]) -> Result<String, NoMemory> {
     if line.len() > MOST_JSON_BYTES {
         return Ok(format!(in alloc; "too many bytes")?);
     }
-    match from_line(alloc, tree, line) {
-        Ok(value) => Ok(
-            value_in_words(alloc, &value)?
-                .as_str()
-                .trim()
-                .to_string(alloc)?,
-        ),
-        Err(fault) => fault_in_words(alloc, &fault),
-    }
+    let lines = Lines::new(alloc, tree)?;
+    let mut room = Room::new(alloc);
+    let said = from_line(alloc, tree, line);
+    let same = lines.take(alloc, tree, &mut room, line);
+    both_told(alloc, &said, &same)
 }
 
 // The line of the value that a line gives.

@@ -6,7 +6,7 @@
 //! Questions: `read LINE`, the value that the line gives, or the first fault; `again LINE`, the line of that value; `cut LINE`, the
 //! lengths of the fronts of the line that are JSON; `nested COUNT OPEN CLOSE INSIDE`, what a line reads as that has so many times OPEN,
 //! then INSIDE, then as many times CLOSE; `line VALUE`, the line of a value. Where a line is printed, `two lines` says that `to_line` and
-//! `put` of `Lines` differ.
+//! `put` of `Lines` differ; where one is read, `two values`, that `from_line` and `take` of `Lines` do.
 #![tactic(auto)]
 
 mod answer;

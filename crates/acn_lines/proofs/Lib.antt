@@ -1,5 +1,11 @@
 mod Digits
+mod LeafLaw
+mod MemberTurns
+mod MembersLaw
 mod NamesLaw
+mod NodesLaw
 mod Noting
 mod OrderLaw
 mod Parts
+mod PlacesLaw
+mod TakenLaw

@@ -18,7 +18,7 @@ use Rattle.acn_grammar.specs.View.{OneField, a_component, an_inserted}
 use Rattle.acn_grammar.specs.declared.node.Presence.{Presence}
 use Rattle.acn_grammar.proofs.Characters.{same_name-refl}
 use Rattle.acn_json.specs.Lines.{json_of, fields_json}
-use Rattle.acn_lines.specs.Order.{field_at, place_at, member_at, in_order, key_text, HasKey, AreKeyed}
+use Rattle.acn_lines.specs.Order.{field_at, place_at, place_of, member_at, in_order, key_text, HasKey, AreKeyed, ArePlaced}
 use Rattle.acn_lines.specs.Names.{Differ}
 use Rattle.acn_lines.specs.Spots.{Spots, turns_at, AreSpots}
 use Rattle.acn_lines.specs.declared.turns.Spot.{Spot}
@@ -250,6 +250,58 @@ inserted_noted whole name g slot fs at es h =
     let p = and_parts (not (list_any (same_name name) (field_names fs))) (all_differ same_name (field_names fs)) h.2 in
     (h.0, h.1, p.1, h.3, h.4)
 
+-- The places of the spots.
+
+abbrev pub AllPlaced : Fields → Spots → Type 0
+AllPlaced whole [] = Unit {0}
+AllPlaced whole (e ∷ es) = (e.1.place ≡ place_of whole e.1.field) × AllPlaced whole es
+
+placed_insert_at : (o : Ordering) (whole : Fields) (k : Bor (List ℕ)) (s : Spot) (u : Bor (List ℕ) × Spot) (us more : Spots) → s.place ≡ place_of whole s.field → AllPlaced whole (u ∷ us) → AllPlaced whole more → AllPlaced whole (match_ordering o ((k, s) ∷ u ∷ us) ((u.0, s) ∷ us) (u ∷ more))
+placed_insert_at Less whole k s u us more p h r = (p, h)
+placed_insert_at Equal whole k s u us more p h r = (p, h.1)
+placed_insert_at Greater whole k s u us more p h r = (h.0, r)
+
+pub placed_insert : (whole : Fields) (k : Bor (List ℕ)) (s : Spot) (ts : Spots) → s.place ≡ place_of whole s.field → AllPlaced whole ts → AllPlaced whole (insert_entry by_name ts k s)
+placed_insert whole k s [] p h = (p, tt)
+placed_insert whole k s (u ∷ us) p h = placed_insert_at (by_name k u.0) whole k s u us (insert k s us) p h (placed_insert whole k s us p h.1)
+
+pub first_place : (fs : Fields) → place_of fs zero ≡ zero
+first_place no_fields = refl
+first_place (component name g presence default own fs) = refl
+first_place (inserted name g slot fs) = refl
+
+abbrev IsComponent : Option OneField → Type 0
+IsComponent (Some (a_component name g presence default own)) = Unit {0}
+IsComponent _ = ⊥
+
+abbrev IsInserted : Option OneField → Type 0
+IsInserted (Some (an_inserted name g slot)) = Unit {0}
+IsInserted _ = ⊥
+
+next_place : (fs : Fields) (k : ℕ) → IsComponent (field_at fs k) → place_of fs (suc k) ≡ suc (place_of fs k)
+next_place no_fields k h = absurd h
+next_place (component name g presence default own fs) zero h = ap suc (first_place fs)
+next_place (component name g presence default own fs) (suc k) h = ap suc (next_place fs k h)
+next_place (inserted name g slot fs) zero h = absurd h
+next_place (inserted name g slot fs) (suc k) h = next_place fs k h
+
+same_place : (fs : Fields) (k : ℕ) → IsInserted (field_at fs k) → place_of fs (suc k) ≡ place_of fs k
+same_place no_fields k h = absurd h
+same_place (component name g presence default own fs) zero h = absurd h
+same_place (component name g presence default own fs) (suc k) h = ap suc (same_place fs k h)
+same_place (inserted name g slot fs) zero h = first_place fs
+same_place (inserted name g slot fs) (suc k) h = same_place fs k h
+
+pub place_behind_component : (fs : Fields) (k next : ℕ) (name : List ℕ) (g : Grammar) (presence : Presence) (default : Option (List ℕ)) (own : Option ℕ) → next ≡ suc k → field_at fs k ≡ Some (a_component name g presence default own) → place_of fs next ≡ suc (place_of fs k)
+place_behind_component fs k next name g presence default own n e = ap (place_of fs) n ∙ next_place fs k (subst IsComponent (sym e) tt)
+
+pub place_behind_inserted : (fs : Fields) (k next : ℕ) (name : List ℕ) (g : Grammar) (slot : Option ℕ) → next ≡ suc k → field_at fs k ≡ Some (an_inserted name g slot) → place_of fs next ≡ place_of fs k
+place_behind_inserted fs k next name g slot n e = ap (place_of fs) n ∙ same_place fs k (subst IsInserted (sym e) tt)
+
+all_placed : (whole : Fields) (es : Spots) → AllPlaced whole es → ArePlaced whole (turns_at es)
+all_placed whole [] h = tt
+all_placed whole (e ∷ es) h = (h.0, all_placed whole es h.1)
+
 -- All are noted.
 
 keyed_one : (o : Option OneField) (k : List ℕ) → NamedAt o k → HasKey o (key_text k)
@@ -274,7 +326,7 @@ all_members whole (e ∷ es) ps h =
     let p = place_at ps e.1.place in
     ap (member_at o p) (all_members whole es ps h.1) ∙ one_member o e.0.now p (there (value whole ps) es) h.0
 
-pub all_noted : (whole rest : Fields) (at : ℕ) (es : Spots) → rest ≡ no_fields → Noted whole rest at es → AreSpots whole es
-all_noted whole rest at es e h =
+pub all_noted : (whole rest : Fields) (at : ℕ) (es : Spots) → rest ≡ no_fields → Noted whole rest at es → AllPlaced whole es → AreSpots whole es
+all_noted whole rest at es e h placed =
     let n = subst (λ fs. Noted whole fs at es) e h in
-    (all_keyed whole es n.3, λ ps. all_members whole es ps n.3 ∙ n.4 ps)
+    (all_keyed whole es n.3, λ ps. all_members whole es ps n.3 ∙ n.4 ps, all_placed whole es placed)

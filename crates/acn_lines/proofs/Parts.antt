@@ -1,5 +1,5 @@
 -- Fields, places and what is kept of them, by their numbers.
-use Rattle.std.proofs.Common.{◌≡◌, ℕ, zero, suc, ◌+◌, ◌<◌, ◌≤◌, Bool, true, List, [], ◌∷◌, ◌++◌, length, get_or, Option, Some, None, option_map, refl, sym, ap, subst, ◌∙◌, arith, rules}
+use Rattle.std.proofs.Common.{◌≡◌, ℕ, zero, suc, ◌<◌, ◌≤◌, Bool, true, List, [], ◌∷◌, ◌++◌, length, get_or, Option, Some, None, option_map, refl, sym, ap, subst, ◌∙◌, arith, rules}
 use Rattle.serde_json.specs.Data.{Members}
 use Rattle.serde_json.specs.Written.{compact_text, comma_if, members_text}
 use Rattle.acn_grammar.specs.Grammar.{Fields, Data}
@@ -10,6 +10,7 @@ use Rattle.acn_grammar.specs.declared.node.Field.{Field}
 use Rattle.acn_grammar.specs.declared.value.Value.{Value}
 use Rattle.acn_json.specs.Lines.{json_of}
 use Rattle.acn_json.proofs.Texts.{members-turn}
+use Rattle.acn_lines.specs.Names.{NamesDiffer, AlternativesNamesDiffer}
 use Rattle.acn_lines.specs.Order.{field_at, place_at, member_at, HasKey, IsOrder, IsFieldOrder, AreFieldOrders, AreAlternativeOrders, field_json}
 use Rattle.acn_lines.specs.declared.order.Order.{Order}
 
@@ -98,6 +99,14 @@ alternative-here (x ∷ xs) [] k a o h n e i = absurd h
 alternative-here (x ∷ xs) (p ∷ ps) zero a o h n e i =
     subst (λ y. IsOrder (grammar_of y.node) o) (sym e) (subst (λ y. IsOrder (grammar_of x.node) y) (sym i) (first_alternative x xs p ps h))
 alternative-here (x ∷ xs) (p ∷ ps) (suc k) a o h n e i = alternative-here xs ps k a o h.1 (omega arith) e i
+
+first_names : (x : Alternative) (xs : List Alternative) → AlternativesNamesDiffer (alternatives_view (x ∷ xs)) → NamesDiffer (grammar_of x.node)
+first_names x xs h = search (rules, node_lemmas)
+
+pub alternative-names : (as' : List Alternative) (k : ℕ) (a : Alternative) → AlternativesNamesDiffer (alternatives_view as') → k < length as' → a ≡ get_or as' k a → NamesDiffer (grammar_of a.node)
+alternative-names [] k a h n e = absurd (omega arith)
+alternative-names (x ∷ xs) zero a h n e = subst (λ y. NamesDiffer (grammar_of y.node)) (sym e) (first_names x xs h)
+alternative-names (x ∷ xs) (suc k) a h n e = alternative-names xs k a h.1 (omega arith) e
 
 -- Members.
 

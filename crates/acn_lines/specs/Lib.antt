@@ -1,3 +1,4 @@
 pub mod Names
 pub mod Order
 pub mod Spots
+pub mod Taken

@@ -48,9 +48,21 @@ abbrev pub AreKeyed : Fields → List Turn → Type 0
 AreKeyed fs [] = Unit {0}
 AreKeyed fs (t ∷ ts) = HasKey (field_at fs t.field) t.key × AreKeyed fs ts
 
--- each turn has the key of its component, and in turn they give the members of each record
+-- the number of the place of a component: so many components stand before the field of a number
+abbrev pub place_of : Fields → (k : ℕ) → ℕ
+place_of no_fields k = zero
+place_of (component name g presence default own fs) zero = zero
+place_of (component name g presence default own fs) (suc k) = suc (place_of fs k)
+place_of (inserted name g slot fs) zero = zero
+place_of (inserted name g slot fs) (suc k) = place_of fs k
+
+abbrev pub ArePlaced : Fields → List Turn → Type 0
+ArePlaced fs [] = Unit {0}
+ArePlaced fs (t ∷ ts) = (t.place ≡ place_of fs t.field) × ArePlaced fs ts
+
+-- each turn has the key and the place of its component, and in turn they give the members of each record
 abbrev pub AreTurns : Fields → List Turn → Type 0
-AreTurns fs ts = AreKeyed fs ts × ((ps : Places) → in_order fs ts ps ≡ fields_json no_members fs ps)
+AreTurns fs ts = AreKeyed fs ts × ((ps : Places) → in_order fs ts ps ≡ fields_json no_members fs ps) × ArePlaced fs ts
 
 abbrev mutual
   -- what is kept of a node; a list and a string that contains a value keep what is kept of the node inside

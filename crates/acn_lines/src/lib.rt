@@ -1,9 +1,15 @@
 //! Lines of the values of one tree: what they need beside the tree is made once.
 #![tactic(auto)]
 
+mod leaves;
 mod lines;
 mod order;
+mod places;
 mod put;
+mod room;
+mod take;
+mod tokens;
 mod turns;
 
 pub use lines::Lines;
+pub use room::Room;

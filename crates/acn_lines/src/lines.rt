@@ -1,13 +1,20 @@
 //! What lines of a tree need beside it.
 
-ghost use Rattle.std.specs.Prelude.{◌≡◌, ◌++◌, IfOk, OnOk};
+ghost use Rattle.std.specs.Prelude.{◌≡◌, ◌≤◌, ◌++◌, IfOk, OnOk, IsTrue, length};
+ghost use Rattle.acn_grammar.specs.Shaped.{fits};
 ghost use Rattle.acn_grammar.specs.View.{grammar_of, data_of};
+ghost use Rattle.acn_json.specs.Answers.{Gives};
 ghost use Rattle.acn_json.specs.Lines.{line_of};
+ghost use Rattle.acn_json.specs.Reads.{line_gives};
+ghost use Rattle.acn_json.specs.declared.read.TheConstants.{MOST_JSON_BYTES};
 ghost use Rattle.acn_lines.specs.Order.{IsOrder};
 
 use crate::order::{Order, order_of};
 use crate::put::put_node;
+use crate::room::Room;
+use crate::take::take_line;
 use acn_grammar::Value;
+use acn_json::{JsonFault, from_line};
 use acn_num::NoMemory;
 use acn_tree::Tree;
 use std::alloc::Global;
@@ -35,5 +42,26 @@ impl Lines {
         ensures { OnOk result (line.new.items ≡ line.old.items ++ line_of (grammar_of tree.now.root) (data_of value.now)) }
     {
         put_node(tree.root(), &self.order, value, line)
+    }
+
+    /// The value that a line of JSON gives to the tree, or its first fault: the answer of `from_line` of `acn_json`. A line whose
+    /// members come in the order in which `put` puts them is read the fastest; any other order costs little more, and a fault
+    /// costs a second walk.
+    pub fn take(
+        &self,
+        alloc: Global,
+        tree: &Tree,
+        room: &mut Room,
+        line: &[u8],
+    ) -> Result<Value, JsonFault>
+        requires order { IsOrder (grammar_of tree.now.root) self.now.order }
+        requires few { length line.now ≤ MOST_JSON_BYTES }
+        ensures gives { Gives data_of result (line_gives (grammar_of tree.now.root) line.now) }
+        ensures shaped { IfOk result (λ v. IsTrue (fits (grammar_of tree.now.root) (data_of v))) }
+    {
+        match take_line(alloc, tree, &self.order, room, line) {
+            Some(value) => Ok(value),
+            None => from_line(alloc, tree, line),
+        }
     }
 }

@@ -3,6 +3,7 @@
 ghost use Rattle.std.specs.Prelude.{◌≡◌, ◌↔◌, ◌+◌, ◌^◌, ◌<◌, ◌≤◌, ◌++◌, ℕ, List, [], length, Option, None, Some, Err, IsErrOf};
 ghost use Rattle.acn_grammar.specs.Interval.{span};
 ghost use Rattle.acn_grammar.specs.View.{grammar_of};
+ghost use Rattle.acn_lines.specs.Order.{IsOrder};
 ghost use Rattle.acn_outside.specs.Counts.{Rose};
 ghost use Rattle.acn_stream.specs.Encoding.{EncodeEnds};
 ghost use Rattle.acn_stream.specs.Passing as spec;
@@ -14,6 +15,7 @@ use crate::lines::{LineFault, put_line};
 use crate::stream_fault::StreamFault;
 use acn_bounds::bounds;
 use acn_check::Checked;
+use acn_lines::{Lines, Room};
 use acn_outside::{Sink, Source, write_all};
 use acn_supply::{Line, NoLine, Supply, read_line};
 use memchr::memchr;
@@ -55,6 +57,8 @@ fn fault_behind(lines: u64, why: NoLine) -> StreamFault
 fn take_line<S: Source>(
     alloc: Global,
     checked: &Checked,
+    order: &Lines,
+    room: &mut Room,
     supply: &mut Supply,
     input: &mut S,
     line: &mut Vec<u8>,
@@ -62,6 +66,7 @@ fn take_line<S: Source>(
     tally: &mut Tally,
 ) -> Option<Result<u64, StreamFault>>
     requires bounded { IsBounded (grammar_of checked.now.tree.root) }
+    requires ordered { IsOrder (grammar_of checked.now.tree.root) order.now.order }
     requires room { spec.HasRoom supply.old tally.old }
     ensures goes { (limit : ℕ) (i : Option (List ℕ)) (text : List ℕ) → spec.Encoded (grammar_of checked.now.tree.root) limit i (S.rest input.old) supply.old tally.old (text ++ packets.old.items) → spec.Goes (grammar_of checked.now.tree.root) limit i (S.rest input.new) supply.new tally.new (text ++ packets.new.items) result }
     ensures room { result ≡ None → spec.HasRoom supply.new tally.new }
@@ -70,7 +75,7 @@ fn take_line<S: Source>(
     ensures failed { result ≡ Some (Err stream.InputFault) → Rose (S.faults input.old) (S.faults input.new) }
 {
     match read_line(supply, input, line) {
-        Ok(Line::Ended) => match put_line(alloc, checked, line, packets) {
+        Ok(Line::Ended) => match put_line(alloc, checked, order, room, line, packets) {
             Ok(count) => {
                 tally.lines += 1;
                 tally.packets += count;
@@ -78,7 +83,7 @@ fn take_line<S: Source>(
             }
             Err(fault) => Some(Err(fault_at(tally.lines + 1, fault))),
         },
-        Ok(Line::Last) => match put_line(alloc, checked, line, packets) {
+        Ok(Line::Last) => match put_line(alloc, checked, order, room, line, packets) {
             Ok(count) => Some(Ok(tally.packets + count)),
             Err(fault) => Some(Err(fault_at(tally.lines + 1, fault))),
         },
@@ -90,6 +95,8 @@ fn take_line<S: Source>(
 fn take_lines<S: Source>(
     alloc: Global,
     checked: &Checked,
+    order: &Lines,
+    room: &mut Room,
     supply: &mut Supply,
     input: &mut S,
     line: &mut Vec<u8>,
@@ -97,6 +104,7 @@ fn take_lines<S: Source>(
     tally: &mut Tally,
 ) -> Option<Result<u64, StreamFault>>
     requires bounded { IsBounded (grammar_of checked.now.tree.root) }
+    requires ordered { IsOrder (grammar_of checked.now.tree.root) order.now.order }
     requires room { spec.HasRoom supply.old tally.old }
     ensures goes { (limit : ℕ) (i : Option (List ℕ)) (text : List ℕ) → spec.Encoded (grammar_of checked.now.tree.root) limit i (S.rest input.old) supply.old tally.old (text ++ packets.old.items) → spec.Goes (grammar_of checked.now.tree.root) limit i (S.rest input.new) supply.new tally.new (text ++ packets.new.items) result }
     ensures room { result ≡ None → spec.HasRoom supply.new tally.new }
@@ -105,7 +113,9 @@ fn take_lines<S: Source>(
     ensures failed { result ≡ Some (Err stream.InputFault) → Rose (S.faults input.old) (S.faults input.new) }
 {
     loop {
-        match take_line(alloc, checked, supply, input, line, packets, tally) {
+        match take_line(
+            alloc, checked, order, room, supply, input, line, packets, tally,
+        ) {
             None => {}
             Some(result) => return Some(result),
         }
@@ -119,11 +129,13 @@ fn take_lines<S: Source>(
 fn encode_supply<S: Source, O: Sink>(
     alloc: Global,
     checked: &Checked,
+    order: &Lines,
     supply: &mut Supply,
     input: &mut S,
     out: &mut O,
 ) -> Result<u64, StreamFault>
     requires bounded { IsBounded (grammar_of checked.now.tree.root) }
+    requires ordered { IsOrder (grammar_of checked.now.tree.root) order.now.order }
     requires begins { supply.old.hand ≡ [] }
     requires limit { supply.old.left < 2 ^ 64 }
     ensures ends { EncodeEnds (grammar_of checked.now.tree.root) supply.old.left (S.rest input.old) (S.rest input.new) (O.taken out.old) (O.taken out.new) result }
@@ -133,6 +145,7 @@ fn encode_supply<S: Source, O: Sink>(
     ensures output_fault { IsErrOf result StreamFault.OutputFault → Rose (O.faults out.old) (O.faults out.new) }
     ensures some { IsErrOf result StreamFault.EmptyPacket → ⊥ }
 {
+    let mut room = Room::new(alloc);
     let mut line = Vec::new(alloc);
     let mut packets = Vec::new(alloc);
     let mut tally = Tally {
@@ -144,6 +157,8 @@ fn encode_supply<S: Source, O: Sink>(
         let answer = take_lines(
             alloc,
             checked,
+            order,
+            &mut room,
             supply,
             input,
             &mut line,
@@ -161,11 +176,36 @@ fn encode_supply<S: Source, O: Sink>(
     }
 }
 
+// Encodes lines, of which `order` holds what they need beside the tree.
+fn encode_in_order<S: Source, O: Sink>(
+    alloc: Global,
+    checked: &Checked,
+    order: &Lines,
+    input: &mut S,
+    out: &mut O,
+    limit: u64,
+) -> Result<u64, StreamFault>
+    requires bounded { IsBounded (grammar_of checked.now.tree.root) }
+    requires ordered { IsOrder (grammar_of checked.now.tree.root) order.now.order }
+    ensures ends { EncodeEnds (grammar_of checked.now.tree.root) limit (S.rest input.old) (S.rest input.new) (O.taken out.old) (O.taken out.new) result }
+    ensures input { S.faults input.old ≤ S.faults input.new }
+    ensures output { O.faults out.old ≤ O.faults out.new }
+    ensures input_fault { IsErrOf result StreamFault.InputFault → Rose (S.faults input.old) (S.faults input.new) }
+    ensures output_fault { IsErrOf result StreamFault.OutputFault → Rose (O.faults out.old) (O.faults out.new) }
+    ensures some { IsErrOf result StreamFault.EmptyPacket → ⊥ }
+{
+    match Supply::new(alloc, limit) {
+        Ok(mut supply) => encode_supply(alloc, checked, order, &mut supply, input, out),
+        Err(_) => Err(StreamFault::NoMemory),
+    }
+}
+
 /// Reads lines of JSON until the input ends and writes the packet of each value, filled with zeros up to an octet, and answers how many
 /// packets there were. Lines end at a line feed, which the last may lack. A line of spaces, tabs and carriage returns alone is
 /// passed over; it has a number all the same. At most `limit` bytes are read, and one more to see whether the input ends there.
 ///
-/// Packets are written in blocks, and before each read. The input is read only where no line feed is in hand.
+/// What all lines of the tree need is made once, before anything is read. Packets are written in blocks, and before each read. The input
+/// is read only where no line feed is in hand.
 ///
 /// `EmptyPacket` comes exactly where the least bound is 0; then nothing is read. `BadLine` names the first line that gives no value,
 /// with its first fault, and `Unfit` the first whose value is refused, with the one reason, whichever comes first.
@@ -190,8 +230,8 @@ pub fn encode_all<S: Source, O: Sink>(
     if bounds(checked).least == 0 {
         return Err(StreamFault::EmptyPacket);
     }
-    match Supply::new(alloc, limit) {
-        Ok(mut supply) => encode_supply(alloc, checked, &mut supply, input, out),
+    match Lines::new(alloc, checked.tree()) {
+        Ok(order) => encode_in_order(alloc, checked, &order, input, out, limit),
         Err(_) => Err(StreamFault::NoMemory),
     }
 }

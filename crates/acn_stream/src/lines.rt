@@ -8,6 +8,7 @@ ghost use Rattle.acn_grammar.specs.View.{grammar_of, data_of};
 ghost use Rattle.acn_grammar.specs.declared.limits.TheConstants.{MOST_PACKET_BITS};
 ghost use Rattle.acn_json.specs.Answers.{IsFault};
 ghost use Rattle.acn_json.specs.Reads.{line_gives};
+ghost use Rattle.acn_lines.specs.Order.{IsOrder};
 ghost use Rattle.acn_stream.specs.Encoding as spec;
 ghost use Rattle.acn_stream.specs.Passing.{PutsLine, PutsValue, Fails};
 ghost use Rattle.acn_stream.specs.Steps.{IsBounded};
@@ -15,7 +16,8 @@ ghost use Rattle.acn_supply.specs.declared.lines.TheConstants.{MOST_LINE_BYTES};
 
 use acn_check::Checked;
 use acn_grammar::{Unfit, Value};
-use acn_json::{JsonFault, from_line};
+use acn_json::JsonFault;
+use acn_lines::{Lines, Room};
 use acn_num::{BitList, NoMemory};
 use acn_octets::filled_octets;
 use acn_plain::{PlainFault, plain_encode};
@@ -90,17 +92,20 @@ fn bad(fault: JsonFault) -> LineFault
 pub fn put_line(
     alloc: Global,
     checked: &Checked,
+    order: &Lines,
+    room: &mut Room,
     line: &[u8],
     packets: &mut Vec<u8>,
 ) -> Result<u64, LineFault>
     requires bounded { IsBounded (grammar_of checked.now.tree.root) }
+    requires ordered { IsOrder (grammar_of checked.now.tree.root) order.now.order }
     requires few { length line.now ≤ MOST_LINE_BYTES }
     ensures { PutsLine (grammar_of checked.now.tree.root) line.now packets.old.items packets.new.items result }
 {
     if is_blank(line) {
         return Ok(0);
     }
-    match from_line(alloc, checked.tree(), line) {
+    match order.take(alloc, checked.tree(), room, line) {
         Ok(value) => match put_value(alloc, checked, &value, packets) {
             Ok(()) => Ok(1),
             Err(fault) => Err(fault),

@@ -1,0 +1,9 @@
+use Rattle.std.proofs.Common.{option_map, Some, sym, ap, ◌∙◌}
+use Rattle.acn_grammar.specs.Grammar.{bit_string}
+use Rattle.acn_json.specs.Reads.{bits_of}
+use Rattle.acn_lines.proofs.LeafLaw.{string_taken, view_bits}
+use Rattle.acn_lines.proofs.leaves.take_bits.Goals as goal
+
+pub returns-in-Ok : goal.returns-in-Ok
+returns-in-Ok c =
+    string_taken _ c.in_ok-text.text.now _ _ _ c.in_ok-text.ensures (ap (λ s. option_map bit_string (bits_of s)) (sym c.as_bytes.ensures.value) ∙ (ap (option_map bit_string) (sym c.in-Ok.ensures) ∙ ap Some (sym (view_bits c.in-Ok.bits))))
