@@ -29,6 +29,11 @@ small_at root (e ∷ t) s x p h = by (nat_eq e.0 s) refl h (λ k. small_at root 
 abbrev pub left_of : List ℕ → Env → Env
 left_of home t = filter (λ e. not (holds home e.0)) t
 
+pub none_forgotten : (home : List ℕ) (t : Env) → length home ≡ 0 → t ≡ left_of home t
+none_forgotten [] [] e = refl
+none_forgotten [] (x ∷ t) e = ap (λ (more : Env). x ∷ more) (none_forgotten [] t refl)
+none_forgotten (s ∷ home) t e = absurd (cc e)
+
 or_left : (a b : Bool) → a ≡ true → (a || b) ≡ true
 or_left true b h = refl
 or_left false b h = cc

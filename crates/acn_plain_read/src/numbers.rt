@@ -31,8 +31,8 @@ fn is_among(slots: &[u32], slot: u32) -> bool
     false
 }
 
-/// The numbers but those of these slots.
-pub fn without(
+// The numbers but those of these slots.
+fn without(
     alloc: Global,
     numbers: &[(u32, i128)],
     home: &[u32],
@@ -46,6 +46,17 @@ pub fn without(
         }
     }
     Ok(left)
+}
+
+/// Forgets the numbers of these slots. Where there are none it takes no memory.
+pub fn forget(alloc: Global, numbers: &mut Row<(u32, i128)>, home: &[u32]) -> Result<(), NoMemory>
+    ensures { OnOk result (numbers.new ≡ filter (λ e. not (holds home.now e.0)) numbers.old) }
+{
+    if home.is_empty() {
+        return Ok(());
+    }
+    *numbers = without(alloc, numbers.items(), home)?;
+    Ok(())
 }
 
 /// Notes the number of a slot, where there is one.

@@ -17,7 +17,7 @@ ghost use Rattle.acn_plain_read.specs.Decoded.{Tells, Fine, NodeStands, FormStan
 use crate::choices::pick;
 use crate::ends::{most_of, no_end, pass_end, pattern_of, stands};
 use crate::leaves::{named, read_leaf};
-use crate::numbers::{note, without};
+use crate::numbers::{forget, note};
 use crate::presence::{count_of, is_there};
 use crate::sizes::{is_ended, read_size};
 use crate::slot::read_inserted;
@@ -30,7 +30,7 @@ use acn_grammar::{
     Alternative, Body, ChoiceRule, Field, Node, Pattern, Presence, ReadFault, Reason, Seq, Sizing,
     Value,
 };
-use acn_num::{Boxed, Path, Row};
+use acn_num::{Boxed, NoMemory, Path, Row};
 use std::alloc::Global;
 
 /// A node at a path.
@@ -153,8 +153,7 @@ fn read_seq(
                 inside,
             ) {
                 Ok(places) => {
-                    let left = without(alloc, slots.items(), seq.home.items())?;
-                    *slots = left;
+                    forget(alloc, slots, seq.home.items())?;
                     Ok(Value::Seq(places))
                 }
                 Err(stop) => Err(stop),
@@ -165,6 +164,13 @@ fn read_seq(
             at: from,
         }),
     }
+}
+
+// No places yet, with room for so many.
+fn no_places(alloc: Global, most: usize) -> Result<Row<Option<Value>>, NoMemory>
+    ensures { IfOk result (λ places. places ≡ []) }
+{
+    Ok(Row::from_vec(Vec::with_capacity(alloc, most)?))
 }
 
 #[cycle(read)]
@@ -187,7 +193,7 @@ fn read_fields(
     ensures fails { IfErr result (λ e. Tells e (λ r at. (place : ℕ) → FieldsStop (grammar_of root.now) (fields_view fields.now) flags.old.rest (record { path = path.old; place = place; inside = inside }) cur.old.origin 0 slots.old cur.old path.new r at)) }
     ensures path { OnOk result (path.new ≡ path.old) }
 {
-    let mut places = Row::new(alloc);
+    let mut places = no_places(alloc, fields.len())?;
     let mut k = 0u32;
     for field in fields {
         match read_field(

@@ -104,7 +104,7 @@ pub read_fields-loop-field-init : goal.read_fields-loop-field-init
 read_fields-loop-field-init t c = record {
   place = refl;
   path = refl;
-  turn = λ place. rw c.new-places.ensures (no_turn (grammar_of c.args.root.now) (record { path = c.args.path.now; place = place; inside = c.args.inside }) c.args.cur.now.origin 0 (fields_view c.args.fields.now) c.args.slots.now c.args.flags.now.rest c.args.cur.now c.requires.fine);
+  turn = λ place. rw c.in_ok-places.ensures (no_turn (grammar_of c.args.root.now) (record { path = c.args.path.now; place = place; inside = c.args.inside }) c.args.cur.now.origin 0 (fields_view c.args.fields.now) c.args.slots.now c.args.flags.now.rest c.args.cur.now c.requires.fine);
 }
 
 pub read_fields-read_field-requires : goal.read_fields-read_field-requires
@@ -168,11 +168,11 @@ read_seq-read_fields-requires t c =
       ),
     )
 
-pub read_seq-returns-in_ok-left-in-Ok-read_fields-clause-read : goal.read_seq-returns-in_ok-left-in-Ok-read_fields-clause-read
-read_seq-returns-in_ok-left-in-Ok-read_fields-clause-read t c =
+pub read_seq-returns-in_ok-forget-in-Ok-read_fields-clause-read : goal.read_seq-returns-in_ok-forget-in-Ok-read_fields-clause-read
+read_seq-returns-in_ok-forget-in-Ok-read_fields-clause-read t c =
     let count : c.count_of.result ≡ presence_count (fields_view c.args.seq.now.fields) = c.count_of.ensures ∙ ap (λ x. presence_count (fields_view x)) c.items.ensures in
-    seq_read_at (grammar_of c.args.root.now) (record { path = c.args.path.now; place = c.args.from; inside = c.args.inside }) c.window.new.self.origin (length c.items-in-Ok.result.now) (length c.args.path.now) _ c.args.seq.now.fields c.items-in-Ok.result.now c.args.seq.now.home c.items-in-Ok-read_fields-2.result.now c.in-Ok-read_fields.places _ c.args.slots.now c.read_fields.new.slots c.items-in-Ok-read_fields.result.now c.in_ok-left-in-Ok-read_fields.left c.args.cur.now c.window.new.self c.read_fields.new.cur c.in-Ok.window c.count_of.result _
-    (view_seq_form c.args.seq.now) (view_seq c.in-Ok-read_fields.places) c.items-in-Ok.ensures c.items-in-Ok-read_fields-2.ensures c.items-in-Ok-read_fields.ensures c.in_ok-left-in-Ok-read_fields.ensures count c.in-Ok.ensures.within c.in-Ok.ensures.window c.in-Ok.ensures.moved c.requires.ready (c.in-Ok-read_fields.ensures.read c.args.from)
+    seq_read_at (grammar_of c.args.root.now) (record { path = c.args.path.now; place = c.args.from; inside = c.args.inside }) c.window.new.self.origin (length c.items-in-Ok.result.now) (length c.args.path.now) _ c.args.seq.now.fields c.items-in-Ok.result.now c.args.seq.now.home c.items-in-Ok-read_fields.result.now c.in-Ok-read_fields.places _ c.args.slots.now c.read_fields.new.slots c.read_fields.new.slots c.forget.new.numbers c.args.cur.now c.window.new.self c.read_fields.new.cur c.in-Ok.window c.count_of.result _
+    (view_seq_form c.args.seq.now) (view_seq c.in-Ok-read_fields.places) c.items-in-Ok.ensures c.items-in-Ok-read_fields.ensures refl (c.in_ok-forget-in-Ok-read_fields.ensures {u = tt}) count c.in-Ok.ensures.within c.in-Ok.ensures.window c.in-Ok.ensures.moved c.requires.ready (c.in-Ok-read_fields.ensures.read c.args.from)
 
 pub read_seq-returns-in-Err-read_fields-clause-fails : goal.read_seq-returns-in-Err-read_fields-clause-fails
 read_seq-returns-in-Err-read_fields-clause-fails t c =
