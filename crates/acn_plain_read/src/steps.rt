@@ -14,14 +14,25 @@ ghost use Rattle.acn_plain_read.specs.Steps.{PadPassed};
 use acn_bits::{ReadCursor, Short};
 use acn_grammar::{NumKind, NumLeaf, Value};
 
+// The padding at a place. Most nodes have none, and for these nothing is divided.
+fn padding_at(align: u64, at: u64) -> u64
+    requires { 0 < align }
+    ensures { result ≡ padding align at }
+{
+    if align == 1 {
+        0
+    } else {
+        (align - at % align) % align
+    }
+}
+
 /// Passes the padding.
 pub fn pad(cur: &mut ReadCursor<'_>, align: u32) -> Result<(), Short>
     requires { 0 < align }
     ensures passed { OnOk result (PadPassed align cur.old cur.new) }
     ensures short { OnErr result (length cur.old.rest < padding align cur.old.at) }
 {
-    let align = u64::from(align);
-    cur.skip((align - cur.at() % align) % align)
+    cur.skip(padding_at(u64::from(align), cur.at()))
 }
 
 // A small number, which isn't below zero.

@@ -3,7 +3,7 @@
 ghost use Rattle.std.specs.Prelude.{◌≡◌, ◌<◌, ◌++◌, Bool, List, OnOk, replicate, false};
 ghost use Rattle.acn_num.specs.Bits.{bits as bits_of};
 ghost use Rattle.acn_grammar.specs.Code.{Written};
-ghost use Rattle.acn_grammar.specs.Length.{bit_before, presence_bits};
+ghost use Rattle.acn_grammar.specs.Length.{bit_before, padding, presence_bits};
 ghost use Rattle.acn_grammar.specs.Spell.{Fill, Padding};
 ghost use Rattle.acn_grammar.specs.View.{fields_view, places_view};
 ghost use Rattle.acn_plain_write.specs.Adds.{Adds, size_bits, end_bits, index_bits};
@@ -21,16 +21,25 @@ fn put_zeros(bits: &mut BitList, count: usize) -> Result<(), NoMemory>
     Ok(())
 }
 
+// The padding at a position. Most nodes have none, and for these nothing is divided.
+fn padding_at(align: usize, at: usize) -> usize
+    requires { 0 < align }
+    ensures { result ≡ padding align at }
+{
+    if align == 1 {
+        0
+    } else {
+        (align - at % align) % align
+    }
+}
+
 /// Adds the padding: the fewest zeros that bring the position, which counts from a base, to a multiple.
 pub fn put_padding(bits: &mut BitList, base: usize, align: u32) -> Result<(), NoMemory>
     requires some { 0 < align }
     ensures { OnOk result (Adds (Padding Written align) base bits.old bits.new) }
 {
-    let align = align as usize;
-    put_zeros(
-        bits,
-        (align - bits.len().saturating_sub(base) % align) % align,
-    )
+    let at = bits.len().saturating_sub(base);
+    put_zeros(bits, padding_at(align as usize, at))
 }
 
 /// Adds the zeros that fill the last octet.

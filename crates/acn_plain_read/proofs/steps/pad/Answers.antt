@@ -3,4 +3,4 @@ use Rattle.acn_plain_read.proofs.steps.pad.Goals as goal
 
 pub returns-clause-passed : goal.returns-clause-passed
 returns-clause-passed c =
-    pad_result c.args.align c.args.cur.now c.skip.new.self c.skip.result c.requires (rw (c.from-align.ensures, c.at.ensures) at c.skip.ensures.within) (rw (c.from-align.ensures, c.at.ensures) at c.skip.ensures.moved)
+    pad_result c.args.align c.args.cur.now c.skip.new.self c.skip.result c.requires (rw (c.padding_at.ensures, c.from.ensures, c.at.ensures) at c.skip.ensures.within) (rw (c.padding_at.ensures, c.from.ensures, c.at.ensures) at c.skip.ensures.moved)
