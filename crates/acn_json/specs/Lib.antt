@@ -1,5 +1,6 @@
 pub mod Answers
 pub mod Few
+pub mod Kept
 pub mod Lines
 pub mod Reads
 pub mod RoundTrip

@@ -1,36 +1,40 @@
 //! Pieces of JSON text, each put at the end of a buffer.
 
-ghost use Rattle.std.specs.Prelude.{◌≡◌, ◌++◌, ◌∷◌, [], OnOk, ◌<◌, map, ◌&&◌, not, ◌==◌, nat_lt};
+ghost use Rattle.std.specs.Prelude.{◌≡◌, ◌++◌, ◌∷◌, [], OnOk, OnErr, ◌<◌, map, ◌&&◌, not, ◌==◌, nat_lt};
 ghost use Rattle.std.specs.Char.{digit_char};
 ghost use Rattle.std.specs.Fmt.{signed_decimal};
 ghost use Rattle.std.specs.List.{list_all};
 ghost use Rattle.hex.specs.Hex.{encode_lower};
 ghost use Rattle.json.specs.Print.{escape, escape_byte, escape_letter, quoted};
+ghost use Rattle.acn_json.specs.Kept.{Kept};
 ghost use Rattle.acn_json.specs.Lines.{bit_digit};
 
 use acn_num::NoMemory;
 use itoa::Buffer;
 use std::alloc::Global;
 
-/// Puts these octets. It fails only where memory runs out.
+/// Puts these octets. It fails only where memory runs out; what stood in the buffer then still stands in front.
 pub fn put(octets: &[u8], out: &mut Vec<u8>) -> Result<(), NoMemory>
-    ensures { OnOk result (out.new.items ≡ out.old.items ++ octets.now) }
+    ensures added { OnOk result (out.new.items ≡ out.old.items ++ octets.now) }
+    ensures kept { OnErr result (Kept out.old.items out.new.items) }
 {
     out.extend_from_slice(octets)?;
     Ok(())
 }
 
-/// Puts one octet. It fails only where memory runs out.
+/// Puts one octet. It fails only where memory runs out; what stood in the buffer then still stands in front.
 pub fn put_octet(octet: u8, out: &mut Vec<u8>) -> Result<(), NoMemory>
-    ensures { OnOk result (out.new.items ≡ out.old.items ++ octet ∷ []) }
+    ensures added { OnOk result (out.new.items ≡ out.old.items ++ octet ∷ []) }
+    ensures kept { OnErr result (Kept out.old.items out.new.items) }
 {
     out.push(octet)?;
     Ok(())
 }
 
-/// Puts a whole number. It fails only where memory runs out.
+/// Puts a whole number. It fails only where memory runs out; what stood in the buffer then still stands in front.
 pub fn put_number(x: &i128, out: &mut Vec<u8>) -> Result<(), NoMemory>
-    ensures { OnOk result (out.new.items ≡ out.old.items ++ signed_decimal x.now) }
+    ensures added { OnOk result (out.new.items ≡ out.old.items ++ signed_decimal x.now) }
+    ensures kept { OnErr result (Kept out.old.items out.new.items) }
 {
     let mut buffer = Buffer::new();
     put(buffer.format(*x).as_bytes(), out)
@@ -60,7 +64,8 @@ fn letter(octet: u8) -> u8
 
 #[tactic(auto, unfolding(json::specs::Print::escape_byte))]
 fn put_escape(octet: u8, out: &mut Vec<u8>) -> Result<(), NoMemory>
-    ensures { OnOk result (out.new.items ≡ out.old.items ++ escape_byte octet) }
+    ensures added { OnOk result (out.new.items ≡ out.old.items ++ escape_byte octet) }
+    ensures kept { OnErr result (Kept out.old.items out.new.items) }
 {
     let letter = letter(octet);
     if 0 < letter {
@@ -83,7 +88,8 @@ fn put_escape(octet: u8, out: &mut Vec<u8>) -> Result<(), NoMemory>
 }
 
 fn put_escaped(text: &[u8], out: &mut Vec<u8>) -> Result<(), NoMemory>
-    ensures { OnOk result (out.new.items ≡ out.old.items ++ escape text.now) }
+    ensures added { OnOk result (out.new.items ≡ out.old.items ++ escape text.now) }
+    ensures kept { OnErr result (Kept out.old.items out.new.items) }
 {
     for octet in text {
         put_escape(*octet, out)?;
@@ -110,7 +116,8 @@ fn all_plain(text: &[u8]) -> bool
 }
 
 fn put_inside(text: &[u8], out: &mut Vec<u8>) -> Result<(), NoMemory>
-    ensures { OnOk result (out.new.items ≡ out.old.items ++ escape text.now) }
+    ensures added { OnOk result (out.new.items ≡ out.old.items ++ escape text.now) }
+    ensures kept { OnErr result (Kept out.old.items out.new.items) }
 {
     if all_plain(text) {
         put(text, out)
@@ -119,9 +126,10 @@ fn put_inside(text: &[u8], out: &mut Vec<u8>) -> Result<(), NoMemory>
     }
 }
 
-/// Puts a string. It fails only where memory runs out.
+/// Puts a string. It fails only where memory runs out; what stood in the buffer then still stands in front.
 pub fn put_quoted(text: &[u8], out: &mut Vec<u8>) -> Result<(), NoMemory>
-    ensures { OnOk result (out.new.items ≡ out.old.items ++ quoted text.now) }
+    ensures added { OnOk result (out.new.items ≡ out.old.items ++ quoted text.now) }
+    ensures kept { OnErr result (Kept out.old.items out.new.items) }
 {
     put_octet(b'"', out)?;
     put_inside(text, out)?;
@@ -143,7 +151,8 @@ fn bit_octet(bit: bool) -> u8
 }
 
 fn put_digits(bits: &[bool], out: &mut Vec<u8>) -> Result<(), NoMemory>
-    ensures { OnOk result (out.new.items ≡ out.old.items ++ map bit_digit bits.now) }
+    ensures added { OnOk result (out.new.items ≡ out.old.items ++ map bit_digit bits.now) }
+    ensures kept { OnErr result (Kept out.old.items out.new.items) }
 {
     for bit in bits {
         put_octet(bit_octet(*bit), out)?;
@@ -151,9 +160,11 @@ fn put_digits(bits: &[bool], out: &mut Vec<u8>) -> Result<(), NoMemory>
     Ok(())
 }
 
-/// Puts a string of the digits 0 and 1. It fails only where memory runs out.
+/// Puts a string of the digits 0 and 1.
+/// It fails only where memory runs out; what stood in the buffer then still stands in front.
 pub fn put_bits(bits: &[bool], out: &mut Vec<u8>) -> Result<(), NoMemory>
-    ensures { OnOk result (out.new.items ≡ out.old.items ++ quoted (map bit_digit bits.now)) }
+    ensures added { OnOk result (out.new.items ≡ out.old.items ++ quoted (map bit_digit bits.now)) }
+    ensures kept { OnErr result (Kept out.old.items out.new.items) }
 {
     put_octet(b'"', out)?;
     put_digits(bits, out)?;

@@ -1,11 +1,12 @@
 //! The text of a value.
 
-ghost use Rattle.std.specs.Prelude.{◌≡◌, ◌++◌, ◌∷◌, [], OnOk, IfOk, option_map, false, length};
+ghost use Rattle.std.specs.Prelude.{◌≡◌, ◌++◌, ◌∷◌, [], OnOk, OnErr, IfOk, option_map, false, length};
 ghost use Rattle.json.specs.Token as token;
 ghost use Rattle.json.specs.Print.{quoted, token_text};
 ghost use Rattle.serde_json.specs.Data.{no_members};
 ghost use Rattle.serde_json.specs.Written.{compact_text, comma_if, items_text, members_text};
 ghost use Rattle.acn_grammar.specs.View.{grammar_of, data_of, field_of, fields_view, places_view, elements_view, alternatives_view};
+ghost use Rattle.acn_json.specs.Kept.{Kept};
 ghost use Rattle.acn_json.specs.Lines as lines;
 ghost use Rattle.acn_json.specs.Spots.{place_json, json_at, members_at, AreWithin};
 
@@ -20,15 +21,17 @@ use std::collections::BTreeMap;
 /// The room that a line begins with.
 const USUAL_BYTES: usize = 128;
 
-/// Puts `null`. It fails only where memory runs out.
+/// Puts `null`. It fails only where memory runs out; what stood in the buffer then still stands in front.
 pub fn put_null(out: &mut Vec<u8>) -> Result<(), NoMemory>
-    ensures { OnOk result (out.new.items ≡ out.old.items ++ token_text token.null) }
+    ensures added { OnOk result (out.new.items ≡ out.old.items ++ token_text token.null) }
+    ensures kept { OnErr result (Kept out.old.items out.new.items) }
 {
     put(b"null", out)
 }
 
 fn put_truth(truth: bool, out: &mut Vec<u8>) -> Result<(), NoMemory>
-    ensures { OnOk result (out.new.items ≡ out.old.items ++ token_text (token.boolean truth)) }
+    ensures added { OnOk result (out.new.items ≡ out.old.items ++ token_text (token.boolean truth)) }
+    ensures kept { OnErr result (Kept out.old.items out.new.items) }
 {
     if truth {
         put(b"true", out)
@@ -37,16 +40,19 @@ fn put_truth(truth: bool, out: &mut Vec<u8>) -> Result<(), NoMemory>
     }
 }
 
-/// Puts a comma, where something stands before. It fails only where memory runs out.
+/// Puts a comma, where something stands before.
+/// It fails only where memory runs out; what stood in the buffer then still stands in front.
 pub fn put_comma(later: bool, out: &mut Vec<u8>) -> Result<(), NoMemory>
-    ensures { OnOk result (out.new.items ≡ out.old.items ++ comma_if later) }
+    ensures added { OnOk result (out.new.items ≡ out.old.items ++ comma_if later) }
+    ensures kept { OnErr result (Kept out.old.items out.new.items) }
 {
     if later { put_octet(b',', out) } else { Ok(()) }
 }
 
-/// Puts a name and a colon. It fails only where memory runs out.
+/// Puts a name and a colon. It fails only where memory runs out; what stood in the buffer then still stands in front.
 pub fn put_key(name: &[u8], out: &mut Vec<u8>) -> Result<(), NoMemory>
-    ensures { OnOk result (out.new.items ≡ out.old.items ++ (quoted name.now ++ 58 ∷ [])) }
+    ensures added { OnOk result (out.new.items ≡ out.old.items ++ (quoted name.now ++ 58 ∷ [])) }
+    ensures kept { OnErr result (Kept out.old.items out.new.items) }
 {
     put_quoted(name, out)?;
     put_octet(b':', out)
@@ -61,9 +67,11 @@ fn item_name(items: &[(Name, i128)], at: u32) -> &[u8]
     }
 }
 
-/// Puts the value of a leaf whose value is a number. It fails only where memory runs out.
+/// Puts the value of a leaf whose value is a number.
+/// It fails only where memory runs out; what stood in the buffer then still stands in front.
 pub fn write_number(leaf: &NumLeaf, v: &Value, out: &mut Vec<u8>) -> Result<(), NoMemory>
-    ensures { OnOk result (out.new.items ≡ out.old.items ++ compact_text (lines.num_json leaf.now.kind leaf.now.items.items (data_of v.now))) }
+    ensures added { OnOk result (out.new.items ≡ out.old.items ++ compact_text (lines.num_json leaf.now.kind leaf.now.items.items (data_of v.now))) }
+    ensures kept { OnErr result (Kept out.old.items out.new.items) }
 {
     match (leaf.kind, v) {
         (NumKind::Integer, Value::Int(x)) => put_number(x, out),

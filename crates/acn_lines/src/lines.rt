@@ -1,9 +1,10 @@
 //! What lines of a tree need beside it.
 
-ghost use Rattle.std.specs.Prelude.{◌≡◌, ◌≤◌, ◌++◌, IfOk, OnOk, IsTrue, length};
+ghost use Rattle.std.specs.Prelude.{◌≡◌, ◌≤◌, ◌++◌, IfOk, OnOk, OnErr, IsTrue, length};
 ghost use Rattle.acn_grammar.specs.Shaped.{fits};
 ghost use Rattle.acn_grammar.specs.View.{grammar_of, data_of};
 ghost use Rattle.acn_json.specs.Answers.{Gives};
+ghost use Rattle.acn_json.specs.Kept.{Kept};
 ghost use Rattle.acn_json.specs.Lines.{line_of};
 ghost use Rattle.acn_json.specs.Reads.{line_gives};
 ghost use Rattle.acn_json.specs.declared.read.TheConstants.{MOST_JSON_BYTES};
@@ -36,10 +37,11 @@ impl Lines {
     }
 
     /// Puts the line of a value at the end of a buffer, without the line's end: the text that `to_line` of `acn_json` gives.
-    /// It fails only where memory runs out; a front of the line may stand in the buffer then.
+    /// It fails only where memory runs out; what stood in the buffer then still stands in front.
     pub fn put(&self, tree: &Tree, value: &Value, line: &mut Vec<u8>) -> Result<(), NoMemory>
         requires { IsOrder (grammar_of tree.now.root) self.now.order }
-        ensures { OnOk result (line.new.items ≡ line.old.items ++ line_of (grammar_of tree.now.root) (data_of value.now)) }
+        ensures added { OnOk result (line.new.items ≡ line.old.items ++ line_of (grammar_of tree.now.root) (data_of value.now)) }
+        ensures kept { OnErr result (Kept line.old.items line.new.items) }
     {
         put_node(tree.root(), &self.order, value, line)
     }

@@ -1,12 +1,13 @@
 //! The text of a value, put at the end of a buffer.
 
-ghost use Rattle.std.specs.Prelude.{◌≡◌, ◌++◌, ◌∷◌, [], OnOk, IfOk, option_map, Some, false, ◌<◌};
+ghost use Rattle.std.specs.Prelude.{◌≡◌, ◌++◌, ◌∷◌, [], OnOk, OnErr, IfOk, option_map, Some, false, ◌<◌};
 ghost use Rattle.std.specs.Char.{digit_char};
 ghost use Rattle.json.specs.Print.{quoted, escape};
 ghost use Rattle.hex.specs.Hex.{encode_lower};
 ghost use Rattle.serde_json.specs.Data.{Members, no_members};
 ghost use Rattle.serde_json.specs.Written.{compact_text, items_text, members_text};
 ghost use Rattle.acn_grammar.specs.View.{grammar_of, data_of, field_of, fields_view, places_view, elements_view, alternatives_view};
+ghost use Rattle.acn_json.specs.Kept.{Kept};
 ghost use Rattle.acn_json.specs.Lines as lines;
 ghost use Rattle.acn_lines.specs.Order as spec;
 ghost use Rattle.acn_lines.specs.declared.order.Order.{out-Order};
@@ -26,14 +27,16 @@ fn digit(n: u8) -> u8
 
 // Puts the two hexadecimal digits of an octet, which stand for themselves in a string.
 fn put_pair(octet: u8, line: &mut Vec<u8>) -> Result<(), NoMemory>
-    ensures { OnOk result (line.new.items ≡ line.old.items ++ escape (encode_lower (octet ∷ []))) }
+    ensures added { OnOk result (line.new.items ≡ line.old.items ++ escape (encode_lower (octet ∷ []))) }
+    ensures kept { OnErr result (Kept line.old.items line.new.items) }
 {
     put(&[digit(octet / 16), digit(octet % 16)], line)
 }
 
 #[tactic(auto, unfolding(hex::specs::Hex::encode_with))]
 fn put_pairs(octets: &[u8], line: &mut Vec<u8>) -> Result<(), NoMemory>
-    ensures { OnOk result (line.new.items ≡ line.old.items ++ escape (encode_lower octets.now)) }
+    ensures added { OnOk result (line.new.items ≡ line.old.items ++ escape (encode_lower octets.now)) }
+    ensures kept { OnErr result (Kept line.old.items line.new.items) }
 {
     for octet in octets {
         put_pair(*octet, line)?;
@@ -43,7 +46,8 @@ fn put_pairs(octets: &[u8], line: &mut Vec<u8>) -> Result<(), NoMemory>
 
 // Puts a string of hexadecimal digits.
 fn put_octets(octets: &[u8], line: &mut Vec<u8>) -> Result<(), NoMemory>
-    ensures { OnOk result (line.new.items ≡ line.old.items ++ quoted (encode_lower octets.now)) }
+    ensures added { OnOk result (line.new.items ≡ line.old.items ++ quoted (encode_lower octets.now)) }
+    ensures kept { OnErr result (Kept line.old.items line.new.items) }
 {
     put_octet(b'"', line)?;
     put_pairs(octets, line)?;
@@ -70,7 +74,7 @@ fn value_at(places: &[Option<Value>], at: usize) -> Option<&Value>
     }
 }
 
-/// Puts the text of a value. It fails only where memory runs out.
+/// Puts the text of a value. It fails only where memory runs out; what stood in the buffer then still stands in front.
 #[cycle(put)]
 pub fn put_node(
     node: &Node,
@@ -79,7 +83,8 @@ pub fn put_node(
     line: &mut Vec<u8>,
 ) -> Result<(), NoMemory>
     requires { spec.IsOrder (grammar_of node.now) order.now }
-    ensures { OnOk result (line.new.items ≡ line.old.items ++ compact_text (lines.json_of (grammar_of node.now) (data_of value.now))) }
+    ensures added { OnOk result (line.new.items ≡ line.old.items ++ compact_text (lines.json_of (grammar_of node.now) (data_of value.now))) }
+    ensures kept { OnErr result (Kept line.old.items line.new.items) }
 {
     match &node.body {
         Body::Num(leaf) => write_number(leaf, value, line),
@@ -126,7 +131,8 @@ fn put_object(
 ) -> Result<(), NoMemory>
     requires turns { spec.AreTurns (fields_view fields.now) (out-Order order.now).turns }
     requires inside { spec.AreFieldOrders (fields_view fields.now) (out-Order order.now).inside }
-    ensures { OnOk result (line.new.items ≡ line.old.items ++ 123 ∷ members_text false (lines.fields_json no_members (fields_view fields.now) (places_view places.now))) }
+    ensures added { OnOk result (line.new.items ≡ line.old.items ++ 123 ∷ members_text false (lines.fields_json no_members (fields_view fields.now) (places_view places.now))) }
+    ensures kept { OnErr result (Kept line.old.items line.new.items) }
 {
     put_octet(b'{', line)?;
     put_turns(
@@ -150,7 +156,8 @@ fn put_turns(
 ) -> Result<(), NoMemory>
     requires keyed { spec.AreKeyed (fields_view fields.now) turns.now }
     requires inside { spec.AreFieldOrders (fields_view fields.now) inside.now }
-    ensures { OnOk result (line.new.items ++ 125 ∷ [] ≡ line.old.items ++ members_text false (spec.in_order (fields_view fields.now) turns.now (places_view places.now))) }
+    ensures added { OnOk result (line.new.items ++ 125 ∷ [] ≡ line.old.items ++ members_text false (spec.in_order (fields_view fields.now) turns.now (places_view places.now))) }
+    ensures kept { Kept line.old.items line.new.items }
 {
     let mut later = false;
     for turn in turns {
@@ -171,7 +178,8 @@ fn put_turn(
 ) -> Result<bool, NoMemory>
     requires keyed { spec.HasKey (spec.field_at (fields_view fields.now) turn.now.field) turn.now.key }
     requires inside { spec.AreFieldOrders (fields_view fields.now) inside.now }
-    ensures { IfOk result (λ more. (ms : Members) → line.new.items ++ members_text more ms ≡ line.old.items ++ members_text later (spec.member_at (spec.field_at (fields_view fields.now) turn.now.field) (spec.place_at (places_view places.now) turn.now.place) ms)) }
+    ensures added { IfOk result (λ more. (ms : Members) → line.new.items ++ members_text more ms ≡ line.old.items ++ members_text later (spec.member_at (spec.field_at (fields_view fields.now) turn.now.field) (spec.place_at (places_view places.now) turn.now.place) ms)) }
+    ensures kept { Kept line.old.items line.new.items }
 {
     match value_at(places, turn.place) {
         Some(value) => {
@@ -193,7 +201,8 @@ fn put_field(
     line: &mut Vec<u8>,
 ) -> Result<(), NoMemory>
     requires { spec.IsFieldOrder (field_of field.now) order.now }
-    ensures { OnOk result (line.new.items ≡ line.old.items ++ compact_text (spec.field_json (field_of field.now) (data_of value.now))) }
+    ensures added { OnOk result (line.new.items ≡ line.old.items ++ compact_text (spec.field_json (field_of field.now) (data_of value.now))) }
+    ensures kept { OnErr result (Kept line.old.items line.new.items) }
 {
     match field {
         Field::Component { node, .. } => put_node(node, order, value, line),
@@ -209,7 +218,8 @@ fn put_array(
     line: &mut Vec<u8>,
 ) -> Result<(), NoMemory>
     requires { spec.IsOrder (grammar_of element.now) order.now }
-    ensures { OnOk result (line.new.items ≡ line.old.items ++ 91 ∷ items_text false (lines.each_json (lines.json_of (grammar_of element.now)) (elements_view elements.now))) }
+    ensures added { OnOk result (line.new.items ≡ line.old.items ++ 91 ∷ items_text false (lines.each_json (lines.json_of (grammar_of element.now)) (elements_view elements.now))) }
+    ensures kept { OnErr result (Kept line.old.items line.new.items) }
 {
     put_octet(b'[', line)?;
     let mut later = false;
@@ -230,7 +240,8 @@ fn put_alternative(
     line: &mut Vec<u8>,
 ) -> Result<(), NoMemory>
     requires { spec.AreAlternativeOrders (alternatives_view alternatives.now) inside.now }
-    ensures { OnOk result (line.new.items ≡ line.old.items ++ 123 ∷ members_text false (lines.alternative_json (alternatives_view alternatives.now) at (data_of value.now))) }
+    ensures added { OnOk result (line.new.items ≡ line.old.items ++ 123 ∷ members_text false (lines.alternative_json (alternatives_view alternatives.now) at (data_of value.now))) }
+    ensures kept { OnErr result (Kept line.old.items line.new.items) }
 {
     match alternatives.get(at as usize) {
         Some(alternative) => {

@@ -80,13 +80,10 @@ fn decode_supply<S: Source, O: Sink>(
     ensures some { IsErrOf result StreamFault.EmptyPacket → ⊥ }
 {
     let mut lines = Vec::new(alloc);
-    let mut line = Vec::new(alloc);
     let mut count = 0u64;
     loop {
         lines.clear();
-        let pause = take_packets(
-            alloc, checked, order, supply, &mut line, &mut lines, &mut count,
-        );
+        let pause = take_packets(alloc, checked, order, supply, &mut lines, &mut count);
         match write_all(out, &lines) {
             Ok(()) => {}
             Err(_) => return Err(StreamFault::OutputFault),

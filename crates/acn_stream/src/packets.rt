@@ -4,6 +4,7 @@ ghost use Rattle.std.specs.Prelude.{◌≡◌, ◌+◌, ◌*◌, ◌^◌, ◌<�
 ghost use Rattle.acn_num.specs.Bits.{octets};
 ghost use Rattle.acn_grammar.specs.ItemsNamed.{ItemsNamed};
 ghost use Rattle.acn_grammar.specs.View.{grammar_of, data_of};
+ghost use Rattle.acn_json.specs.Kept.{Kept};
 ghost use Rattle.acn_json.specs.Lines.{line_of};
 ghost use Rattle.acn_lines.specs.Order.{IsOrder};
 ghost use Rattle.acn_stream.specs.Steps as spec;
@@ -12,6 +13,7 @@ ghost use Rattle.acn_supply.specs.declared.window.TheConstants.{MOST_IN_HAND};
 
 use acn_check::Checked;
 use acn_grammar::{Fault, Reason, Refuse, Value};
+use acn_json::put_octet;
 use acn_lines::Lines;
 use acn_num::NoMemory;
 use acn_packet_laws::short_is_near;
@@ -50,23 +52,30 @@ fn is_short(reason: &Reason) -> bool
     matches!(reason, Reason::Short)
 }
 
-// Adds the line of a value, which is put together in a buffer of its own.
-fn put_line(
-    order: &Lines,
-    tree: &Tree,
-    value: &Value,
-    line: &mut Vec<u8>,
-    lines: &mut Vec<u8>,
-) -> Result<(), NoMemory>
+// Puts the line of a value, and its end.
+fn put_ended(order: &Lines, tree: &Tree, value: &Value, lines: &mut Vec<u8>) -> Result<(), NoMemory>
+    requires { IsOrder (grammar_of tree.now.root) order.now.order }
+    ensures added { OnOk result (lines.new.items ≡ lines.old.items ++ (line_of (grammar_of tree.now.root) (data_of value.now) ++ 10 ∷ [])) }
+    ensures kept { OnErr result (Kept lines.old.items lines.new.items) }
+{
+    order.put(tree, value, lines)?;
+    put_octet(b'\n', lines)
+}
+
+// Adds the line of a value. Where it doesn't fit, what was put of it is cut off again.
+fn put_line(order: &Lines, tree: &Tree, value: &Value, lines: &mut Vec<u8>) -> Result<(), NoMemory>
     requires { IsOrder (grammar_of tree.now.root) order.now.order }
     ensures added { OnOk result (lines.new.items ≡ lines.old.items ++ (line_of (grammar_of tree.now.root) (data_of value.now) ++ 10 ∷ [])) }
     ensures kept { OnErr result (lines.new.items ≡ lines.old.items) }
 {
-    line.clear();
-    order.put(tree, value, line)?;
-    line.push(b'\n')?;
-    lines.extend_from_slice(line)?;
-    Ok(())
+    let mark = lines.len();
+    match put_ended(order, tree, value, lines) {
+        Ok(()) => Ok(()),
+        Err(no_memory) => {
+            lines.truncate(mark);
+            Err(no_memory)
+        }
+    }
 }
 
 // Why bytes that no packet begins are left.
@@ -91,7 +100,6 @@ fn take_packet(
     checked: &Checked,
     order: &Lines,
     supply: &mut Supply,
-    line: &mut Vec<u8>,
     lines: &mut Vec<u8>,
 ) -> Result<(), Pause>
     requires named { ItemsNamed (grammar_of checked.now.tree.root) }
@@ -107,7 +115,7 @@ fn take_packet(
         return Err(Pause::Wants(None));
     }
     match plain_decode(alloc, checked, hand) {
-        Ok((value, bits)) => match put_line(order, tree, &value, line, lines) {
+        Ok((value, bits)) => match put_line(order, tree, &value, lines) {
             Ok(()) => {
                 supply.skip(octets_of(bits));
                 Ok(())
@@ -124,7 +132,6 @@ pub fn take_packets(
     checked: &Checked,
     order: &Lines,
     supply: &mut Supply,
-    line: &mut Vec<u8>,
     lines: &mut Vec<u8>,
     count: &mut u64,
 ) -> Pause
@@ -138,7 +145,7 @@ pub fn take_packets(
     ensures near { length supply.new.hand ≤ MOST_IN_HAND }
 {
     loop {
-        match take_packet(alloc, checked, order, supply, line, lines) {
+        match take_packet(alloc, checked, order, supply, lines) {
             Ok(()) => *count += 1,
             Err(pause) => return pause,
         }

@@ -44,7 +44,7 @@ write_object-returns t c =
     let fs = fields_view c.args.fields.now in
     let ps = places_view c.args.places.now in
     let ms = fields_json no_members fs ps in
-    let brace : c.put_octet.new.out.items ≡ c.args.out.now.items ++ 123 ∷ [] = c.in_ok-put_octet.ensures in
+    let brace : c.put_octet.new.out.items ≡ c.args.out.now.items ++ 123 ∷ [] = c.in_ok-put_octet.ensures.added in
     on_ok_weaker c.write_members.result
     (λ e. e ∙ (ap (λ xs. c.put_octet.new.out.items ++ members_text false xs) c.in_ok-known.ensures.members ∙ (ap (λ t. t ++ members_text false ms) brace ∙ append_assoc c.args.out.now.items (123 ∷ []) (members_text false ms)))) c.write_members.ensures
 
@@ -57,7 +57,7 @@ write_members-loop-name-preserved t c =
     let here = json-here fs ps c.in-Some.spot.now.field c.in-Some.spot.now.place c.index-fields-spot.result c.index-places-spot.result c.in-Some.spot.now first.0 first.1 c.index-fields-spot.is c.index-places-spot.is refl refl in
     record {
       within = first.2;
-      same = members-turn l.later c.in-Some.name.now.now (json_at fs ps c.in-Some.spot.now) (members_at (json_at fs ps) c.next.new.self) l.out.items c.put_comma.new.out.items c.put_key.new.out.items c.write_place.new.out.items _ c.in_ok-put_comma.ensures c.in_ok-put_key.ensures
+      same = members-turn l.later c.in-Some.name.now.now (json_at fs ps c.in-Some.spot.now) (members_at (json_at fs ps) c.next.new.self) l.out.items c.put_comma.new.out.items c.put_key.new.out.items c.write_place.new.out.items _ c.in_ok-put_comma.ensures.added c.in_ok-put_key.ensures.added
           (c.in_ok-write_place.ensures ∙ ap (λ j. c.put_key.new.out.items ++ compact_text j) (sym here))
           (sym (ap (λ ms. l.out.items ++ members_text l.later ms) (first-member (json_at fs ps) l.name-iterator c.next.new.self c.in-Some.name.now c.in-Some.spot.now c.in-Some.ensures.steps)) ∙ l.invariant.same);
     }

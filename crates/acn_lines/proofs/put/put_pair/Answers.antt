@@ -3,7 +3,7 @@ use Rattle.std.proofs.lemmas.Grind.{common_steps}
 use Rattle.acn_lines.proofs.Digits.{pair-is}
 use Rattle.acn_lines.proofs.put.put_pair.Goals as goal
 
-pub returns : goal.returns
-returns c =
+pub returns-clause-added : goal.returns-clause-added
+returns-clause-added c =
     let small : c.args.octet < 256 = omega arith in
     grind (arith, common_steps, pair-is c.args.octet small)

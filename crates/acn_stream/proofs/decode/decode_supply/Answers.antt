@@ -5,24 +5,24 @@ use Rattle.acn_stream.proofs.Ending.{begun, written_on, room, more_room, refused
 use Rattle.acn_stream.proofs.Taking.{not_longer}
 use Rattle.acn_stream.proofs.decode.decode_supply.Goals as goal
 
-pub loop-line-init : goal.loop-line-init
-loop-line-init g c = record { so_far = begun _ _ _ _ c.requires.begins; input = omega arith; output = omega arith }
+pub loop-lines-init : goal.loop-lines-init
+loop-lines-init g c = record { so_far = begun _ _ _ _ c.requires.begins; input = omega arith; output = omega arith }
 
 pub take_packets-pause-requires-clause-room : goal.take_packets-pause-requires-clause-room
-take_packets-pause-requires-clause-room g c = room _ _ _ _ _ _ _ _ c.loop-line.invariant.so_far c.requires.limit
+take_packets-pause-requires-clause-room g c = room _ _ _ _ _ _ _ _ c.loop-lines.invariant.so_far c.requires.limit
 
 pub returns-in-Err-clause-ends : goal.returns-in-Err-clause-ends
 returns-in-Err-clause-ends g c =
-    front _ _ _ _ _ _ _ _ _ _ _ _ _ c.loop-line.invariant.so_far c.take_packets-pause.ensures.taken c.clear.ensures.items c.take_packets-pause.ensures.near (rw c.deref.ensures.value at c.in-Err.ensures.front)
+    front _ _ _ _ _ _ _ _ _ _ _ _ _ c.loop-lines.invariant.so_far c.take_packets-pause.ensures.taken c.clear.ensures.items c.take_packets-pause.ensures.near (rw c.deref.ensures.value at c.in-Err.ensures.front)
 
-pub loop-line-smaller-in-Full : goal.loop-line-smaller-in-Full
-loop-line-smaller-in-Full g c = omega (arith, c.take_packets-pause.ensures.taken.left, c.take_packets-pause.ensures.full c.in-Full.is)
+pub loop-lines-smaller-in-Full : goal.loop-lines-smaller-in-Full
+loop-lines-smaller-in-Full g c = omega (arith, c.take_packets-pause.ensures.taken.left, c.take_packets-pause.ensures.full c.in-Full.is)
 
-pub loop-line-preserved-in-Full : goal.loop-line-preserved-in-Full
-loop-line-preserved-in-Full g c = record {
-  so_far = written_on _ _ _ _ _ _ _ _ _ _ _ _ _ c.loop-line.invariant.so_far c.take_packets-pause.ensures.taken c.clear.ensures.items (rw c.deref.ensures.value at c.in-Ok.ensures.written);
-  input = c.loop-line.invariant.input;
-  output = omega (arith, c.loop-line.invariant.output, c.in-Ok.ensures.count);
+pub loop-lines-preserved-in-Full : goal.loop-lines-preserved-in-Full
+loop-lines-preserved-in-Full g c = record {
+  so_far = written_on _ _ _ _ _ _ _ _ _ _ _ _ _ c.loop-lines.invariant.so_far c.take_packets-pause.ensures.taken c.clear.ensures.items (rw c.deref.ensures.value at c.in-Ok.ensures.written);
+  input = c.loop-lines.invariant.input;
+  output = omega (arith, c.loop-lines.invariant.output, c.in-Ok.ensures.count);
 }
 
 pub read_on-requires-clause-few : goal.read_on-requires-clause-few
@@ -30,32 +30,32 @@ read_on-requires-clause-few g c = wants_few _ _ _ (rw c.in-Wants.is at c.take_pa
 
 pub read_on-requires-clause-room : goal.read_on-requires-clause-room
 read_on-requires-clause-room g c =
-    let so = written_on _ _ _ _ _ _ _ _ _ _ _ _ _ c.loop-line.invariant.so_far c.take_packets-pause.ensures.taken c.clear.ensures.items (rw c.deref.ensures.value at c.in-Ok.ensures.written) in
+    let so = written_on _ _ _ _ _ _ _ _ _ _ _ _ _ c.loop-lines.invariant.so_far c.take_packets-pause.ensures.taken c.clear.ensures.items (rw c.deref.ensures.value at c.in-Ok.ensures.written) in
     wants_room _ _ _ _ _ _ _ _ _ so c.requires.limit (rw c.in-Wants.is at c.take_packets-pause.ensures.paused)
 
-pub loop-line-smaller : goal.loop-line-smaller
-loop-line-smaller g c =
-    let so = written_on _ _ _ _ _ _ _ _ _ _ _ _ _ c.loop-line.invariant.so_far c.take_packets-pause.ensures.taken c.clear.ensures.items (rw c.deref.ensures.value at c.in-Ok.ensures.written) in
+pub loop-lines-smaller : goal.loop-lines-smaller
+loop-lines-smaller g c =
+    let so = written_on _ _ _ _ _ _ _ _ _ _ _ _ _ c.loop-lines.invariant.so_far c.take_packets-pause.ensures.taken c.clear.ensures.items (rw c.deref.ensures.value at c.in-Ok.ensures.written) in
     let more = c.in-None.ensures.goes_on _ _ _ _ _ so (rw c.in-Wants.is at c.take_packets-pause.ensures.paused) in
     omega (arith, more.1, c.take_packets-pause.ensures.taken.left, not_longer _ _ _ _ _ _ _ c.take_packets-pause.ensures.taken)
 
-pub loop-line-preserved : goal.loop-line-preserved
-loop-line-preserved g c =
-    let so = written_on _ _ _ _ _ _ _ _ _ _ _ _ _ c.loop-line.invariant.so_far c.take_packets-pause.ensures.taken c.clear.ensures.items (rw c.deref.ensures.value at c.in-Ok.ensures.written) in
+pub loop-lines-preserved : goal.loop-lines-preserved
+loop-lines-preserved g c =
+    let so = written_on _ _ _ _ _ _ _ _ _ _ _ _ _ c.loop-lines.invariant.so_far c.take_packets-pause.ensures.taken c.clear.ensures.items (rw c.deref.ensures.value at c.in-Ok.ensures.written) in
     let more = c.in-None.ensures.goes_on _ _ _ _ _ so (rw c.in-Wants.is at c.take_packets-pause.ensures.paused) in
     record {
       so_far = more.0;
-      input = omega (arith, c.loop-line.invariant.input, c.in-None.ensures.count);
-      output = omega (arith, c.loop-line.invariant.output, c.in-Ok.ensures.count);
+      input = omega (arith, c.loop-lines.invariant.input, c.in-None.ensures.count);
+      output = omega (arith, c.loop-lines.invariant.output, c.in-Ok.ensures.count);
     }
 
 pub returns-in-Some-clause-ends : goal.returns-in-Some-clause-ends
 returns-in-Some-clause-ends g c =
-    let so = written_on _ _ _ _ _ _ _ _ _ _ _ _ _ c.loop-line.invariant.so_far c.take_packets-pause.ensures.taken c.clear.ensures.items (rw c.deref.ensures.value at c.in-Ok.ensures.written) in
+    let so = written_on _ _ _ _ _ _ _ _ _ _ _ _ _ c.loop-lines.invariant.so_far c.take_packets-pause.ensures.taken c.clear.ensures.items (rw c.deref.ensures.value at c.in-Ok.ensures.written) in
     c.in-Some.ensures.goes_on _ _ _ _ _ so (rw c.in-Wants.is at c.take_packets-pause.ensures.paused)
 
 pub returns-in-Some-clause-input_fault : goal.returns-in-Some-clause-input_fault
-returns-in-Some-clause-input_fault g c h = rose_later _ _ _ c.loop-line.invariant.input c.in-Some.ensures.count (c.in-Some.ensures.failed (ap Some h))
+returns-in-Some-clause-input_fault g c h = rose_later _ _ _ c.loop-lines.invariant.input c.in-Some.ensures.count (c.in-Some.ensures.failed (ap Some h))
 
 pub returns-in-Some-clause-output_fault : goal.returns-in-Some-clause-output_fault
 returns-in-Some-clause-output_fault g c h = absurd (subst (λ (r : Result ℕ StreamFault). EndsReading (Some r)) h c.in-Some.ensures.known)
@@ -65,16 +65,16 @@ returns-in-Some-clause-some g c h = subst (λ (r : Result ℕ StreamFault). Ends
 
 pub overflow_add-result : goal.overflow_add-result
 overflow_add-result g c =
-    let so = written_on _ _ _ _ _ _ _ _ _ _ _ _ _ c.loop-line.invariant.so_far c.take_packets-pause.ensures.taken c.clear.ensures.items (rw c.deref.ensures.value at c.in-Ok.ensures.written) in
+    let so = written_on _ _ _ _ _ _ _ _ _ _ _ _ _ c.loop-lines.invariant.so_far c.take_packets-pause.ensures.taken c.clear.ensures.items (rw c.deref.ensures.value at c.in-Ok.ensures.written) in
     let room = more_room _ _ _ _ _ _ _ _ _ so c.requires.limit (rw c.in-Refused.is at c.take_packets-pause.ensures.paused) in
     omega (arith, room)
 
 pub returns-in-Refused-clause-ends : goal.returns-in-Refused-clause-ends
 returns-in-Refused-clause-ends g c =
-    let so = written_on _ _ _ _ _ _ _ _ _ _ _ _ _ c.loop-line.invariant.so_far c.take_packets-pause.ensures.taken c.clear.ensures.items (rw c.deref.ensures.value at c.in-Ok.ensures.written) in
+    let so = written_on _ _ _ _ _ _ _ _ _ _ _ _ _ c.loop-lines.invariant.so_far c.take_packets-pause.ensures.taken c.clear.ensures.items (rw c.deref.ensures.value at c.in-Ok.ensures.written) in
     refused_now _ _ _ _ _ _ _ _ _ so c.take_packets-pause.ensures.near (rw c.in-Refused.is at c.take_packets-pause.ensures.paused)
 
 pub returns-in-NoMemory-clause-ends : goal.returns-in-NoMemory-clause-ends
 returns-in-NoMemory-clause-ends g c =
-    let so = written_on _ _ _ _ _ _ _ _ _ _ _ _ _ c.loop-line.invariant.so_far c.take_packets-pause.ensures.taken c.clear.ensures.items (rw c.deref.ensures.value at c.in-Ok.ensures.written) in
+    let so = written_on _ _ _ _ _ _ _ _ _ _ _ _ _ c.loop-lines.invariant.so_far c.take_packets-pause.ensures.taken c.clear.ensures.items (rw c.deref.ensures.value at c.in-Ok.ensures.written) in
     stopped _ _ _ _ _ _ _ _ so c.take_packets-pause.ensures.near
