@@ -1,5 +1,5 @@
 -- Parts that were read, and what fails behind them.
-use Rattle.std.proofs.Common.{◌≡◌, ℕ, zero, suc, ◌+◌, ◌<◌, ℤ, Bool, true, false, List, ◌++◌, length, None, refl, sym, ap, ◌∙◌, arith, subst, append_assoc, length-append}
+use Rattle.std.proofs.Common.{◌≡◌, ℕ, zero, suc, ◌+◌, ◌<◌, ℤ, Bool, true, false, List, ◌++◌, length, None, refl, sym, ap, ◌∙◌, arith, subst, append_assoc, length-append, rules}
 use Rattle.std.specs.Prelude.{Result, Ok, Err, IfOk, IfErr, OnOk}
 use Rattle.acn_bits.specs.Reading.{Reading}
 use Rattle.acn_bits.specs.Reading.{Reads}
@@ -17,7 +17,12 @@ use Rattle.std.proofs.Common.{IsTrue}
 use Rattle.acn_grammar.specs.Sound.{Sound}
 use Rattle.acn_grammar.specs.Spell.{Part, ◌then◌, Padding, FormPart}
 use Rattle.acn_grammar.specs.declared.node.NumLeaf.{NumLeaf}
-use Rattle.acn_plain_read.specs.Decoded.{Follows, Grows, Passes, Tells, Fine, Within, Noted, NodeStands, FormStands, Stops, FormRead, NodeRead, NodeStops, FormStops}
+use Rattle.acn_grammar.specs.View.{grammar_of, form_of}
+use Rattle.acn_grammar.specs.declared.node.Node.{Node, the_lemmas as node_lemmas}
+use Rattle.acn_grammar.specs.declared.node.Body.{Body}
+use Rattle.acn_grammar.specs.declared.node.Body.TheVariants.{Num}
+use Rattle.acn_grammar.proofs.Views.{view_node}
+use Rattle.acn_plain_read.specs.Decoded.{Follows, Grows, Passes, Tells, Fine, Within, Noted, NodeStands, InnerStands, FormStands, Stops, FormRead, NodeRead, NodeStops, FormStops}
 use Rattle.acn_plain_read.specs.Steps.{PadPassed, Named}
 use Rattle.acn_plain_read.specs.declared.stop.Stop.{Stop}
 use Rattle.acn_plain_read.specs.declared.stop.Stop.TheVariants.{Fails as Failed, NoMemory}
@@ -150,3 +155,23 @@ node_room root (node align form) k around ks s = (let m = s.1 in omega (arith, m
 
 pub leaf_fine : (root g : Grammar) (align : ℕ) (leaf : NumLeaf) (k : ℕ) (around : List ℕ) (ks : Known) → g ≡ node align (num leaf) → Sound root k around ks g → IsTrue (num_fine leaf)
 leaf_fine root g align leaf k around ks e s = (subst (λ (x : Grammar). Sound root k around ks x) e s).2
+
+view_number : (leaf : NumLeaf) → form_of (Num leaf) ≡ num leaf
+view_number leaf = search (rules, node_lemmas)
+
+-- a node whose body is a number leaf
+pub node_of_number : (n : Node) (leaf : NumLeaf) → n.body ≡ Num leaf → grammar_of n ≡ node n.align (num leaf)
+node_of_number n leaf is = view_node n ∙ (ap (λ (b : Body). node n.align (form_of b)) is ∙ ap (λ (form : Form). node n.align form) (view_number leaf))
+
+-- what stands where nothing is left behind stands
+pub inner_node : (root g : Grammar) (k : ℕ) (t : Env) → ((around : List ℕ) × InnerStands root k g t around) → (around : List ℕ) × NodeStands root k g t around
+inner_node root g k t st = (st.0, record { known = st.1.known; noted = st.1.noted; is = st.1.is.1 })
+
+-- the value of a node that is a number leaf
+pub number_read : (root : Grammar) (align : ℕ) (leaf : NumLeaf) (d : Data) (x : ℤ) (t : Env) (a b : Reading) → Fine root t → NumberOf leaf.kind d x → Reads (λ bs. (Padding Any align then (λ at' cs. Code Any leaf x cs)) a.at bs) a b → NodeRead root (node align (num leaf)) d t t a b
+number_read root align leaf d x t a b m is r = record {
+  grown = λ env f. f;
+  fine = m;
+  known = λ k around st. st.noted;
+  spelled = record { front = r.front; split = r.split; moved = r.moved; window = r.window; holds = λ env f. (let h = r.holds in record { front = h.front; back = h.back; whole = h.whole; first = h.first; second = (x, is, h.second) }) };
+}

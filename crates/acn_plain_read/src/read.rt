@@ -16,7 +16,7 @@ ghost use Rattle.acn_plain_read.specs.Decoded.{Tells, Fine, NodeStands, FormStan
 
 use crate::choices::pick;
 use crate::ends::{most_of, no_end, pass_end, pattern_of, stands};
-use crate::leaves::{named, read_leaf};
+use crate::leaves::{named, read_leaf, read_number};
 use crate::numbers::{forget, note};
 use crate::presence::{count_of, is_there};
 use crate::sizes::{is_ended, read_size};
@@ -280,10 +280,8 @@ fn read_component(
     ensures path { OnOk result (path.new ≡ path.old) }
 {
     if is_there(presence, flags, slots.items()) {
-        path.push(k);
-        match read_node(alloc, node, root, cur, slots, path, inside) {
+        match read_present(alloc, node, k, root, cur, slots, path, inside) {
             Ok(value) => {
-                path.pop();
                 note(slots, slot, &value.number())?;
                 Ok(Some(value))
             }
@@ -291,6 +289,37 @@ fn read_component(
         }
     } else {
         Ok(None)
+    }
+}
+
+// A component that is there. For a number no walk is begun, since nothing stands inside it.
+#[cycle(read)]
+fn read_present(
+    alloc: Global,
+    node: &Node,
+    k: u32,
+    root: &Node,
+    cur: &mut ReadCursor<'_>,
+    slots: &mut Row<(u32, i128)>,
+    path: &mut Path,
+    inside: bool,
+) -> Result<Value, Stop>
+    requires ready { (around : List ℕ) × NodeStands (grammar_of root.now) (suc (length path.old)) (grammar_of node.now) slots.old around }
+    requires named { ItemsNamed (grammar_of node.now) }
+    requires fine { Fine (grammar_of root.now) slots.old }
+    ensures read { IfOk result (λ v. NodeRead (grammar_of root.now) (grammar_of node.now) (data_of v) slots.old slots.new cur.old cur.new) }
+    ensures fails { IfErr result (λ e. Tells e (NodeStops (grammar_of root.now) (grammar_of node.now) inside (path.old ++ k ∷ []) slots.old cur.old path.new)) }
+    ensures path { OnOk result (path.new ≡ path.old) }
+{
+    match &node.body {
+        Body::Num(leaf) => read_number(cur, node.align, leaf, path, inside, k),
+        Body::Octets(_) => read_child(alloc, node, k, root, cur, slots, path, inside),
+        Body::Bits(_) => read_child(alloc, node, k, root, cur, slots, path, inside),
+        Body::Text(_) => read_child(alloc, node, k, root, cur, slots, path, inside),
+        Body::Seq(_) => read_child(alloc, node, k, root, cur, slots, path, inside),
+        Body::List(_, _) => read_child(alloc, node, k, root, cur, slots, path, inside),
+        Body::Choice(_) => read_child(alloc, node, k, root, cur, slots, path, inside),
+        Body::Contained(_, _) => read_child(alloc, node, k, root, cur, slots, path, inside),
     }
 }
 
@@ -306,7 +335,7 @@ fn read_child(
     path: &mut Path,
     inside: bool,
 ) -> Result<Value, Stop>
-    requires ready { (around : List ℕ) × InnerStands (grammar_of root.now) (suc (length path.old)) (grammar_of node.now) slots.old around }
+    requires ready { (around : List ℕ) × NodeStands (grammar_of root.now) (suc (length path.old)) (grammar_of node.now) slots.old around }
     requires named { ItemsNamed (grammar_of node.now) }
     requires fine { Fine (grammar_of root.now) slots.old }
     ensures read { IfOk result (λ v. NodeRead (grammar_of root.now) (grammar_of node.now) (data_of v) slots.old slots.new cur.old cur.new) }

@@ -13,42 +13,12 @@ ghost use Rattle.acn_grammar.specs.Spell.{◌then◌, Padding};
 ghost use Rattle.acn_plain_read.specs.Steps.{IsNumber};
 ghost use Rattle.acn_plain_read.specs.Decoded.{Tells, Fine, FieldsStand, NodeStops, Turn, FieldsStop};
 
-use crate::leaves::named;
+use crate::leaves::read_code;
 use crate::numbers::note;
-use crate::steps::pad;
 use crate::stop::Stop;
 use acn_bits::ReadCursor;
-use acn_grammar::{Body, Node, NumLeaf, ReadFault};
-use acn_ints::read_num;
+use acn_grammar::{Body, Node, NumLeaf};
 use acn_num::{Path, Row};
-
-// The number of a field, behind its padding.
-fn read_code(
-    cur: &mut ReadCursor<'_>,
-    align: u32,
-    leaf: &NumLeaf,
-    inside: bool,
-) -> Result<i128, Stop>
-    requires some { 0 < align }
-    requires fine { IsTrue (num_fine leaf.now) }
-    ensures read { IfOk result (λ x. Reads (λ bs. (Padding Any align then (λ at' cs. Code Any leaf.now x cs)) cur.old.at bs) cur.old cur.new) }
-    ensures fails { IfErr result (λ e. Tells e (λ r at. (root : Grammar) (path : List ℕ) (t : Env) → Fine root t → NodeStops root (a_node align (num leaf.now)) inside path t cur.old path r at)) }
-{
-    let from = cur.reach();
-    match pad(cur, align) {
-        Ok(()) => match read_num(cur, leaf) {
-            Ok(x) => Ok(x),
-            Err(fault) => Err(Stop::Fails {
-                reason: named(inside, fault),
-                at: from,
-            }),
-        },
-        Err(_) => Err(Stop::Fails {
-            reason: named(inside, ReadFault::Short),
-            at: from,
-        }),
-    }
-}
 
 // The leaf of a field.
 fn leaf_of(node: &Node) -> &NumLeaf
@@ -85,13 +55,14 @@ pub fn read_inserted(
     ensures fails { IfErr result (λ e. Tells e (λ r at. (place : ℕ) (name : List ℕ) (fs : Fields) (flags : List Bool) → FieldsStop (grammar_of root.now) (inserted name (grammar_of node.now) slot fs) flags (record { path = path.old; place = place; inside = inside }) cur.old.origin k slots.old cur.old path.new r at)) }
     ensures path { OnOk result (path.new ≡ path.old) }
 {
-    path.push(k);
     match read_code(cur, node.align, leaf_of(node), inside) {
         Ok(x) => {
-            path.pop();
             note(slots, slot, &x)?;
             Ok(())
         }
-        Err(stop) => Err(stop),
+        Err(stop) => {
+            path.push(k);
+            Err(stop)
+        }
     }
 }

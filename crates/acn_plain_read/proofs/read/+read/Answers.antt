@@ -6,7 +6,7 @@ use Rattle.acn_grammar.specs.View.{grammar_of, form_of, data_of, field_of, field
 use Rattle.acn_grammar.specs.declared.node.Node.{the_lemmas}
 use Rattle.acn_grammar.proofs.Views.{view_node, view_component, view_inserted}
 use Rattle.acn_plain_read.proofs.Runs.{contained_rule, contained_inner, contained_read, contained_overlong, contained_fails, contained_short, contained_unsized, list_sizing, list_rule, list_inner, mapped_length, list_read, list_fails, list_unsized, view_list_value, no_run, run_stands, run_stops_at, run_next}
-use Rattle.acn_plain_read.specs.Decoded.{FormRead, FormStops, InnerStands}
+use Rattle.acn_plain_read.specs.Decoded.{FormRead, FormStops}
 use Rattle.acn_grammar.specs.Grammar.{Data, list, contained}
 use Rattle.acn_grammar.specs.LeafFails.{content_size}
 use Rattle.std.proofs.Common.{length-append}
@@ -19,7 +19,8 @@ use Rattle.acn_grammar.specs.Grammar.{Form, choice}
 use Rattle.acn_grammar.specs.View.{alternatives_view}
 use Rattle.acn_plain_read.proofs.EndReads.{end_stops_to, none_stops_to, next_fails_to, ended_list, ended_fails}
 use Rattle.acn_plain_read.proofs.SlotTurns.{component_read}
-use Rattle.acn_grammar.specs.Grammar.{octets, bits, text}
+use Rattle.acn_grammar.specs.Grammar.{num, octets, bits, text}
+use Rattle.acn_grammar.specs.ItemsNamed.{ItemsNamed}
 use Rattle.acn_plain_read.proofs.StringReads.{octets_rule, bits_rule, text_rule, view_octets, view_bits, view_text, form_passed_at, form_fails_at}
 use Rattle.acn_plain_read.specs.Steps.{noted_by}
 use Rattle.acn_grammar.specs.Grammar.{component}
@@ -27,7 +28,7 @@ use Rattle.std.proofs.Common.{ℤ, Some}
 use Rattle.acn_plain_read.proofs.Nodes.{on_ok_map}
 use Rattle.acn_plain_read.specs.Decoded.{NodeRead, NodeStops}
 use Rattle.acn_plain_read.specs.Present.{there_now}
-use Rattle.acn_plain_read.proofs.Nodes.{node_room, tells_map, stop_map, ok_map, node_read, node_fails_at, node_short_at}
+use Rattle.acn_plain_read.proofs.Nodes.{node_room, node_align, leaf_fine, node_of_number, inner_node, tells_map, stop_map, ok_map, node_read, node_fails_at, node_short_at}
 use Rattle.acn_plain_read.proofs.Turns.{bit_is, there_told, away_turn, component_stops, no_turn, depth_is}
 use Rattle.std.proofs.Common.{map, drop, arith}
 use Rattle.std.specs.Prelude.{option_map}
@@ -43,35 +44,44 @@ use Rattle.acn_plain_read.proofs.read.+read.Goals as goal
 pub read_component-is_there-requires : goal.read_component-is_there-requires
 read_component-is_there-requires t c = let r = c.requires.ready in bit_is (grammar_of c.args.root.now) c.args.presence.now [] (grammar_of c.args.node.now) None c.args.slot r.1 c.args.flags.now.rest r.3
 
-pub read_component-read_node-requires : goal.read_component-read_node-requires
-read_component-read_node-requires t c =
-    let r = c.requires.ready in (
-      search (rules, the_lemmas),
-      (
-        (r.0, subst (λ (n : ℕ). NodeStands (grammar_of c.args.root.now) n (grammar_of c.args.node.now) c.args.slots.now r.0) (depth_is c.args.path.now c.push.new.self c.args.k c.push.ensures) (record { known = r.2.known; noted = r.2.noted; is = r.2.is.3 })),
-        (
-          c.requires.named,
-          c.requires.fine,
-        ),
-      ),
-    )
+pub read_component-read_present-requires : goal.read_component-read_present-requires
+read_component-read_present-requires t c = let r = c.requires.ready in (search (rules, the_lemmas), ((r.0, record { known = r.2.known; noted = r.2.noted; is = r.2.is.3 }), (c.requires.named, c.requires.fine)))
 
 pub read_component-returns-in_ok-note-in-Ok-clause-read : goal.read_component-returns-in_ok-note-in-Ok-clause-read
 read_component-returns-in_ok-note-in-Ok-clause-read t c place name default fs =
     let r = c.requires.ready in
     let yes' : there_now c.args.presence.now c.args.slots.now c.args.flags.now.rest ≡ true = ap (λ x. there_now c.args.presence.now x c.args.flags.now.rest) (sym c.items.ensures) ∙ (sym c.is_there.ensures.there ∙ c.if-is_there.true) in
-    subst (λ (x : List (ℕ × ℤ)). Turn (grammar_of c.args.root.now) (record { path = c.args.path.now; place = place; inside = c.args.inside }) c.args.cur.now.origin c.args.k (suc c.args.k) (component name (grammar_of c.args.node.now) c.args.presence.now default c.args.slot fs) fs (Some (data_of c.in-Ok.value) ∷ []) c.args.slots.now x c.args.flags.now.rest c.is_there.new.flags.rest c.args.cur.now c.read_node.new.cur)
-    (sym (c.in_ok-note-in-Ok.ensures ∙ ap (λ (x : ℤ). noted_by c.args.slot x c.read_node.new.slots) (to_z-of_z w128 c.number.result (record { sfits = search rules }) ∙ c.number.ensures)))
-    (component_read (grammar_of c.args.root.now) (record { path = c.args.path.now; place = place; inside = c.args.inside }) c.args.cur.now.origin c.args.k name (grammar_of c.args.node.now) c.args.presence.now default c.args.slot fs r.1 (data_of c.in-Ok.value) c.args.slots.now c.read_node.new.slots c.args.flags.now.rest c.is_there.new.flags.rest c.args.cur.now c.read_node.new.cur (suc (length c.args.path.now)) r.0 r.2 c.requires.named
+    subst (λ (x : List (ℕ × ℤ)). Turn (grammar_of c.args.root.now) (record { path = c.args.path.now; place = place; inside = c.args.inside }) c.args.cur.now.origin c.args.k (suc c.args.k) (component name (grammar_of c.args.node.now) c.args.presence.now default c.args.slot fs) fs (Some (data_of c.in-Ok.value) ∷ []) c.args.slots.now x c.args.flags.now.rest c.is_there.new.flags.rest c.args.cur.now c.read_present.new.cur)
+    (sym (c.in_ok-note-in-Ok.ensures ∙ ap (λ (x : ℤ). noted_by c.args.slot x c.read_present.new.slots) (to_z-of_z w128 c.number.result (record { sfits = search rules }) ∙ c.number.ensures)))
+    (component_read (grammar_of c.args.root.now) (record { path = c.args.path.now; place = place; inside = c.args.inside }) c.args.cur.now.origin c.args.k name (grammar_of c.args.node.now) c.args.presence.now default c.args.slot fs r.1 (data_of c.in-Ok.value) c.args.slots.now c.read_present.new.slots c.args.flags.now.rest c.is_there.new.flags.rest c.args.cur.now c.read_present.new.cur (suc (length c.args.path.now)) r.0 r.2 c.requires.named
     c.is_there.ensures.flags (λ env f. (there_told (grammar_of c.args.root.now) r.2.known c.args.slots.now env c.args.presence.now c.args.flags.now.rest r.2.noted.has r.2.is.0 f).0 yes') c.in-Ok.ensures.read)
 
 pub read_component-returns-in-Err-clause-fails : goal.read_component-returns-in-Err-clause-fails
 read_component-returns-in-Err-clause-fails t c =
     let r = c.requires.ready in
     let yes' : there_now c.args.presence.now c.args.slots.now c.args.flags.now.rest ≡ true = ap (λ x. there_now c.args.presence.now x c.args.flags.now.rest) (sym c.items.ensures) ∙ (sym c.is_there.ensures.there ∙ c.if-is_there.true) in
-    tells_map c.in-Err.stop _ _ (λ q at s place name default fs. component_stops (grammar_of c.args.root.now) (record { path = c.args.path.now; place = place; inside = c.args.inside }) c.args.cur.now.origin c.args.k name (grammar_of c.args.node.now) c.args.presence.now default c.args.slot fs c.args.slots.now c.args.flags.now.rest c.args.cur.now c.read_node.new.path q at
+    tells_map c.in-Err.stop _ _ (λ q at s place name default fs. component_stops (grammar_of c.args.root.now) (record { path = c.args.path.now; place = place; inside = c.args.inside }) c.args.cur.now.origin c.args.k name (grammar_of c.args.node.now) c.args.presence.now default c.args.slot fs c.args.slots.now c.args.flags.now.rest c.args.cur.now c.read_present.new.path q at
     refl (λ env f. (there_told (grammar_of c.args.root.now) r.2.known c.args.slots.now env c.args.presence.now c.args.flags.now.rest r.2.noted.has r.2.is.0 f).0 yes')
-    (subst (λ (p : List ℕ). NodeStops (grammar_of c.args.root.now) (grammar_of c.args.node.now) c.args.inside p c.args.slots.now c.args.cur.now c.read_node.new.path q at) c.push.ensures s)) c.in-Err.ensures.fails
+    s) c.in-Err.ensures.fails
+
+pub read_present-read_number-requires : goal.read_present-read_number-requires
+read_present-read_number-requires t c =
+    let r = c.requires.ready in
+    let e = node_of_number c.args.node.now c.in-Num.leaf c.in-Num.is in
+    record {
+      room = node_room (grammar_of c.args.root.now) (grammar_of c.args.node.now) (length c.args.path.now) r.0 r.1.known r.1.is;
+      some = node_align (grammar_of c.args.root.now) (grammar_of c.args.node.now) c.args.node.now.align (num c.in-Num.leaf) _ r.0 r.1.known e r.1.is;
+      fine = leaf_fine (grammar_of c.args.root.now) (grammar_of c.args.node.now) c.args.node.now.align c.in-Num.leaf _ r.0 r.1.known e r.1.is;
+      named = subst ItemsNamed e c.requires.named;
+    }
+
+pub read_present-returns-in-Num-clause-read : goal.read_present-returns-in-Num-clause-read
+read_present-returns-in-Num-clause-read t c =
+    ok_map c.read_number.result _ _ (λ v f. subst (λ (g : Grammar). NodeRead (grammar_of c.args.root.now) g (data_of v) c.args.slots.now c.args.slots.now c.args.cur.now c.read_number.new.cur) (sym (node_of_number c.args.node.now c.in-Num.leaf c.in-Num.is)) (f (grammar_of c.args.root.now) c.args.slots.now c.requires.fine)) c.read_number.ensures.read
+
+pub read_present-returns-in-Num-clause-fails : goal.read_present-returns-in-Num-clause-fails
+read_present-returns-in-Num-clause-fails t c =
+    stop_map c.read_number.result _ _ (λ q at s. subst (λ (g : Grammar). NodeStops (grammar_of c.args.root.now) g c.args.inside (c.args.path.now ++ c.args.k ∷ []) c.args.slots.now c.args.cur.now c.read_number.new.path q at) (sym (node_of_number c.args.node.now c.in-Num.leaf c.in-Num.is)) (s (grammar_of c.args.root.now) c.args.slots.now c.requires.fine)) c.read_number.ensures.fails
 
 pub read_component-returns-else-is_there-clause-read : goal.read_component-returns-else-is_there-clause-read
 read_component-returns-else-is_there-clause-read t c place name default fs =
@@ -210,14 +220,14 @@ pub read_body-returns-in-Bits-clause-fails : goal.read_body-returns-in-Bits-clau
 read_body-returns-in-Bits-clause-fails t c = form_fails_at (grammar_of c.args.root.now) (bits c.in-Bits.sizing) (form_of c.args.body.now) (record { path = c.args.path.now; place = c.args.from; inside = c.args.inside }) c.args.slots.now c.items-in-Bits.result.now c.args.cur.now c.read_bits.result (ap form_of c.in-Bits.is ∙ view_bits c.in-Bits.sizing) c.items-in-Bits.ensures c.requires.fine c.read_bits.ensures.fails
 
 pub read_child-push-requires : goal.read_child-push-requires
-read_child-push-requires t c = let r = c.requires.ready in node_room (grammar_of c.args.root.now) (grammar_of c.args.node.now) (length c.args.path.now) r.0 r.1.known r.1.is.1
+read_child-push-requires t c = let r = c.requires.ready in node_room (grammar_of c.args.root.now) (grammar_of c.args.node.now) (length c.args.path.now) r.0 r.1.known r.1.is
 
 pub read_child-read_node-requires : goal.read_child-read_node-requires
 read_child-read_node-requires t c =
     let r = c.requires.ready in (
       search (rules, the_lemmas),
       (
-        (r.0, subst (λ (n : ℕ). NodeStands (grammar_of c.args.root.now) n (grammar_of c.args.node.now) c.args.slots.now r.0) (depth_is c.args.path.now c.push.new.self c.args.k c.push.ensures) (record { known = r.1.known; noted = r.1.noted; is = r.1.is.1 })),
+        (r.0, subst (λ (n : ℕ). NodeStands (grammar_of c.args.root.now) n (grammar_of c.args.node.now) c.args.slots.now r.0) (depth_is c.args.path.now c.push.new.self c.args.k c.push.ensures) (record { known = r.1.known; noted = r.1.noted; is = r.1.is })),
         (
           c.requires.named,
           c.requires.fine,
@@ -233,7 +243,7 @@ pub read_contained-read_size-requires : goal.read_contained-read_size-requires
 read_contained-read_size-requires t c = record { fine = c.requires.ready.1.is.0; read = contained_rule (grammar_of c.args.root.now) c.args.sizing.now (grammar_of c.args.node.now) (length c.args.path.now) c.args.slots.now c.items.result.now c.items.ensures c.requires.ready c.requires.fine }
 
 pub read_contained-read_child-requires : goal.read_contained-read_child-requires
-read_contained-read_child-requires t c = (search (rules, the_lemmas), (contained_inner (grammar_of c.args.root.now) c.args.sizing.now (grammar_of c.args.node.now) (length c.args.path.now) c.args.slots.now c.requires.ready, (c.requires.named, c.requires.fine)))
+read_contained-read_child-requires t c = (search (rules, the_lemmas), (inner_node (grammar_of c.args.root.now) (grammar_of c.args.node.now) (suc (length c.args.path.now)) c.args.slots.now (contained_inner (grammar_of c.args.root.now) c.args.sizing.now (grammar_of c.args.node.now) (length c.args.path.now) c.args.slots.now c.requires.ready), (c.requires.named, c.requires.fine)))
 
 pub read_contained-returns-then-left-lt8-clause-read : goal.read_contained-returns-then-left-lt8-clause-read
 read_contained-returns-then-left-lt8-clause-read t c =
@@ -298,8 +308,8 @@ read_run-read_child-requires t c =
     let p = l.invariant.turn 0 in (
       search (rules, the_lemmas),
       (
-        subst (λ (path : List ℕ). (around : List ℕ) × InnerStands (grammar_of c.args.root.now) (suc (length path)) (grammar_of c.args.node.now) l.slots around) (sym l.invariant.path)
-            (run_stands (grammar_of c.args.root.now) (record { path = c.args.path.now; place = 0; inside = c.args.inside }) c.args.cur.now.origin (grammar_of c.args.node.now) 0 (suc (length c.args.path.now)) (map data_of l.values) c.args.slots.now l.slots c.args.cur.now l.cur p c.requires.ready),
+        subst (λ (path : List ℕ). (around : List ℕ) × NodeStands (grammar_of c.args.root.now) (suc (length path)) (grammar_of c.args.node.now) l.slots around) (sym l.invariant.path)
+            (inner_node (grammar_of c.args.root.now) (grammar_of c.args.node.now) (suc (length c.args.path.now)) l.slots (run_stands (grammar_of c.args.root.now) (record { path = c.args.path.now; place = 0; inside = c.args.inside }) c.args.cur.now.origin (grammar_of c.args.node.now) 0 (suc (length c.args.path.now)) (map data_of l.values) c.args.slots.now l.slots c.args.cur.now l.cur p c.requires.ready)),
         (c.requires.named, p.fine),
       ),
     )
@@ -381,7 +391,7 @@ pub read_alternative-read_child-requires : goal.read_alternative-read_child-requ
 read_alternative-read_child-requires t c = (
   search (rules, the_lemmas, alternative_lemmas),
   (
-    case_inner (grammar_of c.args.root.now) c.args.alternatives.now c.args.i c.in-Some.alternative.now (suc (length c.args.path.now)) c.args.slots.now (case_at c.args.alternatives.now c.args.i c.in-Some.alternative.now _ c.requires.there c.in-Some.ensures.lookup.1) c.requires.ready,
+    inner_node (grammar_of c.args.root.now) (grammar_of c.in-Some.alternative.now.node) (suc (length c.args.path.now)) c.args.slots.now (case_inner (grammar_of c.args.root.now) c.args.alternatives.now c.args.i c.in-Some.alternative.now (suc (length c.args.path.now)) c.args.slots.now (case_at c.args.alternatives.now c.args.i c.in-Some.alternative.now _ c.requires.there c.in-Some.ensures.lookup.1) c.requires.ready),
     (
       view_named c.args.alternatives.now c.args.i c.in-Some.alternative.now (case_at c.args.alternatives.now c.args.i c.in-Some.alternative.now _ c.requires.there c.in-Some.ensures.lookup.1) c.requires.named,
       c.requires.fine,
@@ -417,8 +427,8 @@ read_elements-read_child-requires t c =
     let p = l.invariant.turn 0 in (
       search (rules, the_lemmas),
       (
-        subst (λ (path : List ℕ). (around : List ℕ) × InnerStands (grammar_of c.args.root.now) (suc (length path)) (grammar_of c.args.node.now) l.slots around) (sym l.invariant.path)
-            (run_stands (grammar_of c.args.root.now) (record { path = c.args.path.now; place = 0; inside = c.args.inside }) c.args.cur.now.origin (grammar_of c.args.node.now) 0 (suc (length c.args.path.now)) (map data_of l.values) c.args.slots.now l.slots c.args.cur.now l.cur p c.requires.ready),
+        subst (λ (path : List ℕ). (around : List ℕ) × NodeStands (grammar_of c.args.root.now) (suc (length path)) (grammar_of c.args.node.now) l.slots around) (sym l.invariant.path)
+            (inner_node (grammar_of c.args.root.now) (grammar_of c.args.node.now) (suc (length c.args.path.now)) l.slots (run_stands (grammar_of c.args.root.now) (record { path = c.args.path.now; place = 0; inside = c.args.inside }) c.args.cur.now.origin (grammar_of c.args.node.now) 0 (suc (length c.args.path.now)) (map data_of l.values) c.args.slots.now l.slots c.args.cur.now l.cur p c.requires.ready)),
         (c.requires.named, p.fine),
       ),
     )

@@ -4,7 +4,7 @@ use Rattle.std.specs.Int.{w128}
 use Rattle.acn_grammar.specs.Grammar.{num}
 use Rattle.acn_plain_read.proofs.Nodes.{node_short}
 use Rattle.acn_plain_read.proofs.SlotTurns.{code_read, code_fails}
-use Rattle.acn_plain_read.proofs.slot.read_code.Goals as goal
+use Rattle.acn_plain_read.proofs.leaves.read_code.Goals as goal
 
 pub returns-in-Ok-read_num-clause-read : goal.returns-in-Ok-read_num-clause-read
 returns-in-Ok-read_num-clause-read c =
