@@ -215,6 +215,8 @@ fn read_fields(
     Ok(places)
 }
 
+// One loop calls it, with more parameters than there are registers, so it is put in there.
+#[inline(always)]
 #[cycle(read)]
 fn read_field(
     alloc: Global,
