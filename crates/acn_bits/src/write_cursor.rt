@@ -1,8 +1,10 @@
-ghost use Rattle.std.specs.Prelude.{◌≡◌, ◌+◌, ◌-◌, ◌*◌, ◌<◌, ◌≤◌, ◌^◌, false, replicate};
+ghost use Rattle.std.specs.Prelude.{◌≡◌, ◌+◌, ◌-◌, ◌*◌, ◌<◌, ◌≤◌, ◌^◌, ◌++◌, ◌∷◌, [], false, length, remove, replicate, slice_get, Some, None};
+ghost use Rattle.acn_bits.specs.Overwrite.{Gap};
 ghost use Rattle.acn_num.specs.Bits.{low_bits};
 ghost use Rattle.acn_bits.specs.declared.word.TheConstants.{WORD_BITS};
 
 use crate::part::put_bits;
+use arrayvec::ArrayVec;
 use std::marker::Model;
 
 /// Bits that are zeros until they are filled. It can't be dropped or copied: only `fill` spends it.
@@ -114,5 +116,97 @@ impl<'a, const N: usize> WriteCursor<'a, N> {
         let Hole { place, width } = hole;
         let buf = &mut *self.buf;
         put_bits(buf, place, width, v);
+    }
+}
+
+// A hole that is kept, or a place without one.
+#[derive(Clone, Copy, Default)]
+struct Kept {
+    hole: bool,
+    place: u64,
+    width: u32,
+}
+
+/// Holes that are kept in an order until they are filled, with places of no hole between.
+///
+/// It can't be dropped or copied, and `close` ends it only where nothing is kept: so each hole that is
+/// kept is given back, and `fill` is still all that spends one. It holds at most `S`, and takes no memory.
+pub struct Holes<const S: usize> {
+    kept: ArrayVec<Kept, S>,
+}
+
+impl<const S: usize> Model for Holes<S> {
+    ghost use Rattle.std.specs.Prelude.{List, Option, map};
+    ghost use Rattle.acn_bits.specs.Overwrite.{Gap};
+    ghost use Rattle.acn_bits.specs.Kept.{kept_gap, AreNarrow};
+
+    ghost Value = { List (Option Gap) };
+
+    ghost view = { λ h. map kept_gap h.kept.items };
+
+    ghost invariant = { λ h. AreNarrow h.kept.items };
+}
+
+impl<const S: usize> Holes<S> {
+    /// Nothing is kept.
+    pub fn new() -> Holes<S>
+        ensures { result ≡ [] }
+    {
+        Holes {
+            kept: ArrayVec::new(),
+        }
+    }
+
+    /// Keeps a hole behind the others.
+    pub fn keep(&mut self, hole: Hole)
+        requires { length self.old < S }
+        ensures { self.new ≡ self.old ++ Some hole ∷ [] }
+    {
+        let Hole { place, width } = hole;
+        self.kept.push(Kept {
+            hole: true,
+            place,
+            width,
+        });
+    }
+
+    /// Keeps a place without a hole behind the others.
+    pub fn skip(&mut self)
+        requires { length self.old < S }
+        ensures { self.new ≡ self.old ++ None ∷ [] }
+    {
+        self.kept.push(Kept {
+            hole: false,
+            place: 0,
+            width: 0,
+        });
+    }
+
+    /// Gives back the hole at a place of the order, and keeps it no more. Those behind it move up.
+    pub fn release(&mut self, at: usize) -> Hole
+        requires { (gap : Gap) × (slice_get self.old at ≡ Some (Some gap)) }
+        ensures hole { slice_get self.old at ≡ Some (Some result) }
+        ensures rest { self.new ≡ remove self.old at }
+    {
+        let kept = self.kept.remove(at);
+        Hole {
+            place: kept.place,
+            width: kept.width,
+        }
+    }
+
+    /// Takes away a place without a hole. Those behind it move up.
+    pub fn unskip(&mut self, at: usize)
+        requires { slice_get self.old at ≡ Some None }
+        ensures { self.new ≡ remove self.old at }
+    {
+        let _none = self.kept.remove(at);
+    }
+
+    /// Ends it, where nothing is kept.
+    pub fn close(self)
+        requires { self ≡ [] }
+    {
+        let Holes { kept: _ } = self;
     }
 }

@@ -1,0 +1,6 @@
+mod Spots
+mod Changes
+mod Pools
+mod Few
+mod Tied
+mod Own
