@@ -13,7 +13,7 @@ use Rattle.acn_grammar.specs.Grammar.{Grammar, Data}
 use Rattle.acn_grammar.specs.Meets as meets
 use Rattle.acn_grammar.specs.Refused.{Refused}
 use Rattle.acn_grammar.specs.Spell.{Spell}
-use Rattle.acn_plain_read.specs.Answers.{OnlyFront}
+use Rattle.acn_reads.specs.Answers.{OnlyFront}
 use Rattle.acn_plain.specs.declared.encode.PlainFault.{PlainFault}
 use Rattle.acn_plain.specs.declared.encode.PlainFault.TheVariants.{Unfit, NoMemory}
 

@@ -5,8 +5,8 @@ ghost use Rattle.acn_num.specs.Bits.{bits};
 ghost use Rattle.acn_grammar.specs.Front.{Front};
 ghost use Rattle.acn_grammar.specs.ItemsNamed.{ItemsNamed};
 ghost use Rattle.acn_grammar.specs.View.{grammar_of, data_of};
-ghost use Rattle.acn_plain_read.specs.declared.decode.TheConstants.{MOST_PLAIN_BYTES};
-ghost use Rattle.acn_plain_read.specs.Answers.{OnlyFault, OnlyFront, Refuses};
+ghost use Rattle.acn_reads.specs.declared.answers.TheConstants.{MOST_BYTES};
+ghost use Rattle.acn_reads.specs.Answers.{OnlyFault, OnlyFront, Refuses};
 
 use acn_check::Checked;
 use acn_plain_read::read_packet;
@@ -21,7 +21,7 @@ use std::alloc::Global;
 /// the bit at which that node begins. `NoMemory` comes where memory runs out. The order of reasons is this profile's own.
 pub fn plain_decode(alloc: Global, checked: &Checked, bytes: &[u8]) -> Result<(Value, u64), Refuse>
     requires named { ItemsNamed (grammar_of checked.now.tree.root) }
-    requires few { length bytes.now ≤ MOST_PLAIN_BYTES }
+    requires few { length bytes.now ≤ MOST_BYTES }
     ensures front { IfOk result (λ pair. Front (grammar_of checked.now.tree.root) (bits bytes.now) (data_of pair.0) pair.1) }
     ensures alone { IfOk result (λ pair. OnlyFront (grammar_of checked.now.tree.root) (bits bytes.now) (data_of pair.0) pair.1) }
     ensures fault { IfErr result (Refuses (grammar_of checked.now.tree.root) (bits bytes.now)) }

@@ -5,6 +5,6 @@ mod decode;
 mod encode;
 mod refusal;
 
-pub use acn_plain_read::MOST_PLAIN_BYTES;
+pub use acn_reads::MOST_BYTES;
 pub use decode::plain_decode;
 pub use encode::{PlainFault, plain_encode};

@@ -1,13 +1,20 @@
 //! Answers to cases.
 
+ghost use Rattle.std.specs.Prelude.{◌≤◌, length};
+ghost use Rattle.acn_grammar.specs.ItemsNamed.{ItemsNamed};
+ghost use Rattle.acn_grammar.specs.View.{grammar_of};
+ghost use Rattle.acn_reads.specs.declared.answers.TheConstants.{MOST_BYTES};
+
 use crate::drawn::drawn_told;
 use acn_case_lines::{bits_in_words, octets_of, small, wide, word};
 use acn_case_trees::{Built, Sheet, path_in_words, unfit_in_words, value_in_words, value_of};
 use acn_check::{Checked, check};
 use acn_num::{Boxed, NoMemory};
 use acn_plain::{PlainFault, plain_decode, plain_encode};
-use acn_plain_read::MOST_PLAIN_BYTES;
+use acn_plan::{Plan, compile};
+use acn_reads::MOST_BYTES;
 use acn_tree::{Fault, Reason, Refuse, Tree, Value, items_named, shaped};
+use acn_unpack::{skim, unpack};
 use std::alloc::Global;
 
 fn reason_in_words(alloc: Global, reason: &Reason) -> Result<String, NoMemory> {
@@ -46,18 +53,58 @@ fn found(alloc: Global, value: &Value, bits: u64) -> Result<String, NoMemory> {
     Ok(format!(in alloc; "{bits} bits,{words}")?)
 }
 
-// What stands at the front of the octets.
-fn read(alloc: Global, checked: &Checked, octets: &[u8]) -> Result<String, NoMemory> {
-    if !items_named(checked.tree()) {
-        return Ok(format!(in alloc; "not named")?);
-    }
-    if octets.len() > MOST_PLAIN_BYTES {
-        return Ok(format!(in alloc; "too many octets")?);
-    }
+// What a walk over the tree reads.
+fn by_tree(alloc: Global, checked: &Checked, octets: &[u8]) -> Result<String, NoMemory>
+    requires named { ItemsNamed (grammar_of checked.now.tree.root) }
+    requires few { length octets.now ≤ MOST_BYTES }
+{
     match plain_decode(alloc, checked, octets) {
         Ok((value, bits)) => found(alloc, &value, bits),
         Err(refuse) => refused(alloc, refuse),
     }
+}
+
+// What a walk over the steps reads.
+fn by_steps(alloc: Global, plan: &Plan, octets: &[u8]) -> Result<String, NoMemory>
+    requires few { length octets.now ≤ MOST_BYTES }
+{
+    match unpack(alloc, plan, octets) {
+        Ok((value, bits)) => found(alloc, &value, bits),
+        Err(refuse) => refused(alloc, refuse),
+    }
+}
+
+// What a walk over the steps that keeps nothing says.
+fn skimmed(alloc: Global, plan: &Plan, octets: &[u8]) -> Result<String, NoMemory>
+    requires few { length octets.now ≤ MOST_BYTES }
+{
+    match skim(plan, octets) {
+        Ok(bits) => Ok(format!(in alloc; "{bits} bits,")?),
+        Err(fault) => fault_in_words(alloc, &fault),
+    }
+}
+
+// Whether what a reader without values says is what is said of the whole, or its front up to the value.
+fn is_said_of(alone: &str, whole: &str) -> bool {
+    alone == whole || alone.ends_with(',') && whole.starts_with(alone)
+}
+
+// What stands at the front of the octets: said once where the three readers agree.
+fn read(alloc: Global, checked: &Checked, octets: &[u8]) -> Result<String, NoMemory> {
+    if !items_named(checked.tree()) {
+        return Ok(format!(in alloc; "not named")?);
+    }
+    if octets.len() > MOST_BYTES {
+        return Ok(format!(in alloc; "too many octets")?);
+    }
+    let plan = compile(alloc, checked)?;
+    let tree = by_tree(alloc, checked, octets)?;
+    let steps = by_steps(alloc, &plan, octets)?;
+    let alone = skimmed(alloc, &plan, octets)?;
+    if tree.as_str() == steps.as_str() && is_said_of(alone.as_str(), tree.as_str()) {
+        return Ok(tree);
+    }
+    Ok(format!(in alloc; "by the tree {tree}, by steps {steps}, skimmed {alone}")?)
 }
 
 // What is written for a value.

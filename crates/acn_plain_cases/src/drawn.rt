@@ -7,8 +7,10 @@ use acn_case_trees::value_in_words;
 use acn_check::Checked;
 use acn_num::{BitList, Boxed, NoMemory};
 use acn_plain::{PlainFault, plain_decode, plain_encode};
-use acn_plain_read::MOST_PLAIN_BYTES;
+use acn_plan::{Plan, compile};
+use acn_reads::MOST_BYTES;
 use acn_tree::{Draw, Refuse, Value, items_named, make, shaped};
+use acn_unpack::{skim, unpack};
 use std::alloc::Global;
 
 /// What became of a drawn value.
@@ -39,20 +41,14 @@ fn filled_octets(alloc: Global, list: &BitList) -> Result<Vec<u8>, NoMemory> {
     Ok(octets)
 }
 
-// Whether the octets begin with the value, of so many bits.
-fn begin_with(
+// Whether it is the value, of so many bits.
+fn is_read(
     alloc: Global,
-    checked: &Checked,
-    octets: &[u8],
+    read: Result<(Value, u64), Refuse>,
     value: &Value,
     length: usize,
-) -> Result<bool, NoMemory>
-    requires { ItemsNamed (grammar_of checked.now.tree.root) }
-{
-    if octets.len() > MOST_PLAIN_BYTES {
-        return Ok(false);
-    }
-    match plain_decode(alloc, checked, octets) {
+) -> Result<bool, NoMemory> {
+    match read {
         Ok((read, bits)) => {
             let words = value_in_words(alloc, &read)?;
             let wanted = value_in_words(alloc, value)?;
@@ -63,7 +59,35 @@ fn begin_with(
     }
 }
 
-fn outcome_of(alloc: Global, checked: &Checked, value: &Value) -> Result<Outcome, NoMemory>
+// Whether the octets begin with the value, of so many bits, by each of the three readers.
+fn begin_with(
+    alloc: Global,
+    checked: &Checked,
+    plan: &Plan,
+    octets: &[u8],
+    value: &Value,
+    length: usize,
+) -> Result<bool, NoMemory>
+    requires { ItemsNamed (grammar_of checked.now.tree.root) }
+{
+    if octets.len() > MOST_BYTES {
+        return Ok(false);
+    }
+    if skim(plan, octets).ok() != Some(length as u64) {
+        return Ok(false);
+    }
+    if !is_read(alloc, plain_decode(alloc, checked, octets), value, length)? {
+        return Ok(false);
+    }
+    is_read(alloc, unpack(alloc, plan, octets), value, length)
+}
+
+fn outcome_of(
+    alloc: Global,
+    checked: &Checked,
+    plan: &Plan,
+    value: &Value,
+) -> Result<Outcome, NoMemory>
     requires { ItemsNamed (grammar_of checked.now.tree.root) }
 {
     if !shaped(checked.tree().root(), value) {
@@ -72,7 +96,7 @@ fn outcome_of(alloc: Global, checked: &Checked, value: &Value) -> Result<Outcome
     match plain_encode(alloc, checked, value) {
         Ok(list) => {
             let octets = filled_octets(alloc, &list)?;
-            if begin_with(alloc, checked, octets.as_slice(), value, list.len())? {
+            if begin_with(alloc, checked, plan, octets.as_slice(), value, list.len())? {
                 Ok(Outcome::ReadAgain)
             } else {
                 Ok(Outcome::Lost)
@@ -83,11 +107,16 @@ fn outcome_of(alloc: Global, checked: &Checked, value: &Value) -> Result<Outcome
     }
 }
 
-fn next_outcome(alloc: Global, checked: &Checked, draw: &mut Draw) -> Result<Outcome, NoMemory>
+fn next_outcome(
+    alloc: Global,
+    checked: &Checked,
+    plan: &Plan,
+    draw: &mut Draw,
+) -> Result<Outcome, NoMemory>
     requires { ItemsNamed (grammar_of checked.now.tree.root) }
 {
     let value = Boxed::new(alloc, make(alloc, checked.tree(), draw)?)?;
-    outcome_of(alloc, checked, value.get())
+    outcome_of(alloc, checked, plan, value.get())
 }
 
 // How many of the drawn values went which way.
@@ -120,6 +149,7 @@ pub fn drawn_told(
     if !items_named(checked.tree()) {
         return Ok(format!(in alloc; "not named")?);
     }
+    let plan = compile(alloc, checked)?;
     let mut draw = Draw::new(start);
     let mut counts = Counts {
         read_again: 0,
@@ -127,7 +157,7 @@ pub fn drawn_told(
         lost: 0,
     };
     for _ in 0..count {
-        match next_outcome(alloc, checked, &mut draw)? {
+        match next_outcome(alloc, checked, &plan, &mut draw)? {
             Outcome::ReadAgain => counts.read_again = counts.read_again.saturating_add(1),
             Outcome::Refused => counts.refused = counts.refused.saturating_add(1),
             Outcome::Lost => counts.lost = counts.lost.saturating_add(1),

@@ -1,44 +1,28 @@
 //! The call.
 
-ghost use Rattle.std.specs.Prelude.{◌≡◌, ◌≤◌, ◌^◌, ◌*◌, ℕ, Bool, List, false, [], length, IfOk, IfErr};
+ghost use Rattle.std.specs.Prelude.{◌≡◌, ◌≤◌, ◌*◌, false, [], length, IfOk, IfErr};
 ghost use Rattle.acn_num.specs.Bits.{bits};
-ghost use Rattle.acn_grammar.specs.Fails.{Refusal};
 ghost use Rattle.acn_grammar.specs.Front.{Front};
-ghost use Rattle.acn_grammar.specs.Grammar.{Grammar};
 ghost use Rattle.acn_grammar.specs.ItemsNamed.{ItemsNamed};
 ghost use Rattle.acn_grammar.specs.View.{grammar_of, data_of};
 ghost use Rattle.acn_packet_laws.specs.Laws.{IsAccepted};
-ghost use Rattle.acn_plain_read.specs.Answers.{OnlyFault, OnlyFront, Refuses};
-ghost use Rattle.acn_plain_read.specs.Decoded.{Tells};
-ghost use Rattle.acn_plain_read.specs.declared.decode.TheConstants.{MOST_PLAIN_BYTES};
+ghost use Rattle.acn_reads.specs.Answers.{OnlyFault, OnlyFront, Refuses};
+ghost use Rattle.acn_reads.specs.declared.answers.TheConstants.{MOST_BYTES};
 ghost use Rattle.acn_grammar.specs.Sound.{Sound};
 
 use crate::read::read_node;
-use crate::stop::Stop;
 use acn_bits::ReadCursor;
-use acn_grammar::{Fault, Node, Refuse, Value};
+use acn_grammar::{Node, Refuse, Value};
 use acn_num::{Path, Row};
 use acn_packet_laws::{accepted_is_sound, fronts_exclude_failures, one_failure, one_front};
+use acn_reads::refusal;
 use std::alloc::Global;
-
-/// The most bytes from which a packet is read.
-pub const MOST_PLAIN_BYTES: usize = 4_294_967_296;
-
-// The fault of a walk that stopped at this path.
-fn refusal(stop: Stop, path: Path) -> Refuse
-    ensures { (root : Grammar) (input : List Bool) → Tells stop (λ r at. (reach : ℕ) × Refusal root input (record { path = path; reason = r; at = at }) reach) → Refuses root input result }
-{
-    match stop {
-        Stop::Fails { reason, at } => Refuse::Bad(Fault { path, reason, at }),
-        Stop::NoMemory => Refuse::NoMemory,
-    }
-}
 
 // The same of a root that is sound.
 fn read_root(alloc: Global, root: &Node, bytes: &[u8]) -> Result<(Value, u64), Refuse>
     requires sound { Sound (grammar_of root.now) 0 [] (λ s. false) (grammar_of root.now) }
     requires named { ItemsNamed (grammar_of root.now) }
-    requires few { length bytes.now ≤ MOST_PLAIN_BYTES }
+    requires few { length bytes.now ≤ MOST_BYTES }
     ensures front { IfOk result (λ pair. Front (grammar_of root.now) (bits bytes.now) (data_of pair.0) pair.1) }
     ensures fault { IfErr result (Refuses (grammar_of root.now) (bits bytes.now)) }
 {
@@ -61,7 +45,7 @@ fn read_root(alloc: Global, root: &Node, bytes: &[u8]) -> Result<(Value, u64), R
 pub fn read_packet(alloc: Global, root: &Node, bytes: &[u8]) -> Result<(Value, u64), Refuse>
     requires accepted { IsAccepted (grammar_of root.now) }
     requires named { ItemsNamed (grammar_of root.now) }
-    requires few { length bytes.now ≤ MOST_PLAIN_BYTES }
+    requires few { length bytes.now ≤ MOST_BYTES }
     ensures front { IfOk result (λ pair. Front (grammar_of root.now) (bits bytes.now) (data_of pair.0) pair.1) }
     ensures alone { IfOk result (λ pair. OnlyFront (grammar_of root.now) (bits bytes.now) (data_of pair.0) pair.1) }
     ensures fault { IfErr result (Refuses (grammar_of root.now) (bits bytes.now)) }

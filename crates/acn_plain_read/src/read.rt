@@ -10,27 +10,21 @@ ghost use Rattle.acn_num.specs.declared.limits.TheConstants.{MOST_SIZE};
 ghost use Rattle.acn_num.specs.Ranges.{greatest};
 ghost use Rattle.acn_grammar.specs.Interval.{size_of};
 ghost use Rattle.acn_grammar.specs.declared.node.SizeRule.TheVariants.{Ended};
-ghost use Rattle.acn_plain_read.specs.Choices.{grammar_at};
-ghost use Rattle.acn_plain_read.specs.Ends.{EndedRead};
-ghost use Rattle.acn_plain_read.specs.Decoded.{Tells, Fine, NodeStands, FormStands, FieldsStand, InnerStands, CasesStand, RunTurn, TailStops, counted, ended, NodeRead, FormRead, NodeStops, FormStops, Turn, FieldsStop};
+ghost use Rattle.acn_reads.specs.Choices.{grammar_at};
+ghost use Rattle.acn_reads.specs.Ends.{EndedRead};
+ghost use Rattle.acn_reads.specs.Decoded.{Tells, Fine, NodeStands, FormStands, FieldsStand, InnerStands, CasesStand, RunTurn, TailStops, counted, ended, NodeRead, FormRead, NodeStops, FormStops, Turn, FieldsStop};
 
-use crate::choices::pick;
-use crate::ends::{most_of, no_end, pass_end, pattern_of, stands};
-use crate::leaves::{named, read_leaf, read_number};
-use crate::numbers::{forget, note};
-use crate::presence::{count_of, is_there};
-use crate::sizes::{is_ended, read_size};
 use crate::slot::read_inserted;
-use crate::steps::pad;
-use crate::stop::Stop;
-use crate::strings::{read_bits, read_octets};
-use crate::texts::read_text;
 use acn_bits::ReadCursor;
 use acn_grammar::{
     Alternative, Body, ChoiceRule, Field, Node, Pattern, Presence, ReadFault, Reason, Seq, Sizing,
     Value,
 };
 use acn_num::{Boxed, NoMemory, Path, Row};
+use acn_reads::{
+    Stop, count_of, forget, is_ended, is_there, most_of, named, no_end, note, pad, pass_end,
+    pattern_of, pick, read_bits, read_leaf, read_number, read_octets, read_size, read_text, stands,
+};
 use std::alloc::Global;
 
 /// A node at a path.

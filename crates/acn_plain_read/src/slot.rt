@@ -10,15 +10,13 @@ ghost use Rattle.acn_grammar.specs.declared.node.NumLeaf.{NumLeaf};
 ghost use Rattle.acn_grammar.specs.Leaves.{num_fine};
 ghost use Rattle.acn_grammar.specs.View.{grammar_of};
 ghost use Rattle.acn_grammar.specs.Spell.{◌then◌, Padding};
-ghost use Rattle.acn_plain_read.specs.Steps.{IsNumber};
-ghost use Rattle.acn_plain_read.specs.Decoded.{Tells, Fine, FieldsStand, NodeStops, Turn, FieldsStop};
+ghost use Rattle.acn_reads.specs.Steps.{IsNumber};
+ghost use Rattle.acn_reads.specs.Decoded.{Tells, Fine, FieldsStand, NodeStops, Turn, FieldsStop};
 
-use crate::leaves::read_code;
-use crate::numbers::note;
-use crate::stop::Stop;
 use acn_bits::ReadCursor;
 use acn_grammar::{Body, Node, NumLeaf};
 use acn_num::{Path, Row};
+use acn_reads::{Stop, note, read_code};
 
 // The leaf of a field.
 fn leaf_of(node: &Node) -> &NumLeaf

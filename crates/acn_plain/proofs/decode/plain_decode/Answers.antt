@@ -4,7 +4,7 @@ use Rattle.acn_grammar.specs.View.{grammar_of}
 use Rattle.acn_grammar.specs.declared.node.Node.{Node}
 use Rattle.acn_tree.specs.declared.tree.Tree.{Tree}
 use Rattle.acn_grammar.specs.View.{data_of}
-use Rattle.acn_plain_read.specs.Answers.{OnlyFront}
+use Rattle.acn_reads.specs.Answers.{OnlyFront}
 use Rattle.acn_plain.proofs.decode.plain_decode.Goals as goal
 
 -- the root is that of the tree which was checked

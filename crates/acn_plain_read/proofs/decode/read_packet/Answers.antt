@@ -1,6 +1,6 @@
 use Rattle.acn_num.specs.Bits.{bits}
 use Rattle.acn_grammar.specs.View.{grammar_of}
-use Rattle.acn_plain_read.proofs.Tops.{only_front, only_fault}
+use Rattle.acn_reads.proofs.Tops.{only_front, only_fault}
 use Rattle.acn_plain_read.proofs.decode.read_packet.Goals as goal
 
 pub returns-in-Ok-clause-alone : goal.returns-in-Ok-clause-alone

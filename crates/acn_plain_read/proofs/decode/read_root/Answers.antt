@@ -1,9 +1,9 @@
 use Rattle.std.proofs.Common.{◌≡◌, ◌∙◌, sym, ap, subst, refl, List, ℕ, [], length}
 use Rattle.acn_num.specs.Bits.{bits}
 use Rattle.acn_grammar.specs.View.{grammar_of, data_of}
-use Rattle.acn_plain_read.specs.Decoded.{NodeStands, Fine}
-use Rattle.acn_plain_read.proofs.Nodes.{tells_map}
-use Rattle.acn_plain_read.proofs.Tops.{begins_at, root_stands, root_front, root_fails}
+use Rattle.acn_reads.specs.Decoded.{NodeStands, Fine}
+use Rattle.acn_reads.proofs.Nodes.{tells_map}
+use Rattle.acn_reads.proofs.Tops.{begins_at, root_stands, root_front, root_fails}
 use Rattle.acn_plain_read.proofs.decode.read_root.Goals as goal
 
 pub read_node-requires : goal.read_node-requires

@@ -5,40 +5,40 @@ use Rattle.acn_grammar.specs.Grammar.{Grammar, Fields}
 use Rattle.acn_grammar.specs.View.{grammar_of, form_of, data_of, field_of, fields_view, with_field}
 use Rattle.acn_grammar.specs.declared.node.Node.{the_lemmas}
 use Rattle.acn_grammar.proofs.Views.{view_node, view_component, view_inserted}
-use Rattle.acn_plain_read.proofs.Runs.{contained_rule, contained_inner, contained_read, contained_overlong, contained_fails, contained_short, contained_unsized, list_sizing, list_rule, list_inner, mapped_length, list_read, list_fails, list_unsized, view_list_value, no_run, run_stands, run_stops_at, run_next}
-use Rattle.acn_plain_read.specs.Decoded.{FormRead, FormStops}
+use Rattle.acn_reads.proofs.Runs.{contained_rule, contained_inner, contained_read, contained_overlong, contained_fails, contained_short, contained_unsized, list_sizing, list_rule, list_inner, mapped_length, list_read, list_fails, list_unsized, view_list_value, no_run, run_stands, run_stops_at, run_next}
+use Rattle.acn_reads.specs.Decoded.{FormRead, FormStops}
 use Rattle.acn_grammar.specs.Grammar.{Data, list, contained}
 use Rattle.acn_grammar.specs.LeafFails.{content_size}
 use Rattle.std.proofs.Common.{length-append}
-use Rattle.acn_plain_read.proofs.ChoiceReads.{body_is, body_choice, body_choice_fails, choice_few, choice_rule_known, choice_fits, choice_inner, choice_named, choice_none_at, choice_fails_at, choice_read_at, view_choice, count_cases, case_inner, view_named, case_at, alternative_read, alternative_fails}
+use Rattle.acn_reads.proofs.ChoiceReads.{body_is, body_choice, body_choice_fails, choice_few, choice_rule_known, choice_fits, choice_inner, choice_named, choice_none_at, choice_fails_at, choice_read_at, view_choice, count_cases, case_inner, view_named, case_at, alternative_read, alternative_fails}
 use Rattle.acn_grammar.specs.declared.node.Choice.{out-Choice, size_is-Choice}
 use Rattle.acn_grammar.specs.declared.node.Body.{size-Body}
 use Rattle.acn_grammar.specs.declared.node.Alternative.{the_lemmas as alternative_lemmas}
 use Rattle.acn_grammar.specs.declared.value.Value.{Alt as AltValue}
 use Rattle.acn_grammar.specs.Grammar.{Form, choice}
 use Rattle.acn_grammar.specs.View.{alternatives_view}
-use Rattle.acn_plain_read.proofs.EndReads.{end_stops_to, none_stops_to, next_fails_to, ended_list, ended_fails}
-use Rattle.acn_plain_read.proofs.SlotTurns.{component_read}
+use Rattle.acn_reads.proofs.EndReads.{end_stops_to, none_stops_to, next_fails_to, ended_list, ended_fails}
+use Rattle.acn_reads.proofs.SlotTurns.{component_read}
 use Rattle.acn_grammar.specs.Grammar.{num, octets, bits, text}
 use Rattle.acn_grammar.specs.ItemsNamed.{ItemsNamed}
-use Rattle.acn_plain_read.proofs.StringReads.{octets_rule, bits_rule, text_rule, view_octets, view_bits, view_text, form_passed_at, form_fails_at}
-use Rattle.acn_plain_read.specs.Steps.{noted_by}
+use Rattle.acn_reads.proofs.StringReads.{octets_rule, bits_rule, text_rule, view_octets, view_bits, view_text, form_passed_at, form_fails_at}
+use Rattle.acn_reads.specs.Steps.{noted_by}
 use Rattle.acn_grammar.specs.Grammar.{component}
 use Rattle.std.proofs.Common.{ℤ, Some}
-use Rattle.acn_plain_read.proofs.Nodes.{on_ok_map}
-use Rattle.acn_plain_read.specs.Decoded.{NodeRead, NodeStops}
-use Rattle.acn_plain_read.specs.Present.{there_now}
-use Rattle.acn_plain_read.proofs.Nodes.{node_room, node_align, leaf_fine, node_of_number, inner_node, tells_map, stop_map, ok_map, node_read, node_fails_at, node_short_at}
-use Rattle.acn_plain_read.proofs.Turns.{bit_is, there_told, away_turn, component_stops, no_turn, depth_is}
+use Rattle.acn_reads.proofs.Nodes.{on_ok_map}
+use Rattle.acn_reads.specs.Decoded.{NodeRead, NodeStops}
+use Rattle.acn_reads.specs.Present.{there_now}
+use Rattle.acn_reads.proofs.Nodes.{node_room, node_align, leaf_fine, node_of_number, inner_node, tells_map, stop_map, ok_map, node_read, node_fails_at, node_short_at}
+use Rattle.acn_reads.proofs.Turns.{bit_is, there_told, away_turn, component_stops, no_turn, depth_is}
 use Rattle.std.proofs.Common.{map, drop, arith}
 use Rattle.std.specs.Prelude.{option_map}
 use Rattle.std.proofs.lemmas.List.{map-append}
-use Rattle.acn_plain_read.specs.Decoded.{Turn}
-use Rattle.acn_plain_read.specs.Decoded.{NodeStands, FieldsStand}
-use Rattle.acn_plain_read.proofs.Loops.{fields_from, next_ready, next_turn, next_stops, all_turns, component_turn, inserted_turn, named_at}
+use Rattle.acn_reads.specs.Decoded.{Turn}
+use Rattle.acn_reads.specs.Decoded.{NodeStands, FieldsStand}
+use Rattle.acn_reads.proofs.Loops.{fields_from, next_ready, next_turn, next_stops, all_turns, component_turn, inserted_turn, named_at}
 use Rattle.acn_grammar.proofs.Views.{view_seq, view_seq_form}
 use Rattle.acn_grammar.specs.Fails.{presence_count}
-use Rattle.acn_plain_read.proofs.Seqs.{few_fields, fields_named, fields_ready, flags_are, seq_read_at, seq_fails_at, seq_short_at}
+use Rattle.acn_reads.proofs.Seqs.{few_fields, fields_named, fields_ready, flags_are, seq_read_at, seq_fails_at, seq_short_at}
 use Rattle.acn_plain_read.proofs.read.+read.Goals as goal
 
 pub read_component-is_there-requires : goal.read_component-is_there-requires
@@ -479,4 +479,4 @@ read_elements-returns-else-stands-2-clause-fails t c =
     let over = c.loop-i-test.false in
     let within = l.auto.i-end in
     let count : length (map data_of l.values) ≡ c.most_of-most.result = mapped_length l.values ∙ (l.invariant.count ∙ omega (arith, over, within)) in
-    tells_map c.no_end.result _ _ (λ q at s. none_stops_to (grammar_of c.args.root.now) c.args.from c.args.inside c.args.path.now l.path c.args.cur.now.origin (grammar_of c.args.node.now) c.args.end.now c.args.sizing.now c.most_of-most.result _ (map data_of l.values) c.args.slots.now l.slots c.args.cur.now l.cur q at c.most_of-most.ensures.most l.invariant.path count (l.invariant.turn c.args.from) s) c.no_end.ensures
+    tells_map c.no_end.result _ _ (λ q at s. none_stops_to (grammar_of c.args.root.now) c.args.from c.args.inside c.args.path.now l.path c.args.cur.now.origin (grammar_of c.args.node.now) c.args.end.now c.args.sizing.now c.most_of-most.result _ (map data_of l.values) c.args.slots.now l.slots c.args.cur.now l.cur q at c.most_of-most.ensures.most l.invariant.path count (l.invariant.turn c.args.from) s) c.no_end.ensures.fails

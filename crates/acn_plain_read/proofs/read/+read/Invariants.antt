@@ -1,7 +1,7 @@
 use Rattle.std.proofs.Common.{◌≡◌, ℕ, length, drop, map}
 use Rattle.std.specs.Prelude.{option_map}
 use Rattle.acn_grammar.specs.View.{grammar_of, data_of, fields_view}
-use Rattle.acn_plain_read.specs.Decoded.{Turn, RunTurn}
+use Rattle.acn_reads.specs.Decoded.{Turn, RunTurn}
 use Rattle.acn_plain_read.proofs.read.+read.Given as goal
 
 abbrev pub invariant-read_fields-loop-field : goal.invariant-read_fields-loop-field

@@ -4,10 +4,10 @@ use Rattle.std.proofs.Common.{rules, ℕ, suc, ℤ, List, [], length, sym, ap, �
 use Rattle.acn_grammar.specs.Grammar.{Grammar, num, inserted}
 use Rattle.acn_grammar.specs.ItemsNamed.{ItemsNamed}
 use Rattle.acn_grammar.specs.View.{grammar_of}
-use Rattle.acn_plain_read.specs.Decoded.{FieldsStand, NodeStops, Turn}
-use Rattle.acn_plain_read.specs.Steps.{noted_by}
-use Rattle.acn_plain_read.proofs.Nodes.{tells_map, node_room, node_align, leaf_fine}
-use Rattle.acn_plain_read.proofs.SlotTurns.{inserted_read, inserted_fails, inserted_leaf, inserted_sound}
+use Rattle.acn_reads.specs.Decoded.{FieldsStand, NodeStops, Turn}
+use Rattle.acn_reads.specs.Steps.{noted_by}
+use Rattle.acn_reads.proofs.Nodes.{tells_map, node_room, node_align, leaf_fine}
+use Rattle.acn_reads.proofs.SlotTurns.{inserted_read, inserted_fails, inserted_leaf, inserted_sound}
 use Rattle.acn_plain_read.proofs.slot.read_inserted.Goals as goal
 
 pub push-requires : goal.push-requires

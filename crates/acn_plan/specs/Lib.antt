@@ -1,0 +1,5 @@
+pub mod Back
+pub mod Laws
+pub mod Made
+pub mod Program
+pub mod Steps

@@ -1,0 +1,15 @@
+//! A tree that can be decoded as a flat list of steps, one for each node in preorder: what packets are read and written by.
+#![tactic(auto)]
+
+mod compiling;
+mod copies;
+mod items;
+mod laws;
+mod plan;
+mod put;
+mod step;
+
+pub use compiling::compile;
+pub use laws::{steps_are_itemed, steps_are_nested, steps_say_their_root, steps_tell_their_root};
+pub use plan::Plan;
+pub use step::{Act, Place, Step};

@@ -1,0 +1,12 @@
+mod Cases
+mod Halting
+mod ItemCases
+mod Kept
+mod Levels
+mod Numbers
+mod Passes
+mod Resting
+mod Roots
+mod Seqs
+mod SlotItems
+mod Strings

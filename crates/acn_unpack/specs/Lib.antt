@@ -1,0 +1,3 @@
+pub mod Items
+pub mod Keeps
+pub mod Rests
