@@ -8,6 +8,8 @@
 #![tactic(auto)]
 
 mod building;
+mod leaf_words;
+mod node_words;
 mod notation;
 mod parts;
 mod path_words;
@@ -17,6 +19,10 @@ mod value_reading;
 mod value_words;
 
 pub use building::Built;
+pub use leaf_words::{push_leaf, push_sized, push_text};
+pub use node_words::{
+    push_align, push_choice, push_component, push_inserted, push_name, push_sequence, push_tests,
+};
 pub use path_words::path_in_words;
 pub use sheet::Sheet;
 pub use unfit_words::unfit_in_words;

@@ -3,7 +3,9 @@
 ghost use Rattle.acn_grammar.specs.View.{grammar_of};
 ghost use Rattle.acn_grammar.specs.ItemsNamed.{ItemsNamed};
 
+use crate::compared::compared;
 use crate::fault::fault_in_words;
+use crate::plan::plan_in_words;
 use acn_case_lines::{wide, word};
 use acn_case_trees::{Built, Sheet, unfit_in_words, value_in_words, value_of};
 use acn_check::check;
@@ -39,6 +41,19 @@ fn twice(alloc: Global, tree: Tree, first: &str) -> Result<String, NoMemory> {
             let words = fault_in_words(alloc, &fault)?;
             Ok(format!(in alloc; "{first}, {words}")?)
         }
+    }
+}
+
+// The plan of a tree that can be decoded.
+fn planned(alloc: Global, tree: Boxed<Tree>) -> Result<String, NoMemory> {
+    match check(alloc, tree.into_inner()) {
+        Ok(checked) => {
+            if !items_named(checked.tree()) {
+                return Ok(format!(in alloc; "not named")?);
+            }
+            plan_in_words(alloc, &checked)
+        }
+        Err(_) => Ok(format!(in alloc; "refused")?),
     }
 }
 
@@ -155,6 +170,7 @@ fn told(alloc: Global, tree: Boxed<Tree>, words: &[&str]) -> Result<String, NoMe
         "bits-at" => bounds_told(alloc, tree.get(), word(rest, 0)),
         "check" => checked(alloc, tree, false),
         "check-twice" => checked(alloc, tree, true),
+        "plan" => planned(alloc, tree),
         "named" => Ok(format!(in alloc; "{}", items_named(tree.get()))?),
         "at" => node_told(alloc, tree.get(), word(rest, 0)),
         "meets" => meets_told(alloc, tree.get(), rest),
@@ -183,6 +199,9 @@ pub fn answer(alloc: Global, sheet: &Sheet, case: &str) -> Result<String, NoMemo
     let words: Vec<&str> = word(parts.as_slice(), 0).split_whitespace().collect(alloc)?;
     if word(words.as_slice(), 0) == "draw" {
         return drawn_told(alloc, words.get(1..).unwrap_or(&[]));
+    }
+    if word(words.as_slice(), 0) == "compare" {
+        return compared(alloc, sheet, case);
     }
     of_tree(
         alloc,

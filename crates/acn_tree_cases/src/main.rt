@@ -2,12 +2,15 @@
 //!
 //! A tree stands in lines, as `acn_case_trees` says. A case `QUESTION =>` asks of it; behind `;;` stand its parts.
 //!
-//! Questions: `form`, `values`, `bits`, `bits-at PATH`, `check`, `check-twice`, `named`, `at PATH`, `meets VALUE`,
-//! `shaped VALUE`, `make NUMBER`.
+//! Questions: `form`, `values`, `bits`, `bits-at PATH`, `check`, `check-twice`, `plan`, `named`, `at PATH`, `meets VALUE`,
+//! `shaped VALUE`, `make NUMBER`. `compare ;; PARTS / ;; PARTS` compares the tree with the parts in front of the stroke with that
+//! with those behind it.
 #![tactic(auto)]
 
 mod answer;
+mod compared;
 mod fault;
+mod plan;
 
 use acn_case_lines::{Line, line_of};
 use acn_case_trees::Sheet;

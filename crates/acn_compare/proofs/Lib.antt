@@ -1,0 +1,15 @@
+mod Answered
+mod Counting
+mod Deciding
+mod Excluding
+mod Finding
+mod Judged
+mod Lining
+mod Linked
+mod Losing
+mod OneFirst
+mod Pairing
+mod Ranks
+mod Reading
+mod Renamed
+mod Rows
