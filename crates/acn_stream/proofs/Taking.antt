@@ -13,15 +13,14 @@ use Rattle.acn_grammar.specs.declared.fault.Reason.{Reason}
 use Rattle.acn_grammar.specs.declared.fault.Reason.TheVariants.{Short, OutOfRange, NotMinimal, BadDigit, BadCharacter, BadPattern, TooLong, SizeOutOfRange, NoAlternative, ContentSize, PastContent}
 use Rattle.acn_grammar.specs.declared.fault.Refuse.{Refuse}
 use Rattle.acn_grammar.specs.declared.fault.Refuse.TheVariants.{Bad, NoMemory}
-use Rattle.acn_json.specs.Lines.{line_of}
 use Rattle.acn_packet_laws.specs.Laws.{IsAccepted, ShortIsNear}
-use Rattle.acn_plain_read.specs.Answers.{Refuses, OnlyFault}
-use Rattle.acn_stream.specs.Recording.{IsPacket, IsStuck, lines}
+use Rattle.acn_reads.specs.Answers.{Refuses, OnlyFault}
+use Rattle.acn_stream.specs.Recording.{IsPacket, IsStuck, Shown, texts}
 use Rattle.acn_stream.specs.Steps.{IsBounded, is_short, pause_of, NotFull, TakesOne, TakesMany, Pauses}
 use Rattle.acn_stream.specs.declared.packets.Pause.TheVariants.{Wants, Refused}
 use Rattle.acn_supply.specs.Reading.{Supplied}
 use Rattle.acn_supply.specs.declared.window.TheConstants.{MOST_IN_HAND}
-use Rattle.acn_stream.proofs.Joining.{joined_on, joined_one, lines_one}
+use Rattle.acn_stream.proofs.Joining.{joined_on, joined_one, texts_on, texts_one}
 
 pub short_is : (r : Reason) → is_short r ≡ true → reason_of r ≡ short
 short_is Short h = refl
@@ -78,9 +77,9 @@ some_bits g hand d n b f =
     let least = (b.between Any d (take n (bits hand)) f.spelled).0 in
     omega (arith, long, least, b.some)
 
-pub takes_one : (g : Grammar) (before after : Supplied) (old new : List ℕ) (d : Data) (n : ℕ) → IsBounded g → Front g (bits before.hand) d n
-    → after ≡ record { hand = drop (octets n) before.hand; left = before.left } → new ≡ old ++ (line_of g d ++ 10 ∷ []) → TakesOne g before after old new
-takes_one g before after old new d n b f same added =
+pub takes_one : (g : Grammar) (shown : Shown) (count : ℕ) (before after : Supplied) (old new : List ℕ) (d : Data) (n : ℕ) → IsBounded g → Front g (bits before.hand) d n
+    → after ≡ record { hand = drop (octets n) before.hand; left = before.left } → new ≡ old ++ shown (count + 1) d (take (octets n) before.hand) → TakesOne g shown count before after old new
+takes_one g shown count before after old new d n b f same added =
     let some = some_bits g before.hand d n b f in
     let long = held before.hand n f.within in
     record {
@@ -117,24 +116,30 @@ paused g hand (Bad fault) law accepted b some r o = by_test (is_short fault.reas
 
 -- ---- more packets
 
-pub takes_none : (g : Grammar) (s : Supplied) (old : List ℕ) (count : ℕ) → TakesMany g s s old old count count
-takes_none g s old count = record { values = []; packets = []; recording = refl; few = omega arith; cut = refl; left = refl; added = sym (append-nil old); all = omega arith }
+pub takes_none : (g : Grammar) (shown : Shown) (s : Supplied) (old : List ℕ) (count : ℕ) → TakesMany g shown s s old old count count
+takes_none g shown s old count = record { values = []; packets = []; recording = refl; few = omega arith; cut = refl; left = refl; added = sym (append-nil old); all = omega arith }
 
-pub takes_more : (g : Grammar) (before mid after : Supplied) (old text new : List ℕ) (count n : ℕ) → TakesMany g before mid old text count n → TakesOne g mid after text new → TakesMany g before after old new count (n + 1)
-takes_more g before mid after old text new count n m one = record {
-  values = m.values ++ one.value ∷ [];
-  packets = m.packets ++ one.piece;
-  recording = joined_on (IsPacket g) m.values (one.value ∷ []) m.packets one.piece m.recording (joined_one (IsPacket g) one.value one.piece one.packet);
-  few = omega (arith, m.few, one.some, length-append m.values (one.value ∷ []), length-append m.packets one.piece);
-  cut = m.cut ∙ ap (λ (t : List ℕ). m.packets ++ t) one.cut ∙ sym (append_assoc m.packets one.piece after.hand);
-  left = one.left ∙ m.left;
-  added = one.added ∙ ap (λ (t : List ℕ). t ++ (line_of g one.value ++ 10 ∷ [])) m.added ∙ append_assoc old (lines g m.values) (line_of g one.value ++ 10 ∷ []) ∙ ap (λ (t : List ℕ). old ++ t) (lines_one g m.values one.value);
-  all = omega (arith, m.all, length-append m.values (one.value ∷ []));
-}
+pub takes_more : (g : Grammar) (shown : Shown) (before mid after : Supplied) (old text new : List ℕ) (count n : ℕ) → TakesMany g shown before mid old text count n → TakesOne g shown n mid after text new → TakesMany g shown before after old new count (n + 1)
+takes_more g shown before mid after old text new count n m one =
+    let there = texts g shown (count + 1) m.values m.packets m.recording in
+    let last = joined_one (IsPacket g) one.value one.piece one.packet in
+    let both : texts g shown (count + 1) (m.values ++ one.value ∷ []) (m.packets ++ one.piece) (joined_on (IsPacket g) m.values (one.value ∷ []) m.packets one.piece m.recording last) ≡ there ++ shown (n + 1) one.value one.piece =
+    texts_on g shown (count + 1) (n + 1) m.values (one.value ∷ []) m.packets one.piece m.recording last (omega (arith, m.all))
+    ∙ ap (λ (t : List ℕ). there ++ t) (texts_one g shown (n + 1) one.value one.piece one.packet) in
+    record {
+      values = m.values ++ one.value ∷ [];
+      packets = m.packets ++ one.piece;
+      recording = joined_on (IsPacket g) m.values (one.value ∷ []) m.packets one.piece m.recording last;
+      few = omega (arith, m.few, one.some, length-append m.values (one.value ∷ []), length-append m.packets one.piece);
+      cut = m.cut ∙ ap (λ (t : List ℕ). m.packets ++ t) one.cut ∙ sym (append_assoc m.packets one.piece after.hand);
+      left = one.left ∙ m.left;
+      added = one.added ∙ ap (λ (t : List ℕ). t ++ shown (n + 1) one.value one.piece) m.added ∙ append_assoc old there (shown (n + 1) one.value one.piece) ∙ ap (λ (t : List ℕ). old ++ t) (sym both);
+      all = omega (arith, m.all, length-append m.values (one.value ∷ []));
+    }
 
 -- where nothing changed
-pub takes_kept : (g : Grammar) (before mid after : Supplied) (old text new : List ℕ) (count n : ℕ) → TakesMany g before mid old text count n → after ≡ mid → new ≡ text → TakesMany g before after old new count n
-takes_kept g before mid after old text new count n m same kept = record {
+pub takes_kept : (g : Grammar) (shown : Shown) (before mid after : Supplied) (old text new : List ℕ) (count n : ℕ) → TakesMany g shown before mid old text count n → after ≡ mid → new ≡ text → TakesMany g shown before after old new count n
+takes_kept g shown before mid after old text new count n m same kept = record {
   values = m.values;
   packets = m.packets;
   recording = m.recording;
@@ -146,11 +151,11 @@ takes_kept g before mid after old text new count n m same kept = record {
 }
 
 -- what is in hand gets shorter
-pub shorter : (g : Grammar) (before after : Supplied) (old new : List ℕ) → TakesOne g before after old new → length after.hand < length before.hand
-shorter g before after old new one = omega (arith, one.some, ap length one.cut, length-append one.piece after.hand)
+pub shorter : (g : Grammar) (shown : Shown) (count : ℕ) (before after : Supplied) (old new : List ℕ) → TakesOne g shown count before after old new → length after.hand < length before.hand
+shorter g shown count before after old new one = omega (arith, one.some, ap length one.cut, length-append one.piece after.hand)
 
-pub no_longer : (g : Grammar) (before after : Supplied) (old new : List ℕ) (count n : ℕ) → TakesMany g before after old new count n → n + length after.hand ≤ count + length before.hand
-no_longer g before after old new count n m = omega (arith, m.few, m.all, ap length m.cut, length-append m.packets after.hand)
+pub no_longer : (g : Grammar) (shown : Shown) (before after : Supplied) (old new : List ℕ) (count n : ℕ) → TakesMany g shown before after old new count n → n + length after.hand ≤ count + length before.hand
+no_longer g shown before after old new count n m = omega (arith, m.few, m.all, ap length m.cut, length-append m.packets after.hand)
 
-pub not_longer : (g : Grammar) (before after : Supplied) (old new : List ℕ) (count n : ℕ) → TakesMany g before after old new count n → length after.hand ≤ length before.hand
-not_longer g before after old new count n m = omega (arith, ap length m.cut, length-append m.packets after.hand)
+pub not_longer : (g : Grammar) (shown : Shown) (before after : Supplied) (old new : List ℕ) (count n : ℕ) → TakesMany g shown before after old new count n → length after.hand ≤ length before.hand
+not_longer g shown before after old new count n m = omega (arith, ap length m.cut, length-append m.packets after.hand)

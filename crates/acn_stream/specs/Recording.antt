@@ -1,5 +1,5 @@
 -- Recordings: packets one behind another, and the lines that are written for their values. (This profile's own.)
-use Rattle.std.specs.Prelude.{◌≡◌, ℕ, ◌<◌, ◌⊎◌, Bool, List, [], ◌∷◌, ◌++◌, length}
+use Rattle.std.specs.Prelude.{◌≡◌, ℕ, suc, ◌<◌, ◌⊎◌, Bool, List, [], ◌∷◌, ◌++◌, length}
 use Rattle.std.specs.List.{flat_map}
 use Rattle.acn_num.specs.Bits.{bits}
 use Rattle.acn_grammar.specs.Code.{Any}
@@ -36,9 +36,26 @@ pub record IsPacket (g : Grammar) (d : Data) (piece : List ℕ) : Type 0 where
 abbrev pub Recording : Grammar → List Data → List ℕ → Type 0
 Recording g values bytes = Joined (IsPacket g) values bytes
 
+-- what is shown of a packet, by its number, its value and its octets
+abbrev pub Shown : Type 0
+Shown = (number : ℕ) → Data → (piece : List ℕ) → List ℕ
+
+-- what is shown of packets one behind another, which are numbered from here on
+abbrev pub texts : (g : Grammar) → Shown → (number : ℕ) → (values : List Data) → (packets : List ℕ) → Recording g values packets → List ℕ
+texts g shown number [] packets r = []
+texts g shown number (d ∷ ds) packets r = shown number d r.piece ++ texts g shown (suc number) ds r.rest r.second
+
+-- the text of packets one behind another
+abbrev pub Text : Grammar → Type 0
+Text g = (values : List Data) (packets : List ℕ) → Recording g values packets → List ℕ
+
 -- the JSON lines of the values, each with a line feed
 abbrev pub lines : Grammar → List Data → List ℕ
 lines g values = flat_map (λ d. line_of g d ++ 10 ∷ []) values
+
+-- the lines alone, whatever the octets
+abbrev pub lines_text : (g : Grammar) → Text g
+lines_text g values packets r = lines g values
 
 -- bits are wanting
 abbrev pub RunsShort : Grammar → List ℕ → Type 0

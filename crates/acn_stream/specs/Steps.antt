@@ -1,5 +1,5 @@
 -- What the calls inside do.
-use Rattle.std.specs.Prelude.{◌≡◌, ℕ, ◌+◌, ◌*◌, ◌<◌, ◌≤◌, Bool, true, false, if◌then◌else◌, List, [], ◌∷◌, ◌++◌, length, Option, Some, None, Result, Ok, Err}
+use Rattle.std.specs.Prelude.{◌≡◌, ℕ, ◌+◌, ◌*◌, ◌<◌, ◌≤◌, Bool, true, false, if◌then◌else◌, List, [], ◌++◌, length, Option, Some, None, Result, Ok, Err}
 use Rattle.acn_grammar.specs.Faults.{fault_of}
 use Rattle.acn_grammar.specs.Grammar.{Grammar, Data}
 use Rattle.acn_grammar.specs.Interval.{span}
@@ -11,10 +11,9 @@ use Rattle.acn_grammar.specs.declared.fault.Refuse.TheVariants as refuse
 use Rattle.acn_grammar.specs.declared.fault.Reason.TheVariants.{Short}
 use Rattle.acn_grammar.specs.declared.limits.TheConstants.{MOST_PACKET_BITS}
 use Rattle.acn_bounds.specs.Between.{SpellingsLieBetween}
-use Rattle.acn_json.specs.Lines.{line_of}
 use Rattle.acn_outside.specs.Moves.{Takes, Gains}
-use Rattle.acn_stream.specs.Decoding.{DecodeEnds}
-use Rattle.acn_stream.specs.Recording.{IsPacket, Recording, lines, IsStuck}
+use Rattle.acn_stream.specs.Decoding.{ShowEnds}
+use Rattle.acn_stream.specs.Recording.{IsPacket, Recording, Shown, texts, IsStuck}
 use Rattle.acn_stream.specs.declared.packets.Pause.{Pause}
 use Rattle.acn_stream.specs.declared.packets.Pause.TheVariants as pause
 use Rattle.acn_stream.specs.declared.stream_fault.StreamFault.{StreamFault}
@@ -32,25 +31,25 @@ abbrev pub is_short : Reason → Bool
 is_short Short = true
 is_short _ = false
 
--- One packet was taken of what was in hand, and its line was added.
-pub record TakesOne (g : Grammar) (before after : Supplied) (old new : List ℕ) : Type 0 where
+-- One packet was taken of what was in hand behind so many, and its text was added.
+pub record TakesOne (g : Grammar) (shown : Shown) (count : ℕ) (before after : Supplied) (old new : List ℕ) : Type 0 where
   pub value : Data
   pub piece : List ℕ
   pub packet : IsPacket g value piece
   pub some : 0 < length piece
   pub cut : before.hand ≡ piece ++ after.hand
   pub left : after.left ≡ before.left
-  pub added : new ≡ old ++ (line_of g value ++ 10 ∷ [])
+  pub added : new ≡ old ++ shown (count + 1) value piece
 
--- Packets were taken of what was in hand, and their lines were added.
-pub record TakesMany (g : Grammar) (before after : Supplied) (old new : List ℕ) (count counted : ℕ) : Type 0 where
+-- Packets were taken of what was in hand behind so many, and their text was added.
+pub record TakesMany (g : Grammar) (shown : Shown) (before after : Supplied) (old new : List ℕ) (count counted : ℕ) : Type 0 where
   pub values : List Data
   pub packets : List ℕ
   pub recording : Recording g values packets
   pub few : length values ≤ length packets
   pub cut : before.hand ≡ packets ++ after.hand
   pub left : after.left ≡ before.left
-  pub added : new ≡ old ++ lines g values
+  pub added : new ≡ old ++ texts g shown (count + 1) values packets recording
   pub all : counted ≡ count + length values
 
 -- why no more is taken of these bytes
@@ -72,12 +71,12 @@ NotFull pause.Full = ⊥
 NotFull _ = Unit {0}
 
 -- a packet was taken, or it is said why not
-abbrev pub StepsOn : Grammar → Supplied → Supplied → List ℕ → List ℕ → Result (Unit {0}) Pause → Type 0
-StepsOn g before after old new (Ok u) = TakesOne g before after old new
-StepsOn g before after old new (Err why) = (after ≡ before) × (new ≡ old) × Pauses g before.hand why × NotFull why
+abbrev pub StepsOn : Grammar → Shown → (count : ℕ) → Supplied → Supplied → List ℕ → List ℕ → Result (Unit {0}) Pause → Type 0
+StepsOn g shown count before after old new (Ok u) = TakesOne g shown count before after old new
+StepsOn g shown count before after old new (Err why) = (after ≡ before) × (new ≡ old) × Pauses g before.hand why × NotFull why
 
--- Decoding came so far: of the input packets of values were taken, and what is in hand. The output gained the lines of the values.
-pub record SoFar (g : Grammar) (limit : ℕ) (i i' o o' : Option (List ℕ)) (supply : Supplied) (count : ℕ) : Type 0 where
+-- Showing packets came so far: of the input packets of values were taken, and what is in hand. The output gained their text.
+pub record SoFar (g : Grammar) (shown : Shown) (limit : ℕ) (i i' o o' : Option (List ℕ)) (supply : Supplied) (count : ℕ) : Type 0 where
   pub values : List Data
   pub packets : List ℕ
   pub recording : Recording g values packets
@@ -85,16 +84,16 @@ pub record SoFar (g : Grammar) (limit : ℕ) (i i' o o' : Option (List ℕ)) (su
   pub taken : Takes i i' (packets ++ supply.hand)
   pub counted : supply.left + length (packets ++ supply.hand) ≡ limit
   pub all : length values ≡ count
-  pub written : Gains o o' (lines g values)
+  pub written : Gains o o' (texts g shown 1 values packets recording)
 
 -- Reading on is counted down by this.
 abbrev pub ahead : Supplied → ℕ
 ahead s = 2 * s.left + length s.hand
 
--- decoding goes on with more in hand, or has ended
-abbrev pub GoesOn : Grammar → (limit : ℕ) → (i i' o o' : Option (List ℕ)) → (before after : Supplied) → (count : ℕ) → Option (Result ℕ StreamFault) → Type 0
-GoesOn g limit i i' o o' before after count None = SoFar g limit i i' o o' after count × (ahead after < ahead before)
-GoesOn g limit i i' o o' before after count (Some result) = DecodeEnds g limit i i' o o' result
+-- it goes on with more in hand, or has ended
+abbrev pub GoesOn : Grammar → Shown → (limit : ℕ) → (i i' o o' : Option (List ℕ)) → (before after : Supplied) → (count : ℕ) → Option (Result ℕ StreamFault) → Type 0
+GoesOn g shown limit i i' o o' before after count None = SoFar g shown limit i i' o o' after count × (ahead after < ahead before)
+GoesOn g shown limit i i' o o' before after count (Some result) = ShowEnds g (texts g shown 1) limit i i' o o' result
 
 -- how reading doesn't end
 abbrev pub EndsReading : Option (Result ℕ StreamFault) → Type 0

@@ -1,134 +1,21 @@
 //! Decoding: packets of an input become lines of an output.
 
-ghost use Rattle.std.specs.Prelude.{◌≡◌, ◌↔◌, ◌+◌, ◌^◌, ◌<◌, ◌≤◌, ℕ, List, [], length, Option, Some, Err, IfSome, IsErrOf};
-ghost use Rattle.acn_grammar.specs.Grammar.{Grammar};
+ghost use Rattle.std.specs.Prelude.{◌≡◌, ◌↔◌, ◌≤◌, IsErrOf};
 ghost use Rattle.acn_grammar.specs.Interval.{span};
-ghost use Rattle.acn_grammar.specs.ItemsNamed.{ItemsNamed};
 ghost use Rattle.acn_grammar.specs.View.{grammar_of};
-ghost use Rattle.acn_lines.specs.Order.{IsOrder};
 ghost use Rattle.acn_outside.specs.Counts.{Rose};
+ghost use Rattle.acn_plan.specs.Steps.{steps_of};
 ghost use Rattle.acn_stream.specs.Decoding.{DecodeEnds};
-ghost use Rattle.acn_stream.specs.Steps as spec;
-ghost use Rattle.acn_stream.specs.Steps.{IsBounded};
-ghost use Rattle.acn_supply.specs.declared.window.TheConstants.{MOST_IN_HAND};
 
-use crate::packets::{Pause, take_packets};
+use crate::json_lines::JsonLines;
+use crate::showing::show_all;
 use crate::stream_fault::StreamFault;
 use acn_bounds::bounds;
 use acn_check::Checked;
-use acn_grammar::Fault;
 use acn_lines::Lines;
-use acn_outside::{Sink, Source, write_all};
-use acn_supply::{More, Supply};
+use acn_outside::{Sink, Source};
+use acn_plan::Plan;
 use std::alloc::Global;
-
-// What the end of the input says of what is in hand: nothing, or a packet that isn't whole.
-fn at_end(count: u64, wanting: Option<Fault>) -> Result<u64, StreamFault>
-    requires room { IfSome wanting (λ fault. count + 1 < 2 ^ 64) }
-    ensures { result ≡ spec.end_of count wanting }
-{
-    match wanting {
-        None => Ok(count),
-        Some(fault) => Err(StreamFault::Packet {
-            number: count + 1,
-            fault,
-        }),
-    }
-}
-
-// Reads once, where what is in hand ends inside a packet, or nothing is. An answer says that decoding ended.
-fn read_on<S: Source>(
-    supply: &mut Supply,
-    input: &mut S,
-    count: u64,
-    wanting: Option<Fault>,
-) -> Option<Result<u64, StreamFault>>
-    requires few { length supply.old.hand < MOST_IN_HAND }
-    requires room { IfSome wanting (λ fault. count + 1 < 2 ^ 64) }
-    ensures goes_on { (g : Grammar) (limit : ℕ) (i o o' : Option (List ℕ)) → spec.SoFar g limit i (S.rest input.old) o o' supply.old count → spec.Pauses g supply.old.hand (Pause.Wants wanting) → spec.GoesOn g limit i (S.rest input.new) o o' supply.old supply.new count result }
-    ensures count { S.faults input.old ≤ S.faults input.new }
-    ensures known { spec.EndsReading result }
-    ensures failed { result ≡ Some (Err StreamFault.InputFault) → Rose (S.faults input.old) (S.faults input.new) }
-{
-    match supply.more(input) {
-        Ok(More::Bytes) => None,
-        Ok(More::End) => Some(at_end(count, wanting)),
-        Ok(More::PastLimit) => Some(Err(StreamFault::InputTooLong)),
-        Err(_) => Some(Err(StreamFault::InputFault)),
-    }
-}
-
-// Decodes what is in hand and what the input gives.
-fn decode_supply<S: Source, O: Sink>(
-    alloc: Global,
-    checked: &Checked,
-    order: &Lines,
-    supply: &mut Supply,
-    input: &mut S,
-    out: &mut O,
-) -> Result<u64, StreamFault>
-    requires named { ItemsNamed (grammar_of checked.now.tree.root) }
-    requires bounded { IsBounded (grammar_of checked.now.tree.root) }
-    requires ordered { IsOrder (grammar_of checked.now.tree.root) order.now.order }
-    requires begins { supply.old.hand ≡ [] }
-    requires limit { supply.old.left < 2 ^ 64 }
-    ensures ends { DecodeEnds (grammar_of checked.now.tree.root) supply.old.left (S.rest input.old) (S.rest input.new) (O.taken out.old) (O.taken out.new) result }
-    ensures input { S.faults input.old ≤ S.faults input.new }
-    ensures output { O.faults out.old ≤ O.faults out.new }
-    ensures input_fault { IsErrOf result StreamFault.InputFault → Rose (S.faults input.old) (S.faults input.new) }
-    ensures output_fault { IsErrOf result StreamFault.OutputFault → Rose (O.faults out.old) (O.faults out.new) }
-    ensures some { IsErrOf result StreamFault.EmptyPacket → ⊥ }
-{
-    let mut lines = Vec::new(alloc);
-    let mut count = 0u64;
-    loop {
-        lines.clear();
-        let pause = take_packets(alloc, checked, order, supply, &mut lines, &mut count);
-        match write_all(out, &lines) {
-            Ok(()) => {}
-            Err(_) => return Err(StreamFault::OutputFault),
-        }
-        match pause {
-            Pause::Full => {}
-            Pause::Wants(wanting) => match read_on(supply, input, count, wanting) {
-                None => {}
-                Some(result) => return result,
-            },
-            Pause::Refused(fault) => {
-                return Err(StreamFault::Packet {
-                    number: count + 1,
-                    fault,
-                });
-            }
-            Pause::NoMemory => return Err(StreamFault::NoMemory),
-        }
-    }
-}
-
-// Decodes the input, with what its lines need.
-fn decode_in_order<S: Source, O: Sink>(
-    alloc: Global,
-    checked: &Checked,
-    order: &Lines,
-    input: &mut S,
-    out: &mut O,
-    limit: u64,
-) -> Result<u64, StreamFault>
-    requires named { ItemsNamed (grammar_of checked.now.tree.root) }
-    requires bounded { IsBounded (grammar_of checked.now.tree.root) }
-    requires ordered { IsOrder (grammar_of checked.now.tree.root) order.now.order }
-    ensures ends { DecodeEnds (grammar_of checked.now.tree.root) limit (S.rest input.old) (S.rest input.new) (O.taken out.old) (O.taken out.new) result }
-    ensures input { S.faults input.old ≤ S.faults input.new }
-    ensures output { O.faults out.old ≤ O.faults out.new }
-    ensures input_fault { IsErrOf result StreamFault.InputFault → Rose (S.faults input.old) (S.faults input.new) }
-    ensures output_fault { IsErrOf result StreamFault.OutputFault → Rose (O.faults out.old) (O.faults out.new) }
-    ensures some { IsErrOf result StreamFault.EmptyPacket → ⊥ }
-{
-    match Supply::new(alloc, limit) {
-        Ok(mut supply) => decode_supply(alloc, checked, order, &mut supply, input, out),
-        Err(_) => Err(StreamFault::NoMemory),
-    }
-}
 
 /// Reads packets until the input ends and writes the line of each with a line feed, and answers how many packets there were. In a
 /// recording fewer than 8 fill bits, whichever they are, stand behind each packet up to an octet. At most `limit` bytes are read,
@@ -145,11 +32,12 @@ fn decode_in_order<S: Source, O: Sink>(
 pub fn decode_all<S: Source, O: Sink>(
     alloc: Global,
     checked: &Checked,
+    plan: &Plan,
     input: &mut S,
     out: &mut O,
     limit: u64,
 ) -> Result<u64, StreamFault>
-    requires named { ItemsNamed (grammar_of checked.now.tree.root) }
+    requires planned { steps_of (grammar_of checked.now.tree.root) ≡ plan.now.steps }
     ensures ends { DecodeEnds (grammar_of checked.now.tree.root) limit (S.rest input.old) (S.rest input.new) (O.taken out.old) (O.taken out.new) result }
     ensures empty { IsErrOf result StreamFault.EmptyPacket ↔ ((span (grammar_of checked.now.tree.root)).least ≡ 0) }
     ensures input_fault { IsErrOf result StreamFault.InputFault → Rose (S.faults input.old) (S.faults input.new) }
@@ -160,8 +48,15 @@ pub fn decode_all<S: Source, O: Sink>(
     if bounds(checked).least == 0 {
         return Err(StreamFault::EmptyPacket);
     }
-    match Lines::new(alloc, checked.tree()) {
-        Ok(order) => decode_in_order(alloc, checked, &order, input, out, limit),
+    let tree = checked.tree();
+    match Lines::new(alloc, tree) {
+        Ok(order) => {
+            let shower = JsonLines {
+                tree,
+                order: &order,
+            };
+            show_all(alloc, checked, plan, &shower, input, out, limit)
+        }
         Err(_) => Err(StreamFault::NoMemory),
     }
 }

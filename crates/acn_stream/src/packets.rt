@@ -2,33 +2,30 @@
 
 ghost use Rattle.std.specs.Prelude.{◌≡◌, ◌+◌, ◌*◌, ◌^◌, ◌<◌, ◌≤◌, ◌++◌, ◌∷◌, [], length, OnOk, OnErr};
 ghost use Rattle.acn_num.specs.Bits.{octets};
-ghost use Rattle.acn_grammar.specs.ItemsNamed.{ItemsNamed};
 ghost use Rattle.acn_grammar.specs.View.{grammar_of, data_of};
-ghost use Rattle.acn_json.specs.Kept.{Kept};
-ghost use Rattle.acn_json.specs.Lines.{line_of};
-ghost use Rattle.acn_lines.specs.Order.{IsOrder};
+ghost use Rattle.acn_plan.specs.Steps.{steps_of};
+ghost use Rattle.acn_stream.specs.Recording.{IsPacket};
 ghost use Rattle.acn_stream.specs.Steps as spec;
 ghost use Rattle.acn_stream.specs.Steps.{IsBounded};
 ghost use Rattle.acn_supply.specs.declared.window.TheConstants.{MOST_IN_HAND};
 
+use crate::shower::Show;
 use acn_check::Checked;
 use acn_grammar::{Fault, Reason, Refuse, Value};
-use acn_json::put_octet;
-use acn_lines::Lines;
 use acn_num::NoMemory;
 use acn_packet_laws::short_is_near;
-use acn_plain::plain_decode;
+use acn_plan::Plan;
 use acn_supply::Supply;
-use acn_tree::Tree;
+use acn_unpack::unpack;
 use std::alloc::Global;
 
-// So many bytes of lines are collected before they are written.
+// So many bytes of texts are collected before they are written.
 const BLOCK: usize = 65_536;
 
 /// Why no more packets are taken of what is in hand.
 #[derive(Drop)]
 pub enum Pause {
-    /// The lines fill a block.
+    /// The texts fill a block.
     Full,
     /// More bytes are wanted: nothing is in hand, or bits are wanting, as this says.
     Wants(Option<Fault>),
@@ -52,27 +49,25 @@ fn is_short(reason: &Reason) -> bool
     matches!(reason, Reason::Short)
 }
 
-// Puts the line of a value, and its end.
-fn put_ended(order: &Lines, tree: &Tree, value: &Value, lines: &mut Vec<u8>) -> Result<(), NoMemory>
-    requires { IsOrder (grammar_of tree.now.root) order.now.order }
-    ensures added { OnOk result (lines.new.items ≡ lines.old.items ++ (line_of (grammar_of tree.now.root) (data_of value.now) ++ 10 ∷ [])) }
-    ensures kept { OnErr result (Kept lines.old.items lines.new.items) }
+// Adds the text of a packet. Where it doesn't fit, what was put of it is cut off again.
+fn put_shown<V: Show>(
+    shower: &V,
+    number: u64,
+    value: &Value,
+    piece: &[u8],
+    text: &mut Vec<u8>,
+) -> Result<(), NoMemory>
+    requires holds { V.holds shower.now }
+    requires packet { IsPacket (V.grammar shower.now) (data_of value.now) piece.now }
+    requires few { length piece.now ≤ MOST_IN_HAND }
+    ensures added { OnOk result (text.new.items ≡ text.old.items ++ V.shown shower.now number (data_of value.now) piece.now) }
+    ensures kept { OnErr result (text.new.items ≡ text.old.items) }
 {
-    order.put(tree, value, lines)?;
-    put_octet(b'\n', lines)
-}
-
-// Adds the line of a value. Where it doesn't fit, what was put of it is cut off again.
-fn put_line(order: &Lines, tree: &Tree, value: &Value, lines: &mut Vec<u8>) -> Result<(), NoMemory>
-    requires { IsOrder (grammar_of tree.now.root) order.now.order }
-    ensures added { OnOk result (lines.new.items ≡ lines.old.items ++ (line_of (grammar_of tree.now.root) (data_of value.now) ++ 10 ∷ [])) }
-    ensures kept { OnErr result (lines.new.items ≡ lines.old.items) }
-{
-    let mark = lines.len();
-    match put_ended(order, tree, value, lines) {
+    let mark = text.len();
+    match shower.show(number, value, piece, text) {
         Ok(()) => Ok(()),
         Err(no_memory) => {
-            lines.truncate(mark);
+            text.truncate(mark);
             Err(no_memory)
         }
     }
@@ -94,62 +89,71 @@ fn pause_of(refuse: Refuse) -> Pause
     }
 }
 
-// Takes the packet at the front of what is in hand, and adds its line.
-fn take_packet(
+// Takes the packet at the front of what is in hand, which stands behind `count` others, and adds its text.
+fn take_packet<V: Show>(
     alloc: Global,
     checked: &Checked,
-    order: &Lines,
+    plan: &Plan,
+    shower: &V,
     supply: &mut Supply,
-    lines: &mut Vec<u8>,
+    text: &mut Vec<u8>,
+    count: u64,
 ) -> Result<(), Pause>
-    requires named { ItemsNamed (grammar_of checked.now.tree.root) }
+    requires planned { steps_of (grammar_of checked.now.tree.root) ≡ plan.now.steps }
     requires bounded { IsBounded (grammar_of checked.now.tree.root) }
-    requires ordered { IsOrder (grammar_of checked.now.tree.root) order.now.order }
-    ensures step { spec.StepsOn (grammar_of checked.now.tree.root) supply.old supply.new lines.old.items lines.new.items result }
+    requires holds { V.holds shower.now }
+    requires same { V.grammar shower.now ≡ grammar_of checked.now.tree.root }
+    requires room { count + length supply.old.hand < 2 ^ 64 }
+    ensures step { spec.StepsOn (grammar_of checked.now.tree.root) (V.shown shower.now) count supply.old supply.new text.old.items text.new.items result }
     ensures near { length supply.new.hand ≤ MOST_IN_HAND }
 {
     short_is_near();
-    let tree = checked.tree();
+    let _accepted = checked.tree();
     let hand = supply.hand();
     if hand.is_empty() {
         return Err(Pause::Wants(None));
     }
-    match plain_decode(alloc, checked, hand) {
-        Ok((value, bits)) => match put_line(order, tree, &value, lines) {
-            Ok(()) => {
-                supply.skip(octets_of(bits));
-                Ok(())
+    match unpack(alloc, plan, hand) {
+        Ok((value, bits)) => {
+            let size = octets_of(bits);
+            match put_shown(shower, count + 1, &value, &hand[..size], text) {
+                Ok(()) => {
+                    supply.skip(size);
+                    Ok(())
+                }
+                Err(_) => Err(Pause::NoMemory),
             }
-            Err(_) => Err(Pause::NoMemory),
-        },
+        }
         Err(refuse) => Err(pause_of(refuse)),
     }
 }
 
-/// Takes packets of what is in hand, adds their lines and counts them, until no more is there or a block is full.
-pub fn take_packets(
+/// Takes packets of what is in hand, adds their texts and counts them, until no more is there or a block is full.
+pub fn take_packets<V: Show>(
     alloc: Global,
     checked: &Checked,
-    order: &Lines,
+    plan: &Plan,
+    shower: &V,
     supply: &mut Supply,
-    lines: &mut Vec<u8>,
+    text: &mut Vec<u8>,
     count: &mut u64,
 ) -> Pause
-    requires named { ItemsNamed (grammar_of checked.now.tree.root) }
+    requires planned { steps_of (grammar_of checked.now.tree.root) ≡ plan.now.steps }
     requires bounded { IsBounded (grammar_of checked.now.tree.root) }
-    requires ordered { IsOrder (grammar_of checked.now.tree.root) order.now.order }
+    requires holds { V.holds shower.now }
+    requires same { V.grammar shower.now ≡ grammar_of checked.now.tree.root }
     requires room { count.old + length supply.old.hand < 2 ^ 64 }
-    ensures taken { spec.TakesMany (grammar_of checked.now.tree.root) supply.old supply.new lines.old.items lines.new.items count.old count.new }
+    ensures taken { spec.TakesMany (grammar_of checked.now.tree.root) (V.shown shower.now) supply.old supply.new text.old.items text.new.items count.old count.new }
     ensures paused { spec.Pauses (grammar_of checked.now.tree.root) supply.new.hand result }
     ensures full { result ≡ Pause.Full → length supply.new.hand < length supply.old.hand }
     ensures near { length supply.new.hand ≤ MOST_IN_HAND }
 {
     loop {
-        match take_packet(alloc, checked, order, supply, lines) {
+        match take_packet(alloc, checked, plan, shower, supply, text, *count) {
             Ok(()) => *count += 1,
             Err(pause) => return pause,
         }
-        if lines.len() >= BLOCK {
+        if text.len() >= BLOCK {
             return Pause::Full;
         }
     }

@@ -7,6 +7,7 @@ use acn_case_trees::{Built, Sheet};
 use acn_check::{Checked, check};
 use acn_num::{Boxed, NoMemory};
 use acn_outside::{MemSink, MemSource};
+use acn_plan::compile;
 use acn_stream::{StreamFault, decode_all, encode_all};
 use acn_tree::{Tree, items_named};
 use std::alloc::Global;
@@ -52,7 +53,10 @@ fn run(
         return Err(StreamFault::NoMemory);
     }
     match setting.question {
-        Question::Decode => decode_all(alloc, checked, input, out, setting.limit),
+        Question::Decode => match compile(alloc, checked) {
+            Ok(plan) => decode_all(alloc, checked, &plan, input, out, setting.limit),
+            Err(_) => Err(StreamFault::NoMemory),
+        },
         Question::Encode => encode_all(alloc, checked, input, out, setting.limit),
     }
 }

@@ -11,7 +11,7 @@ use Rattle.acn_outside.specs.Moves.{Takes, Gains}
 use Rattle.acn_outside.specs.Whole.{GainsFront}
 use Rattle.acn_packet_laws.specs.Laws.{IsAccepted, PacketsArePrefixFree, FailuresRestOnBits, FrontsExcludeFailures, ReachesLieInside}
 use Rattle.acn_stream.specs.Decoding.{Begins, IsDone, IsRefused, DecodeEnds}
-use Rattle.acn_stream.specs.Recording.{IsPacket, Recording, lines}
+use Rattle.acn_stream.specs.Recording.{IsPacket, Recording, lines, lines_text}
 use Rattle.acn_stream.specs.declared.stream_fault.StreamFault.{StreamFault}
 use Rattle.acn_stream.specs.declared.stream_fault.StreamFault.TheVariants.{LineTooLong, InputTooLong, EmptyPacket, Packet, BadLine, Unfit, InputFault, OutputFault, NoMemory}
 use Rattle.acn_stream_laws.proofs.Gaining.{Left, left_of, none_left, all_given, gains_front, front_more}
@@ -36,7 +36,7 @@ module _ (g : Grammar) (accepted : IsAccepted g) (some : 0 < (span g).least) (fr
     lines_are : (before : List Data) (rest : List ℕ) (on : GoesOn (IsPacket g) before values rest) → lines g values ≡ lines g before ++ lines g on.others
     lines_are before rest on = ap (lines g) on.whole ∙ flat_map-append (λ d. line_of g d ++ 10 ∷ []) before on.others
 
-    done : (count : ℕ) → IsDone g limit (Some bytes) i' o o' count → NoRefusal o o' (lines g values) (length values) (Ok count)
+    done : (count : ℕ) → IsDone g (lines_text g) limit (Some bytes) i' o o' count → NoRefusal o o' (lines g values) (length values) (Ok count)
     done count e =
         let l = left_of bytes e.given i' e.taken in
         let same : e.values ≡ values = one_recording g accepted some free lie values e.values bytes recording (subst (Recording g e.values) (sym (all_given bytes e.given i' l e.used_up)) e.recording) in
@@ -55,7 +55,7 @@ module _ (g : Grammar) (accepted : IsAccepted g) (some : 0 < (span g).least) (fr
         subst (GainsFront o o') (sym (lines_are before _ on)) (front_more o o' (lines g before) (lines g on.others) h)
 
     module _ (resting : FailuresRestOnBits) (excluding : FrontsExcludeFailures) (inside : ReachesLieInside) where
-      not_refused : (number : ℕ) (fault : Fault) → IsRefused g limit (Some bytes) i' o o' number fault → ⊥
+      not_refused : (number : ℕ) (fault : Fault) → IsRefused g (lines_text g) limit (Some bytes) i' o o' number fault → ⊥
       not_refused number fault e =
           let l = left_of bytes e.given i' e.taken in
           let on = others_of e.given e.values e.rest l e.begins in

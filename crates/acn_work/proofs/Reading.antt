@@ -12,8 +12,8 @@ use Rattle.acn_grammar.specs.declared.fault.Refuse.TheVariants.{Bad, NoMemory}
 use Rattle.acn_grammar.specs.declared.limits.TheConstants.{MOST_PACKET_BITS}
 use Rattle.acn_bounds.specs.Between.{SpellingsLieBetween}
 use Rattle.acn_plain.specs.Encoded.{IsReadAgain}
-use Rattle.acn_plain_read.specs.Answers.{OnlyFault, OnlyFront}
-use Rattle.acn_plain_read.specs.declared.decode.TheConstants.{MOST_PLAIN_BYTES}
+use Rattle.acn_reads.specs.Answers.{OnlyFault, OnlyFront}
+use Rattle.acn_reads.specs.declared.answers.TheConstants.{MOST_BYTES}
 use Rattle.acn_work.specs.Steps.{HasFront, WritesShort}
 
 pub writes_short : (g : Grammar) (b : Bounds) → SpellingsLieBetween g b → b.greatest ≤ MOST_PACKET_BITS → WritesShort g
@@ -28,7 +28,7 @@ module _ (bs : List Bool) (bytes : List ℕ) (whole : bits bytes ≡ filled bs) 
   pub front : (g : Grammar) (d : Data) → IsReadAgain g d bs → Front g (bits bytes) d (length bs)
   front g d again = subst (λ (input : List Bool). Front g input d (length bs)) (sym whole) (again (replicate (8 * octets (length bs) - length bs) false)).0
 
-  pub few_bytes : length bs ≤ MOST_PACKET_BITS → length bytes ≤ MOST_PLAIN_BYTES
+  pub few_bytes : length bs ≤ MOST_PACKET_BITS → length bytes ≤ MOST_BYTES
   few_bytes short =
       let m = 8 * octets (length bs) - length bs in
       omega (arith, short, length-bits bytes, ap length whole, length-append bs (replicate m false), length-replicate m false)

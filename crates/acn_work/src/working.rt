@@ -4,6 +4,7 @@ ghost use Rattle.std.specs.Prelude.{◌≡◌, ◌+◌, ◌*◌, ◌^◌, ◌<�
 ghost use Rattle.acn_grammar.specs.ItemsNamed.{ItemsNamed};
 ghost use Rattle.acn_grammar.specs.View.{grammar_of};
 ghost use Rattle.acn_grammar.specs.declared.limits.TheConstants.{MOST_PACKET_BITS};
+ghost use Rattle.acn_plan.specs.Steps.{steps_of};
 ghost use Rattle.acn_tree.specs.Made.{made as made_of};
 ghost use Rattle.acn_work.specs.Steps as spec;
 ghost use Rattle.acn_work.specs.Steps.{CameOf, IsShort, WritesShort};
@@ -14,19 +15,26 @@ use crate::trying::{Outcome, outcome_of};
 use acn_bounds::bounds;
 use acn_check::Checked;
 use acn_num::NoMemory;
+use acn_plan::Plan;
 use acn_tree::{Draw, make};
 use std::alloc::Global;
 
 // What comes of the next value. It is let go before the call ends.
-fn next_outcome(alloc: Global, checked: &Checked, draw: &mut Draw) -> Result<Outcome, NoMemory>
+fn next_outcome(
+    alloc: Global,
+    checked: &Checked,
+    plan: &Plan,
+    draw: &mut Draw,
+) -> Result<Outcome, NoMemory>
     requires named { ItemsNamed (grammar_of checked.now.tree.root) }
+    requires planned { steps_of (grammar_of checked.now.tree.root) ≡ plan.now.steps }
     requires writes { WritesShort (grammar_of checked.now.tree.root) }
     ensures came { IfOk result (λ outcome. CameOf (grammar_of checked.now.tree.root) (made_of (grammar_of checked.now.tree.root) draw.old).value outcome) }
     ensures short { IfOk result IsShort }
     ensures draw { OnOk result (draw.new ≡ (made_of (grammar_of checked.now.tree.root) draw.old).state) }
 {
     let value = make(alloc, checked.tree(), draw)?;
-    outcome_of(alloc, checked, &value)
+    outcome_of(alloc, checked, plan, &value)
 }
 
 // The summary with one value more.
@@ -55,15 +63,22 @@ fn counted(before: Summary, outcome: Outcome) -> Summary
 }
 
 /// Makes so many values of an accepted tree from a start, each behind the other (this profile's own generator, as `make` of `acn_tree`
-/// says), writes each by `plain_encode`, reads what was written by `plain_decode`, and tells what came of them. Each value, its bits and
+/// says), writes each by `plain_encode`, reads what was written by `unpack`, and tells what came of them. Each value, its bits and
 /// what was read are let go before the next value is made, so the memory that is taken doesn't grow with their count. Want of memory is
 /// the only refusal.
 ///
-/// The conditions are that the bits of so many packets, of which none has more than `MOST_PACKET_BITS`, can be counted in 64 bits, and
+/// The plan is that of the tree, as `compile` of `acn_plan` makes it. The conditions are that the bits of so many packets, of which none has more than `MOST_PACKET_BITS`, can be counted in 64 bits, and
 /// that every enumeration has fewer than 2^32 items, as `items_named` of `acn_tree` tells.
-pub fn work(alloc: Global, checked: &Checked, start: u64, count: u64) -> Result<Summary, NoMemory>
+pub fn work(
+    alloc: Global,
+    checked: &Checked,
+    plan: &Plan,
+    start: u64,
+    count: u64,
+) -> Result<Summary, NoMemory>
     requires few { count * MOST_PACKET_BITS < 2 ^ 64 }
     requires named { ItemsNamed (grammar_of checked.now.tree.root) }
+    requires planned { steps_of (grammar_of checked.now.tree.root) ≡ plan.now.steps }
     ensures { IfOk result (λ summary. IsSummary (grammar_of checked.now.tree.root) start count summary) }
 {
     let _bounds = bounds(checked);
@@ -75,7 +90,7 @@ pub fn work(alloc: Global, checked: &Checked, start: u64, count: u64) -> Result<
         bits: 0,
     };
     for _ in 0..count {
-        let outcome = next_outcome(alloc, checked, &mut draw)?;
+        let outcome = next_outcome(alloc, checked, plan, &mut draw)?;
         summary = counted(summary, outcome);
     }
     Ok(summary)

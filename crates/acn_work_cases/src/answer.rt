@@ -5,6 +5,7 @@ use acn_case_trees::{Built, Sheet};
 use acn_check::{Checked, check};
 use acn_num::{Boxed, NoMemory};
 use acn_outside::MemSink;
+use acn_plan::compile;
 use acn_tree::{Tree, items_named};
 use acn_work::{Summary, put_summary, work};
 use std::alloc::Global;
@@ -33,7 +34,8 @@ fn worked(alloc: Global, checked: &Checked, start: u64, count: u64) -> Result<St
     if count > MOST_OF_A_CASE {
         return Ok(format!(in alloc; "too many")?);
     }
-    let summary = work(alloc, checked, start, count)?;
+    let plan = compile(alloc, checked)?;
+    let summary = work(alloc, checked, &plan, start, count)?;
     shown(alloc, &summary)
 }
 

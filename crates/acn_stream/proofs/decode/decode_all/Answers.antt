@@ -1,15 +1,8 @@
-use Rattle.std.proofs.Common.{rules, subst}
-use Rattle.acn_grammar.specs.View.{grammar_of}
-use Rattle.acn_lines.specs.Order.{IsOrder}
-use Rattle.acn_stream.proofs.Ending.{bounded, never_begun}
-use Rattle.acn_tree.specs.declared.tree.Tree.{Tree}
+use Rattle.acn_stream.proofs.Ending.{decoded, never_decoded}
 use Rattle.acn_stream.proofs.decode.decode_all.Goals as goal
 
-pub decode_in_order-requires-clause-bounded : goal.decode_in_order-requires-clause-bounded
-decode_in_order-requires-clause-bounded g c = bounded _ c.bounds.result c.bounds.ensures.exact (search rules) c.bounds.ensures.short c.bounds.ensures.between
-
-pub decode_in_order-requires-clause-ordered : goal.decode_in_order-requires-clause-ordered
-decode_in_order-requires-clause-ordered g c = subst (λ (t : Tree). IsOrder (grammar_of t.root) c.in-Ok.order.order) c.tree.ensures.same c.in-Ok.ensures
-
 pub returns-in-Err-clause-ends : goal.returns-in-Err-clause-ends
-returns-in-Err-clause-ends g c = never_begun _ _ _ _
+returns-in-Err-clause-ends g c = never_decoded _ _ _ _
+
+pub returns-in-Ok-clause-ends : goal.returns-in-Ok-clause-ends
+returns-in-Ok-clause-ends g c = decoded _ _ _ _ _ _ _ (rw c.tree-tree.ensures.same at c.show_all.ensures.ends)

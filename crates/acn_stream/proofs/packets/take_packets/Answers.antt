@@ -4,31 +4,31 @@ use Rattle.acn_stream.proofs.Taking.{takes_none, takes_more, takes_kept, shorter
 use Rattle.acn_stream.proofs.packets.take_packets.Goals as goal
 
 pub loop-count-init : goal.loop-count-init
-loop-count-init c = takes_none _ _ _ _
+loop-count-init g c = takes_none _ _ _ _ _
 
 pub overflow_add-count : goal.overflow_add-count
-overflow_add-count c =
-    let less = shorter _ _ _ _ _ c.in-Ok.ensures.step in
-    let before = no_longer _ _ _ _ _ _ _ c.loop-count.invariant in
+overflow_add-count g c =
+    let less = shorter _ _ _ _ _ _ _ c.in-Ok.ensures.step in
+    let before = no_longer _ _ _ _ _ _ _ _ c.loop-count.invariant in
     omega (arith, less, before, c.requires.room)
 
 pub returns-in-Err-clause-taken : goal.returns-in-Err-clause-taken
-returns-in-Err-clause-taken c = takes_kept _ _ _ _ _ _ _ _ _ c.loop-count.invariant c.in-Err.ensures.step.0 c.in-Err.ensures.step.1
+returns-in-Err-clause-taken g c = takes_kept _ _ _ _ _ _ _ _ _ _ c.loop-count.invariant c.in-Err.ensures.step.0 c.in-Err.ensures.step.1
 
 pub returns-in-Err-clause-full : goal.returns-in-Err-clause-full
-returns-in-Err-clause-full c h = absurd (subst NotFull h c.in-Err.ensures.step.3)
+returns-in-Err-clause-full g c h = absurd (subst NotFull h c.in-Err.ensures.step.3)
 
 pub returns-then-len-ge-BLOCK-clause-taken : goal.returns-then-len-ge-BLOCK-clause-taken
-returns-then-len-ge-BLOCK-clause-taken c = takes_more _ _ _ _ _ _ _ _ _ c.loop-count.invariant c.in-Ok.ensures.step
+returns-then-len-ge-BLOCK-clause-taken g c = takes_more _ _ _ _ _ _ _ _ _ _ c.loop-count.invariant c.in-Ok.ensures.step
 
 pub returns-then-len-ge-BLOCK-clause-full : goal.returns-then-len-ge-BLOCK-clause-full
-returns-then-len-ge-BLOCK-clause-full c h =
-    let less = shorter _ _ _ _ _ c.in-Ok.ensures.step in
-    let before = not_longer _ _ _ _ _ _ _ c.loop-count.invariant in
+returns-then-len-ge-BLOCK-clause-full g c h =
+    let less = shorter _ _ _ _ _ _ _ c.in-Ok.ensures.step in
+    let before = not_longer _ _ _ _ _ _ _ _ c.loop-count.invariant in
     omega (arith, less, before)
 
 pub loop-count-smaller : goal.loop-count-smaller
-loop-count-smaller c = shorter _ _ _ _ _ c.in-Ok.ensures.step
+loop-count-smaller g c = shorter _ _ _ _ _ _ _ c.in-Ok.ensures.step
 
 pub loop-count-preserved : goal.loop-count-preserved
-loop-count-preserved c = takes_more _ _ _ _ _ _ _ _ _ c.loop-count.invariant c.in-Ok.ensures.step
+loop-count-preserved g c = takes_more _ _ _ _ _ _ _ _ _ _ c.loop-count.invariant c.in-Ok.ensures.step

@@ -1,0 +1,80 @@
+use Rattle.std.proofs.Common.{arith, ap, subst, Some, Result, ℕ}
+use Rattle.acn_stream.specs.Steps.{EndsReading}
+use Rattle.acn_stream.specs.declared.stream_fault.StreamFault.{StreamFault}
+use Rattle.acn_stream.proofs.Ending.{begun, written_on, room, more_room, refused_now, wants_few, wants_room, stopped, front, rose_later}
+use Rattle.acn_stream.proofs.Taking.{not_longer}
+use Rattle.acn_stream.proofs.showing.show_supply.Goals as goal
+
+pub loop-text-init : goal.loop-text-init
+loop-text-init g c = record { so_far = begun _ _ _ _ _ c.requires.begins; input = omega arith; output = omega arith }
+
+pub take_packets-pause-requires-clause-room : goal.take_packets-pause-requires-clause-room
+take_packets-pause-requires-clause-room g c = room _ _ _ _ _ _ _ _ _ c.loop-text.invariant.so_far c.requires.limit
+
+pub returns-in-Err-clause-ends : goal.returns-in-Err-clause-ends
+returns-in-Err-clause-ends g c =
+    front _ _ _ _ _ _ _ _ _ _ _ _ _ _ c.loop-text.invariant.so_far c.take_packets-pause.ensures.taken c.clear.ensures.items c.take_packets-pause.ensures.near (rw c.deref.ensures.value at c.in-Err.ensures.front)
+
+pub loop-text-smaller-in-Full : goal.loop-text-smaller-in-Full
+loop-text-smaller-in-Full g c = omega (arith, c.take_packets-pause.ensures.taken.left, c.take_packets-pause.ensures.full c.in-Full.is)
+
+pub loop-text-preserved-in-Full : goal.loop-text-preserved-in-Full
+loop-text-preserved-in-Full g c = record {
+  so_far = written_on _ _ _ _ _ _ _ _ _ _ _ _ _ _ c.loop-text.invariant.so_far c.take_packets-pause.ensures.taken c.clear.ensures.items (rw c.deref.ensures.value at c.in-Ok.ensures.written);
+  input = c.loop-text.invariant.input;
+  output = omega (arith, c.loop-text.invariant.output, c.in-Ok.ensures.count);
+}
+
+pub read_on-requires-clause-few : goal.read_on-requires-clause-few
+read_on-requires-clause-few g c = wants_few _ _ _ (rw c.in-Wants.is at c.take_packets-pause.ensures.paused)
+
+pub read_on-requires-clause-room : goal.read_on-requires-clause-room
+read_on-requires-clause-room g c =
+    let so = written_on _ _ _ _ _ _ _ _ _ _ _ _ _ _ c.loop-text.invariant.so_far c.take_packets-pause.ensures.taken c.clear.ensures.items (rw c.deref.ensures.value at c.in-Ok.ensures.written) in
+    wants_room _ _ _ _ _ _ _ _ _ _ so c.requires.limit (rw c.in-Wants.is at c.take_packets-pause.ensures.paused)
+
+pub loop-text-smaller : goal.loop-text-smaller
+loop-text-smaller g c =
+    let so = written_on _ _ _ _ _ _ _ _ _ _ _ _ _ _ c.loop-text.invariant.so_far c.take_packets-pause.ensures.taken c.clear.ensures.items (rw c.deref.ensures.value at c.in-Ok.ensures.written) in
+    let more = c.in-None.ensures.goes_on _ _ _ _ _ _ so (rw c.in-Wants.is at c.take_packets-pause.ensures.paused) in
+    omega (arith, more.1, c.take_packets-pause.ensures.taken.left, not_longer _ _ _ _ _ _ _ _ c.take_packets-pause.ensures.taken)
+
+pub loop-text-preserved : goal.loop-text-preserved
+loop-text-preserved g c =
+    let so = written_on _ _ _ _ _ _ _ _ _ _ _ _ _ _ c.loop-text.invariant.so_far c.take_packets-pause.ensures.taken c.clear.ensures.items (rw c.deref.ensures.value at c.in-Ok.ensures.written) in
+    let more = c.in-None.ensures.goes_on _ _ _ _ _ _ so (rw c.in-Wants.is at c.take_packets-pause.ensures.paused) in
+    record {
+      so_far = more.0;
+      input = omega (arith, c.loop-text.invariant.input, c.in-None.ensures.count);
+      output = omega (arith, c.loop-text.invariant.output, c.in-Ok.ensures.count);
+    }
+
+pub returns-in-Some-clause-ends : goal.returns-in-Some-clause-ends
+returns-in-Some-clause-ends g c =
+    let so = written_on _ _ _ _ _ _ _ _ _ _ _ _ _ _ c.loop-text.invariant.so_far c.take_packets-pause.ensures.taken c.clear.ensures.items (rw c.deref.ensures.value at c.in-Ok.ensures.written) in
+    c.in-Some.ensures.goes_on _ _ _ _ _ _ so (rw c.in-Wants.is at c.take_packets-pause.ensures.paused)
+
+pub returns-in-Some-clause-input_fault : goal.returns-in-Some-clause-input_fault
+returns-in-Some-clause-input_fault g c h = rose_later _ _ _ c.loop-text.invariant.input c.in-Some.ensures.count (c.in-Some.ensures.failed (ap Some h))
+
+pub returns-in-Some-clause-output_fault : goal.returns-in-Some-clause-output_fault
+returns-in-Some-clause-output_fault g c h = absurd (subst (λ (r : Result ℕ StreamFault). EndsReading (Some r)) h c.in-Some.ensures.known)
+
+pub returns-in-Some-clause-some : goal.returns-in-Some-clause-some
+returns-in-Some-clause-some g c h = subst (λ (r : Result ℕ StreamFault). EndsReading (Some r)) h c.in-Some.ensures.known
+
+pub overflow_add-result : goal.overflow_add-result
+overflow_add-result g c =
+    let so = written_on _ _ _ _ _ _ _ _ _ _ _ _ _ _ c.loop-text.invariant.so_far c.take_packets-pause.ensures.taken c.clear.ensures.items (rw c.deref.ensures.value at c.in-Ok.ensures.written) in
+    let room = more_room _ _ _ _ _ _ _ _ _ _ so c.requires.limit (rw c.in-Refused.is at c.take_packets-pause.ensures.paused) in
+    omega (arith, room)
+
+pub returns-in-Refused-clause-ends : goal.returns-in-Refused-clause-ends
+returns-in-Refused-clause-ends g c =
+    let so = written_on _ _ _ _ _ _ _ _ _ _ _ _ _ _ c.loop-text.invariant.so_far c.take_packets-pause.ensures.taken c.clear.ensures.items (rw c.deref.ensures.value at c.in-Ok.ensures.written) in
+    refused_now _ _ _ _ _ _ _ _ _ _ so c.take_packets-pause.ensures.near (rw c.in-Refused.is at c.take_packets-pause.ensures.paused)
+
+pub returns-in-NoMemory-clause-ends : goal.returns-in-NoMemory-clause-ends
+returns-in-NoMemory-clause-ends g c =
+    let so = written_on _ _ _ _ _ _ _ _ _ _ _ _ _ _ c.loop-text.invariant.so_far c.take_packets-pause.ensures.taken c.clear.ensures.items (rw c.deref.ensures.value at c.in-Ok.ensures.written) in
+    stopped _ _ _ _ _ _ _ _ _ so c.take_packets-pause.ensures.near
