@@ -159,3 +159,13 @@ tables_from (t ∷ ts) some fits =
 -- each proper tree is read from its tokens
 pub tables_again : (t : MapTables) → IsProper t → tables (tokens_of t) ≡ Ok (t, [])
 tables_again t fits = tables_from t.tables fits.some fits.tables
+
+abbrev pair : MapTables → MapTables × List Lexeme
+pair t = (t, [])
+
+-- tokens are those of at most one proper tree
+pub one_proper : (t u : MapTables) → IsProper t → IsProper u → tokens_of t ≡ tokens_of u → t ≡ u
+one_proper t u p q e = same (sym (tables_again t p) ∙ ap tables e ∙ tables_again u q)
+  where
+    same : outcome t [] ≡ outcome u [] → t ≡ u
+    same h = let p : pair t ≡ pair u = cc h in ap (λ (x : MapTables × List Lexeme). x.0) p

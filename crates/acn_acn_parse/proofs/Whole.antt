@@ -1,5 +1,5 @@
 -- From the data of modules to the trees of the program.
-use Rattle.std.proofs.Common.{◌≡◌, ℕ, List, Option, Some, None, refl, sym, ap, subst, ◌∙◌, length}
+use Rattle.std.proofs.Common.{◌≡◌, ℕ, List, [], Option, Some, None, refl, sym, ap, subst, ◌∙◌, length}
 use Rattle.std.specs.Prelude.{Result, Ok, Err}
 use Rattle.acn_lex.specs.Lexeme.{Lexeme}
 use Rattle.acn_cursor.specs.Exact.{screen, in_file, stops_at, IsOnly, IsPlaced}
@@ -7,6 +7,7 @@ use Rattle.acn_cursor.specs.Steps.{Whole, Outcome}
 use Rattle.acn_cursor.specs.declared.fault.ParseFault.{ParseFault}
 use Rattle.acn_cursor.specs.declared.stop.Stop.{Stop}
 use Rattle.acn_cursor.specs.declared.fault.ParseFault.TheVariants.{Syntax, TooDeep, LeftOut, NoMemory}
+use Rattle.acn_cursor.proofs.Laws.{outcome}
 use Rattle.acn_cursor.proofs.Wholes.{IsExact, screened_exact, whole_exact}
 use Rattle.acn_acn_syntax.specs.Mirror.{Module}
 use Rattle.acn_acn_syntax.specs.ModuleTokens.{tokens_of, acn_tokens, IsProperAcn}
@@ -72,3 +73,16 @@ read_exact ts n r is none h =
 
 pub stopped_exact : (ts : List Lexeme) (e : ParseFault) → screen left_out_tokens ts ≡ Some e → {place : Option ℕ} → IsExact acn_tokens IsProperAcn left_out_tokens ts place (Err e)
 stopped_exact ts e h = screened_exact acn_tokens IsProperAcn left_out_tokens ts e h
+
+abbrev pair : List Module → List Module × List Lexeme
+pair x = (x, [])
+
+-- tokens are those of at most one proper tree
+pub one_proper : (t u : AcnModules) → IsProperAcn t → IsProperAcn u → acn_tokens t ≡ acn_tokens u → t ≡ u
+one_proper t u p q e = same_modules t u (one (modules_of t) (modules_of u) p q e)
+  where
+    same : (x y : List Module) → outcome x [] ≡ outcome y [] → x ≡ y
+    same x y h = let p : pair x ≡ pair y = cc h in ap (λ (z : List Module × List Lexeme). z.0) p
+
+    one : (x y : List Module) → IsProper x → IsProper y → tokens_of x ≡ tokens_of y → x ≡ y
+    one x y p q e = same x y (sym (modules_again x p) ∙ ap (λ ts. modules_at (length ts) ts) e ∙ modules_again y q)

@@ -3,10 +3,12 @@
 
 mod attributes;
 mod fields;
+mod laws;
 mod maps;
 mod modules;
 mod parse;
 mod words;
 
+pub use laws::one_proper_tree;
 pub use maps::parse_map;
 pub use parse::parse_acn;

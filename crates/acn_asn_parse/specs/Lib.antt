@@ -1,3 +1,4 @@
 pub mod Headers
 pub mod Modules
 pub mod Whole
+pub mod Laws

@@ -2,7 +2,9 @@
 #![tactic(auto)]
 
 mod headers;
+mod laws;
 mod modules;
 mod parse;
 
+pub use laws::one_proper_tree;
 pub use parse::parse_asn;

@@ -1,2 +1,3 @@
 pub mod Grammars
 pub mod Loaded
+pub mod Laws

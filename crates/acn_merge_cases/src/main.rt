@@ -9,7 +9,6 @@
 
 mod answer;
 mod fault_words;
-mod leaf_words;
 mod sheet;
 mod tree_words;
 mod trouble;

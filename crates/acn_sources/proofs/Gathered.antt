@@ -96,7 +96,7 @@ are_sources files s h = record {
 abbrev sources_of : List AsnModules → List AcnModules → List MapTables → Sources
 sources_of xs cs ms = record { asn = xs; acn = cs; maps = ms }
 
-same_sources : (s u : Sources) → s.asn ≡ u.asn → s.acn ≡ u.acn → s.maps ≡ u.maps → s ≡ u
+pub same_sources : (s u : Sources) → s.asn ≡ u.asn → s.acn ≡ u.acn → s.maps ≡ u.maps → s ≡ u
 same_sources s u a b c = ap (λ x. sources_of x s.acn s.maps) a ∙ ap (λ x. sources_of u.asn x s.maps) b ∙ ap (λ x. sources_of u.asn u.acn x) c
 
 pub one_sources : (files : List File) (s u : Sources) → AreGathered files s → AreSources files u → s ≡ u

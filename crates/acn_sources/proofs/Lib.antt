@@ -1,2 +1,3 @@
 mod Read
 mod Gathered
+mod Alike

@@ -3,10 +3,12 @@
 
 mod fault;
 mod kind;
+mod laws;
 mod reading;
 mod sources;
 
 pub use fault::{FileFault, SourcesFault};
 pub use kind::FileKind;
+pub use laws::{faults_have_no_trees, one_sources};
 pub use reading::{read_acn, read_asn, read_map};
 pub use sources::{File, read_sources};
