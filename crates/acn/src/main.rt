@@ -5,6 +5,7 @@ mod questions;
 #[cfg(test)]
 mod tests;
 
+use acn_advice::{Heard, advise};
 use acn_outside::{StdError, StdFiles, StdInput, StdOutput};
 use acn_run::run;
 use questions::question_in;
@@ -20,8 +21,17 @@ enum WordsFault {
     NoMemory,
 }
 
+/// What the program is called with.
+struct Call {
+    /// Whether `--hints` stands in front of the words.
+    hints: bool,
+    /// The words behind it.
+    words: Vec<String>,
+}
+
 /// The words behind the program's name.
-fn words(rt: &HostRuntime) -> Result<Vec<String>, WordsFault> {
+fn called(rt: &HostRuntime) -> Result<Call, WordsFault> {
+    let mut hints = false;
     let mut words = Vec::new(rt.alloc());
     let all = match env::args(rt) {
         Ok(all) => all,
@@ -29,11 +39,13 @@ fn words(rt: &HostRuntime) -> Result<Vec<String>, WordsFault> {
         Err(_) => return Err(WordsFault::NotText),
     };
     for (i, word) in all.enumerate() {
-        if i > 0 && words.push(word).is_err() {
+        if i == 1 && word.as_str() == "--hints" {
+            hints = true;
+        } else if i > 0 && words.push(word).is_err() {
             return Err(WordsFault::NoMemory);
         }
     }
-    Ok(words)
+    Ok(Call { hints, words })
 }
 
 /// Says that memory ran out, and answers the status for it.
@@ -43,9 +55,12 @@ fn out_of_memory(rt: &HostRuntime) -> ExitCode {
 }
 
 fn main(rt: HostRuntime) -> ExitCode {
-    let words = match words(&rt) {
-        Ok(words) => words,
-        Err(WordsFault::NotText) => Vec::new(rt.alloc()),
+    let Call { hints, words } = match called(&rt) {
+        Ok(called) => called,
+        Err(WordsFault::NotText) => Call {
+            hints: false,
+            words: Vec::new(rt.alloc()),
+        },
         Err(WordsFault::NoMemory) => return out_of_memory(&rt),
     };
     if let Some(question) = question_in(&words) {
@@ -60,13 +75,18 @@ fn main(rt: HostRuntime) -> ExitCode {
     let stdout = rt.stdout();
     let stderr = rt.stderr();
     let mut out = StdOutput::new(&stdout);
-    let mut err = StdError::new(&stderr);
-    ExitCode::from(run(
+    let mut err = Heard::new(rt.alloc(), StdError::new(&stderr));
+    let status = run(
         rt.alloc(),
         &words,
         &mut files,
         &mut input,
         &mut out,
         &mut err,
-    ))
+    );
+    if hints {
+        let (mut err, line) = err.into_parts();
+        advise(rt.alloc(), &words, status, &line, &mut files, &mut err);
+    }
+    ExitCode::from(status)
 }

@@ -1,27 +1,57 @@
 ghost use Rattle.std.specs.Prelude.{◌≡◌, map, string_bytes};
 ghost use Rattle.acn.specs.Questions as spec;
 
-const HELP: &str = "Usage: acn check FILE..              acn check tm.asn tm.acn
-       acn bounds FILE..             acn bounds tm.asn tm.acn
-       acn layout TYPE FILE..        acn layout Tm.Packet tm.asn tm.acn
-       acn encode TYPE FILE..        acn encode Tm.Packet tm.asn tm.acn < lines > packets
-       acn decode TYPE FILE..        acn decode Tm.Packet tm.asn tm.acn < packets > lines
-       acn work TYPE START COUNT FILE..
-                                     acn work Tm.Packet 1 1000 tm.asn tm.acn
-       acn --help
-       acn --version
+const HELP: &str = "acn: checks packet grammars and converts packets
 
-check     says of each root type that its packets can be decoded
-bounds    prints the least and the greatest number of bits of each root type
-layout    prints a line for each node of the type
-encode    reads JSON lines and writes packets
-decode    reads packets and writes JSON lines
-work      makes COUNT values from the number START, writes and reads each
+Usage:
+  acn check FILE..
+  acn bounds FILE..
+  acn layout TYPE FILE..
+  acn encode TYPE FILE..
+  acn decode TYPE FILE..
+  acn compare OLD NEW FILE..
+  acn work TYPE START COUNT FILE..
+  acn --help
+  acn --version
 
-A FILE ends in .asn or .asn1, .acn or .map; at least one holds ASN.1 modules.
-TYPE is MODULE.NAME. A refusal is one line on standard error; the status is
-1 for bad words, 2 for refused files, 3 for refused input, 4, 5 and 6 where a
-file, the input or the output fails, and 7 where memory runs out.
+Commands:
+  check   says of each root type that its packets can be decoded
+          acn check tm.asn tm.acn tm.map
+  bounds  prints the least and the greatest number of bits of each root type
+          acn bounds tm.asn tm.acn tm.map
+  layout  prints a line for each node of TYPE: path, kind, bounds, coding
+          acn layout Tm.Packet tm.asn tm.acn tm.map
+  encode  reads lines of JSON, and writes packets of TYPE
+          acn encode Tm.Packet tm.asn tm.acn tm.map < lines > packets
+  decode  reads packets of TYPE, and writes lines of JSON
+          acn decode Tm.Packet tm.asn tm.acn tm.map < packets > lines
+  compare tells whether packets of OLD are read alike by NEW, or why not
+          acn compare Old.Packet New.Packet old.asn old.acn new.asn new.acn
+  work    makes COUNT values of TYPE from START, writes and reads each
+          acn work Tm.Packet 1 1000 tm.asn tm.acn tm.map
+
+Words:
+  FILE    a file of ASN.1 (.asn, .asn1), ACN (.acn) or tables (.map): at most
+          1000, and at least one of ASN.1
+  TYPE    the name of a module, a full stop, and the name of a type
+  OLD     the TYPE whose packets are there
+  NEW     the TYPE by which they are to be read
+  START   a decimal number below 2^64
+  COUNT   a decimal number from 1 to 1000000
+
+Status:
+  0       done
+  1       the words have no form above
+  2       the files are refused
+  3       a packet, a line or the input is refused
+  4       a FILE can't be read
+  5       the input fails
+  6       the output fails
+  7       memory runs out
+
+With each status but 0, a line on standard error says why; with --hints in
+front of the words, lines behind it say what helps. What the words of a line
+mean stands in docs/messages.md, and is printed by acn --explain WORD.
 ";
 
 const VERSION: &str = "acn 0.1\n";

@@ -25,9 +25,9 @@ fn each_question_stands_alone(rt: HostRuntime) -> Result<(), Fail> {
 #[test]
 fn each_question_has_its_text(rt: HostRuntime) {
     assert!(rt;
-        Question::Help
-            .text()
-            .starts_with("Usage: acn check FILE..  ")
+        Question::Help.text().starts_with(
+            "acn: checks packet grammars and converts packets\n\nUsage:\n  acn check FILE..\n"
+        )
     );
     assert_eq!(rt; Question::Version.text(), "acn 0.1\n");
 }

@@ -1,10 +1,15 @@
 -- From the clauses of a stream to whether it was begun, and which device failed.
-use Rattle.std.proofs.Common.{ℕ, refl}
+use Rattle.std.proofs.Common.{◌≡◌, ◌<◌, ℕ, zero, suc, refl, arith}
 use Rattle.std.specs.Prelude.{Result, Ok, Err, IsErrOf}
 use Rattle.acn_outside.specs.Counts.{Rose}
 use Rattle.acn_stream.specs.declared.stream_fault.StreamFault.{StreamFault}
 use Rattle.acn_stream.specs.declared.stream_fault.StreamFault.TheVariants as stream
 use Rattle.acn_run.specs.Steps.{WasBegun, FailedSo}
+
+-- what isn't 0 is above it
+pub above : (n : ℕ) → (n ≡ 0 → ⊥) → 0 < n
+above zero h = absurd (h refl)
+above (suc n) h = omega arith
 
 pub was_begun : (r : Result ℕ StreamFault) → (IsErrOf r stream.EmptyPacket → ⊥) → WasBegun r
 was_begun (Ok count) h = tt

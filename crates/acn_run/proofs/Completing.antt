@@ -12,21 +12,17 @@ use Rattle.acn_stream.specs.declared.stream_fault.StreamFault.{StreamFault}
 use Rattle.acn_stream.specs.declared.stream_fault.StreamFault.TheVariants as stream
 use Rattle.acn_stream_laws.specs.Laws.{RecordingsAreDecoded, LinesAreEncoded, NoRefusal}
 use Rattle.acn_tree.specs.declared.tree.Tree.{Tree}
-use Rattle.acn_words.specs.Requests.{Request, check, bounds, layout, encode, decode, work, request_in, reads_input}
+use Rattle.acn_words.specs.Requests.{Request, check, bounds, layout, encode, decode, compare, work, request_in, reads_input}
 use Rattle.acn_run.specs.Asked.{HasGrammars}
 use Rattle.acn_run.specs.Complete as complete
 use Rattle.acn_run.specs.Complete.{NothingFailed, IsUnrefused, Holds, AreConverted, CanBeConverted, DoesTheWhole, IsComplete}
 use Rattle.acn_run.specs.Outside.{Outside}
 use Rattle.acn_run.specs.Refusals as refusals
-use Rattle.acn_run.specs.Run.{code_of, is_of_input, Converts, Serves, printed, converted, refused, unconverted, unreadable, broken_off, unwritten, cut, stopped, halted, Ends, no_form, served}
+use Rattle.acn_run.specs.Run.{code_of, is_of_input, Converts, StreamEnds, Serves, printed, converted, refused, unconverted, unreadable, broken_off, unwritten, cut, stopped, halted, Ends, no_form, served}
 use Rattle.acn_run.specs.declared.status.Status.{Status}
 use Rattle.acn_run.specs.declared.status.Status.TheVariants.{Done, Usage, NoGrammar, BadInput, FileFailed, InputFailed, OutputFailed, NoMemory}
 use Rattle.acn_run.specs.declared.streams.TheConstants.{MOST_INPUT_BYTES}
 use Rattle.acn_run.proofs.Ended.{is_accepted}
-
-above : (n : ℕ) → (n ≡ 0 → ⊥) → 0 < n
-above zero h = absurd (h refl)
-above (suc n) h = omega arith
 
 ok_is_no_fault : (count : ℕ) (fault : StreamFault) → Ok count ≡ Err fault → ⊥
 ok_is_no_fault count fault e = cc
@@ -50,7 +46,7 @@ module _ (decoded : RecordingsAreDecoded) (encoded : LinesAreEncoded) (b a : Out
   abbrev g : Grammar
   g = grammar_of tree.root
 
-  not_refused : (request : Request) (values : List Data) (result : Result ℕ StreamFault) → Holds request g b.input values → Converts request tree b a result → (IsErrOf result stream.EmptyPacket → (span g).least ≡ 0)
+  not_refused : (request : Request) (values : List Data) (result : Result ℕ StreamFault) → Holds request g b.input values → StreamEnds request tree b a result → (IsErrOf result stream.EmptyPacket → (span g).least ≡ 0)
       → (text : List ℕ) × AreConverted request g values text × NoRefusal b.out.0 a.out.0 text (length values) result
   not_refused (encode of names) values result h c empty =
       let w = encoded g MOST_INPUT_BYTES h.ls values h.bytes a.input b.out.0 a.out.0 result bits h.lines h.give h.written h.within (subst (λ i. EncodeEnds g MOST_INPUT_BYTES i a.input b.out.0 a.out.0 result) h.is c) empty in
@@ -60,24 +56,15 @@ module _ (decoded : RecordingsAreDecoded) (encoded : LinesAreEncoded) (b a : Out
   not_refused (check names) values result h c empty = absurd c
   not_refused (bounds names) values result h c empty = absurd c
   not_refused (layout of names) values result h c empty = absurd c
+  not_refused (compare old new names) values result h c empty = absurd c
   not_refused (work of start count names) values result h c empty = absurd c
-
--- a command that converts reads the input
-converts_reads : (request : Request) (tree : Tree) (b a : Outside) (result : Result ℕ StreamFault) → Converts request tree b a result → IsTrue (reads_input request)
-converts_reads (encode of names) tree b a result c = refl
-converts_reads (decode of names) tree b a result c = refl
-converts_reads (check names) tree b a result c = absurd c
-converts_reads (bounds names) tree b a result c = absurd c
-converts_reads (layout of names) tree b a result c = absurd c
-converts_reads (work of start count names) tree b a result c = absurd c
 
 module _ (decoded : RecordingsAreDecoded) (encoded : LinesAreEncoded) (b a : Outside) (request : Request) (unrefused : IsUnrefused b.files request) (sure : NothingFailed b a) (can : CanBeConverted b request) where
   ended : (tree : Tree) → HasGrammars b.files request (tree ∷ []) → (result : Result ℕ StreamFault) → Converts request tree b a result → (IsErrOf result stream.EmptyPacket → ⊥)
       → (values : List Data) × (text : List ℕ) × Holds request (grammar_of tree.root) b.input values × AreConverted request (grammar_of tree.root) values text × NoRefusal b.out.0 a.out.0 text (length values) result
   ended tree has result c begun =
-      let bits = above (span (grammar_of tree.root)).least (λ e. unrefused _ (refusals.empty tree has (converts_reads request tree b a result c) e)) in
       let held = can tree has in
-      let n = not_refused decoded encoded b a tree (is_accepted b.files request tree has) bits request held.0 result held.1 c (λ e. absurd (begun e)) in
+      let n = not_refused decoded encoded b a tree (is_accepted b.files request tree has) c.some request held.0 result held.1 c.ends (λ e. absurd (begun e)) in
       (held.0, n.0, held.1, n.1, n.2)
 
   whole : (status : Status) → Serves b a request status → DoesTheWhole b a request (code_of status)

@@ -2,8 +2,12 @@ mod Promise
 mod Sorted
 mod Serving
 mod Streaming
+mod TwoGrammars
 mod Refusing
-mod Summing
+mod Printing
 mod Ended
 mod Begun
 mod Completing
+mod Named
+mod Excluded
+mod Unfailed

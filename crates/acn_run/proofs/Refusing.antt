@@ -1,5 +1,5 @@
 -- From what is said of sources to why the request is refused.
-use Rattle.std.proofs.Common.{◌≡◌, ℕ, List, [], ◌∷◌, Option, Some, None, option_map, refl, sym, ap, ◌∙◌, subst, arith}
+use Rattle.std.proofs.Common.{◌≡◌, ℕ, List, [], ◌∷◌, Option, Some, None, refl, sym, ap, ◌∙◌, subst, arith}
 use Rattle.std.specs.Prelude.{slice_get}
 use Rattle.acn_files.specs.Contents.{Told, IsFirstTooLong}
 use Rattle.acn_files.specs.declared.whole.FilesFault.{FilesFault}
@@ -19,12 +19,12 @@ use Rattle.acn_source_report.specs.Texts.{name_line, unreadable_line}
 use Rattle.acn_sources.specs.declared.fault.SourcesFault.{SourcesFault}
 use Rattle.acn_sources.specs.declared.sources.File.{File}
 use Rattle.acn_words.specs.Names.{TypeName}
-use Rattle.acn_words.specs.Requests.{Request, files_of, type_of}
+use Rattle.acn_words.specs.Requests.{Request, files_of, types_of}
 use Rattle.acn_world.specs.declared.fault.NameFault.{NameFault}
-use Rattle.acn_run.specs.Asked.{AreRead, IsWorldOfNames, types_for}
+use Rattle.acn_run.specs.Asked.{AreRead, IsWorldOfNames, with_type, types_for}
 use Rattle.acn_run.specs.Outside.{Says}
 use Rattle.acn_run.specs.Refusals as refusals
-use Rattle.acn_run.specs.Refusals.{HasTypeFault, unknown_line}
+use Rattle.acn_run.specs.Refusals.{HasTypeFault, IsFirstUnknown, unknown_line}
 use Rattle.acn_run.specs.Run.{refused, unreadable, stopped}
 use Rattle.acn_run.specs.Steps.{EndsEarly, EndsForFiles, EndsForWorld, IsUnread, SaysOfName, SaysOfFile, TellsTypeFault}
 use Rattle.acn_run.specs.declared.status.Status.{Status}
@@ -76,8 +76,8 @@ module _ (names contents : List (List ℕ)) (files : List File) (err err' : Outp
       refusal_ends told faults faults' request err err' status _ e (refusals.name contents files f read' load) says
 
 -- a type in question has no grammar
-module _ (w : World) (named : Option TypeName) (types : List TypeId) (question : types_for w named ≡ Some types) (err err' : Output) where
-  fault_of : (told : Told) (request : Request) (f : TypeFault) → IsWorldOfNames told (files_of request) w → type_of request ≡ named → IsFirstTypeFault w types f → HasTypeFault told request w f
+module _ (w : World) (named : Option (List TypeName)) (types : List TypeId) (question : types_for w named ≡ Some types) (err err' : Output) where
+  fault_of : (told : Told) (request : Request) (f : TypeFault) → IsWorldOfNames told (files_of request) w → types_of request ≡ named → IsFirstTypeFault w types f → HasTypeFault told request w f
   fault_of told request f read is first = record { types = types; read = read; question = rw is question; first = first }
 
   pub type_ends : (f : TypeFault) (status : Status) → IsFirstTypeFault w types f → TellsTypeFault f err err' status → EndsForWorld w named err err' status
@@ -91,13 +91,14 @@ module _ (w : World) (named : Option TypeName) (types : List TypeId) (question :
 pub one_fault : (w : World) (of : TypeId) (f : TypeFault) → IsTypeFault w of f → IsFirstTypeFault w (of ∷ []) f
 one_fault w of f h = record { front = []; of = of; back = []; parts = refl; trees = []; before = tt; fault = h }
 
-pub is_named : (w : World) (of : TypeName) (t : TypeId) → Some t ≡ type_in w of.module_name of.name → types_for w (Some of) ≡ Some (t ∷ [])
-is_named w of t e = ap (option_map (λ x. x ∷ [])) (sym e)
+pub is_named : (w : World) (of : TypeName) (t : TypeId) → Some t ≡ type_in w of.module_name of.name → types_for w (Some (of ∷ [])) ≡ Some (t ∷ [])
+is_named w of t e = ap (λ o. with_type o (Some [])) (sym e)
 
-pub is_unknown : (w : World) (of : TypeName) → None ≡ type_in w of.module_name of.name → types_for w (Some of) ≡ None
-is_unknown w of e = ap (option_map (λ x. x ∷ [])) (sym e)
+-- the one type that is named isn't there
+pub one_unknown : (w : World) (of : TypeName) → None ≡ type_in w of.module_name of.name → IsFirstUnknown w (of ∷ []) of
+one_unknown w of e = record { front = []; back = []; parts = refl; known = ([], refl); unknown = sym e }
 
--- no type has the name
-pub unknown_ends : (w : World) (of : TypeName) (err err' : Output) (status : Status) → types_for w (Some of) ≡ None → status ≡ NoGrammar → Says (unknown_line of) err err' → EndsForWorld w (Some of) err err' status
-unknown_ends w of err err' status none e says told faults faults' request read is =
-    refusal_ends told faults faults' request err err' status _ e (refusals.unknown w of read is (rw is none)) says
+-- a type that is named isn't there
+pub unknown_ends : (w : World) (names : List TypeName) (of : TypeName) (err err' : Output) (status : Status) → IsFirstUnknown w names of → status ≡ NoGrammar → Says (unknown_line of) err err' → EndsForWorld w (Some names) err err' status
+unknown_ends w names of err err' status first e says told faults faults' request read is =
+    refusal_ends told faults faults' request err err' status _ e (refusals.unknown w names of read is first) says

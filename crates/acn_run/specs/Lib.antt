@@ -6,3 +6,6 @@ pub mod Refusals
 pub mod Run
 pub mod Steps
 pub mod Complete
+pub mod Missing
+pub mod Exactly
+pub mod Compared

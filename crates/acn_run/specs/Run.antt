@@ -1,6 +1,7 @@
 -- How a run ends, by its status. (This program's own.)
-use Rattle.std.specs.Prelude.{◌≡◌, ℕ, Bool, true, false, List, [], ◌∷◌, Some, None, Result, Ok, Err, slice_get}
+use Rattle.std.specs.Prelude.{◌≡◌, ◌<◌, ℕ, Bool, true, false, List, [], ◌∷◌, Some, None, Result, Ok, Err, slice_get}
 use Rattle.std.specs.List.{flat_map}
+use Rattle.acn_grammar.specs.Interval.{span}
 use Rattle.acn_grammar.specs.View.{grammar_of}
 use Rattle.acn_layout.specs.Layout.{layout_text}
 use Rattle.acn_outside.specs.Counts.{Rose}
@@ -14,11 +15,12 @@ use Rattle.acn_stream.specs.Encoding.{EncodeEnds}
 use Rattle.acn_stream.specs.declared.stream_fault.StreamFault.{StreamFault}
 use Rattle.acn_stream.specs.declared.stream_fault.StreamFault.TheVariants as stream
 use Rattle.acn_tree.specs.declared.tree.Tree.{Tree}
-use Rattle.acn_words.specs.Requests.{Request, check, bounds, layout, encode, decode, work, request_in, files_of}
+use Rattle.acn_words.specs.Requests.{Request, check, bounds, layout, encode, decode, compare, work, request_in, files_of}
 use Rattle.acn_work.specs.Line.{summary_line}
 use Rattle.acn_work.specs.Summaries.{IsSummary}
 use Rattle.acn_work.specs.declared.summary.Summary.{Summary}
 use Rattle.acn_run.specs.Asked.{HasGrammars}
+use Rattle.acn_run.specs.Compared.{IsAnswerLine}
 use Rattle.acn_run.specs.Lines.{usage_line, input_failed_line, output_failed_line, ok_line, stream_line}
 use Rattle.acn_run.specs.Outside.{Outside, Says, IsSilent, IsUnread, IsUntouched}
 use Rattle.acn_run.specs.Refusals.{Refuses}
@@ -56,14 +58,21 @@ IsText (bounds names) trees text = text ≡ flat_map bounds_line trees
 IsText (layout of names) trees text = text ≡ flat_map layout_text trees
 IsText (encode of names) trees text = ⊥
 IsText (decode of names) trees text = ⊥
+IsText (compare old new names) (tree ∷ newer ∷ []) text = IsAnswerLine tree newer text
+IsText (compare old new names) _ text = ⊥
 IsText (work of start count names) (tree ∷ []) text = (s : Summary) × IsSummary (grammar_of tree.root) start count s × (text ≡ summary_line s)
 IsText (work of start count names) _ text = ⊥
 
--- how a command that reads the input converts it
-abbrev pub Converts : Request → Tree → (b a : Outside) → Result ℕ StreamFault → Type 0
-Converts (encode of names) tree b a result = EncodeEnds (grammar_of tree.root) MOST_INPUT_BYTES b.input a.input b.out.0 a.out.0 result
-Converts (decode of names) tree b a result = DecodeEnds (grammar_of tree.root) MOST_INPUT_BYTES b.input a.input b.out.0 a.out.0 result
-Converts _ tree b a result = ⊥
+-- how the stream of a command that reads the input ends
+abbrev pub StreamEnds : Request → Tree → (b a : Outside) → Result ℕ StreamFault → Type 0
+StreamEnds (encode of names) tree b a result = EncodeEnds (grammar_of tree.root) MOST_INPUT_BYTES b.input a.input b.out.0 a.out.0 result
+StreamEnds (decode of names) tree b a result = DecodeEnds (grammar_of tree.root) MOST_INPUT_BYTES b.input a.input b.out.0 a.out.0 result
+StreamEnds _ tree b a result = ⊥
+
+-- how a command that reads the input converts it: each packet has a bit, and the stream ends so
+pub record Converts (request : Request) (tree : Tree) (b a : Outside) (result : Result ℕ StreamFault) : Type 0 where
+  pub some : 0 < (span (grammar_of tree.root)).least
+  pub ends : StreamEnds request tree b a result
 
 -- What a run did between what it saw first and what it saw last.
 module _ (b a : Outside) where

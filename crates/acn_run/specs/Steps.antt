@@ -1,5 +1,5 @@
 -- What the calls inside say of a part of a run. (This program's own.)
-use Rattle.std.specs.Prelude.{◌≡◌, ℕ, List, Option, Some, slice_get, Result, Ok, Err}
+use Rattle.std.specs.Prelude.{◌≡◌, ◌<◌, ℕ, List, Option, Some, slice_get, Result, Ok, Err}
 use Rattle.acn_files.specs.Contents.{Told, AreWhole}
 use Rattle.acn_files.specs.declared.whole.FilesFault.{FilesFault}
 use Rattle.acn_front.specs.Grammars.{AreGrammarsOf}
@@ -26,7 +26,7 @@ use Rattle.acn_stream.specs.declared.stream_fault.StreamFault.{StreamFault}
 use Rattle.acn_stream.specs.declared.stream_fault.StreamFault.TheVariants as stream
 use Rattle.acn_tree.specs.declared.tree.Tree.{Tree}
 use Rattle.acn_words.specs.Names.{TypeName}
-use Rattle.acn_words.specs.Requests.{Request, files_of, type_of}
+use Rattle.acn_words.specs.Requests.{Request, files_of, types_of}
 use Rattle.acn_work.specs.Line.{summary_line}
 use Rattle.acn_work.specs.Summaries.{IsSummary}
 use Rattle.acn_work.specs.declared.summary.Summary.{Summary}
@@ -42,12 +42,12 @@ abbrev pub EndsEarly : (told : Told) → (faults faults' : List ℕ → ℕ) →
 EndsEarly told faults faults' err err' request status = (i : Option (List ℕ)) (n : ℕ) (o : Output) → Serves (seen told faults i n o err) (seen told faults' i n o err') request status
 
 -- so it does for each request with these files, where they say this
-abbrev pub EndsForWorld : World → Option TypeName → (err err' : Output) → Status → Type 0
+abbrev pub EndsForWorld : World → Option (List TypeName) → (err err' : Output) → Status → Type 0
 EndsForWorld w named err err' status =
-    (told : Told) (faults faults' : List ℕ → ℕ) (request : Request) → IsWorldOfNames told (files_of request) w → type_of request ≡ named → EndsEarly told faults faults' err err' request status
+    (told : Told) (faults faults' : List ℕ → ℕ) (request : Request) → IsWorldOfNames told (files_of request) w → types_of request ≡ named → EndsEarly told faults faults' err err' request status
 
 -- these are the grammars of the types in question
-pub record Answers (w : World) (named : Option TypeName) (trees : List Tree) : Type 0 where
+pub record Answers (w : World) (named : Option (List TypeName)) (trees : List Tree) : Type 0 where
   pub types : List TypeId
   pub question : types_for w named ≡ Some types
   pub grammars : AreGrammarsOf w types trees
@@ -127,10 +127,12 @@ FailedSo (Err stream.InputFault) n n' m m' = Rose n n'
 FailedSo (Err stream.OutputFault) n n' m m' = Rose m m'
 FailedSo result n n' m m' = Unit {0}
 
--- A stream ended so: it wasn't begun, since the type is empty, or it ended in this way, which the status and what is said fit, and where a device failed its count rose.
+-- A stream ended so: it was not begun, since the type is empty or memory ran out; or each packet has a bit, and it ended in this way, which the status and what is said fit, and where a device failed its count rose.
 pub data EndsStream (ends : (i i' o o' : Option (List ℕ)) → Result ℕ StreamFault → Type 0) (tree : Tree) (i i' : Option (List ℕ)) (n n' : ℕ) (o o' err err' : Output) : Status → Type 0 where
   never_begun : (span (grammar_of tree.root)).least ≡ 0 → i' ≡ i → n' ≡ n → IsSilent o o' → Says (empty_line tree) err err' → EndsStream ends tree i i' n n' o o' err err' NoGrammar
-  ended : (result : Result ℕ StreamFault) (status : Status) → ends i i' o.0 o'.0 result → TellsStream tree result err err' status → WasBegun result → FailedSo result n n' o.1 o'.1 → EndsStream ends tree i i' n n' o o' err err' status
+  -- memory ran out before it was begun
+  unplanned : i' ≡ i → n' ≡ n → IsSilent o o' → Says no_memory_line err err' → EndsStream ends tree i i' n n' o o' err err' NoMemory
+  ended : (result : Result ℕ StreamFault) (status : Status) → 0 < (span (grammar_of tree.root)).least → ends i i' o.0 o'.0 result → TellsStream tree result err err' status → WasBegun result → FailedSo result n n' o.1 o'.1 → EndsStream ends tree i i' n n' o o' err err' status
 
 -- what a command does that doesn't read the input, where the files say this
 abbrev pub AnswersText : Request → World → (o o' err err' : Output) → Status → Type 0
@@ -142,8 +144,12 @@ abbrev pub AnswersStream : Request → World → (i i' : Option (List ℕ)) → 
 AnswersStream request w i i' n n' o o' err err' status =
     (told : Told) (faults faults' : List ℕ → ℕ) → IsWorldOfNames told (files_of request) w → Serves (seen told faults i n o err) (seen told faults' i' n' o' err') request status
 
--- what was done with the values that are made: their line was written, or memory ran out before
-pub data SummaryEnds (g : Grammar) (start count : ℕ) (o o' err err' : Output) : Status → Type 0 where
-  told : (s : Summary) → IsSummary g start count s → Gains o.0 o'.0 (summary_line s) → IsSilent err err' → SummaryEnds g start count o o' err err' Done
-  untold : (s : Summary) → IsSummary g start count s → GainsFront o.0 o'.0 (summary_line s) → Rose o.1 o'.1 → Says output_failed_line err err' → SummaryEnds g start count o o' err err' OutputFailed
-  stopped : IsSilent o o' → Says no_memory_line err err' → SummaryEnds g start count o o' err err' NoMemory
+-- How a command ends that prints a text which is one of those that this says: the text was written, or a front of it, or memory ran out before.
+pub data TextEnds (is : List ℕ → Type 0) (o o' err err' : Output) : Status → Type 0 where
+  told : (text : List ℕ) → is text → Gains o.0 o'.0 text → IsSilent err err' → TextEnds is o o' err err' Done
+  untold : (text : List ℕ) → is text → GainsFront o.0 o'.0 text → Rose o.1 o'.1 → Says output_failed_line err err' → TextEnds is o o' err err' OutputFailed
+  stopped : IsSilent o o' → Says no_memory_line err err' → TextEnds is o o' err err' NoMemory
+
+-- the line of what came of the values that are made
+abbrev pub IsSummaryLine : Grammar → (start count : ℕ) → List ℕ → Type 0
+IsSummaryLine g start count text = (s : Summary) × IsSummary g start count s × (text ≡ summary_line s)

@@ -1,15 +1,17 @@
 //! What each command does, where the files say a world.
 
-ghost use Rattle.std.specs.Prelude.{◌≡◌, ◌*◌, ◌^◌, ◌<◌, ℕ, true, List};
+ghost use Rattle.std.specs.Prelude.{◌≡◌, ◌*◌, ◌^◌, ◌<◌, ℕ, true, List, IfOk};
 ghost use Rattle.acn_grammar.specs.ItemsNamed.{ItemsNamed};
 ghost use Rattle.acn_grammar.specs.View.{grammar_of};
 ghost use Rattle.acn_grammar.specs.declared.limits.TheConstants.{MOST_PACKET_BITS};
 ghost use Rattle.acn_run.specs.Steps as spec;
 ghost use Rattle.acn_tree_laws.specs.Laws.{IsOfSources};
+ghost use Rattle.acn_work.specs.Summaries.{IsSummary};
 ghost use Rattle.acn_words.specs.Requests as requests;
 ghost use Rattle.acn_words.specs.View.{type_view, request_view};
 ghost use Rattle.acn_world.specs.Viewed.{world_view};
 
+use crate::comparing::compare_types;
 use crate::grammars::{named_grammar, root_grammars};
 use crate::reports::no_memory;
 use crate::status::Status;
@@ -17,9 +19,11 @@ use crate::streams;
 use crate::texts::{behind_text, put_each_bounds, put_each_ok};
 use acn_check::Checked;
 use acn_layout::put_layout;
+use acn_num::NoMemory;
 use acn_outside::{Sink, Source};
+use acn_plan::compile;
 use acn_words::{Request, TypeName};
-use acn_work::put_summary;
+use acn_work::{Summary, put_summary, work as work_by};
 use acn_world::World;
 use std::alloc::Global;
 
@@ -59,6 +63,21 @@ fn layout<O: Sink, E: Sink>(
     }
 }
 
+// What came of the values that are made.
+fn plan_and_work(
+    alloc: Global,
+    checked: &Checked,
+    start: u64,
+    count: u64,
+) -> Result<Summary, NoMemory>
+    requires few { count * MOST_PACKET_BITS < 2 ^ 64 }
+    requires named { ItemsNamed (grammar_of checked.now.tree.root) }
+    ensures { IfOk result (λ s. IsSummary (grammar_of checked.now.tree.root) start count s) }
+{
+    let plan = compile(alloc, checked)?;
+    work_by(alloc, checked, &plan, start, count)
+}
+
 // The line of what came of the values that are made.
 fn summary<O: Sink, E: Sink>(
     alloc: Global,
@@ -70,9 +89,9 @@ fn summary<O: Sink, E: Sink>(
 ) -> Status
     requires few { count * MOST_PACKET_BITS < 2 ^ 64 }
     requires named { ItemsNamed (grammar_of checked.now.tree.root) }
-    ensures { spec.SummaryEnds (grammar_of checked.now.tree.root) start count (O.taken out.old, O.faults out.old) (O.taken out.new, O.faults out.new) (E.taken err.old, E.faults err.old) (E.taken err.new, E.faults err.new) result }
+    ensures { spec.TextEnds (spec.IsSummaryLine (grammar_of checked.now.tree.root) start count) (O.taken out.old, O.faults out.old) (O.taken out.new, O.faults out.new) (E.taken err.old, E.faults err.old) (E.taken err.new, E.faults err.new) result }
 {
-    match acn_work::work(alloc, checked, start, count) {
+    match plan_and_work(alloc, checked, start, count) {
         Ok(summary) => behind_text(put_summary(&summary, out), err),
         Err(_) => no_memory(err),
     }
@@ -150,6 +169,7 @@ pub fn answer<S: Source, O: Sink, E: Sink>(
         Request::Layout { of, .. } => layout(alloc, world, of, out, err),
         Request::Encode { of, .. } => encode(alloc, world, of, input, out, err),
         Request::Decode { of, .. } => decode(alloc, world, of, input, out, err),
+        Request::Compare { old, new, .. } => compare_types(alloc, world, old, new, out, err),
         Request::Work {
             of,
             start,

@@ -1,6 +1,9 @@
 //! From a world to the grammars of the types in question.
 
-ghost use Rattle.std.specs.Prelude.{◌≡◌, ◌∷◌, [], Some, None, map, IfOk, IfErr, OnOk};
+ghost use Rattle.std.specs.Prelude.{◌≡◌, ◌∷◌, [], Some, None, map, All, IfOk, IfErr, OnOk};
+ghost use Rattle.acn_index.specs.World as index;
+ghost use Rattle.acn_run.specs.Asked.{types_named};
+ghost use Rattle.acn_run.specs.Missing.{IsMissing};
 ghost use Rattle.acn_run.specs.Outside.{IsSilent, Says};
 ghost use Rattle.acn_run.specs.Refusals.{unknown_line};
 ghost use Rattle.acn_run.specs.Steps as spec;
@@ -13,6 +16,7 @@ use crate::reports::no_memory;
 use crate::status::Status;
 use acn_check::Checked;
 use acn_front::{TypeFault, grammar_of_type, grammars_of_types};
+use acn_index::TypeId;
 use acn_outside::Sink;
 use acn_report::put_check_fault;
 use acn_source_report::{put_refused, put_unknown_type};
@@ -69,9 +73,9 @@ pub fn named_grammar<E: Sink>(
     err: &mut E,
 ) -> Result<Checked, Status>
     requires { IsOfSources (world_view world.now) }
-    ensures grammars { IfOk result (λ checked. spec.Answers (world_view world.now) (Some (type_view of.now)) (checked.tree ∷ [])) }
+    ensures grammars { IfOk result (λ checked. spec.Answers (world_view world.now) (Some (type_view of.now ∷ [])) (checked.tree ∷ [])) }
     ensures silent { OnOk result (IsSilent (E.taken err.old, E.faults err.old) (E.taken err.new, E.faults err.new)) }
-    ensures fails { IfErr result (spec.EndsForWorld (world_view world.now) (Some (type_view of.now)) (E.taken err.old, E.faults err.old) (E.taken err.new, E.faults err.new)) }
+    ensures fails { IfErr result (spec.EndsForWorld (world_view world.now) (Some (type_view of.now ∷ [])) (E.taken err.old, E.faults err.old) (E.taken err.new, E.faults err.new)) }
 {
     match world.find(of.module, of.name) {
         None => Err(type_unknown(of, err)),
@@ -79,5 +83,60 @@ pub fn named_grammar<E: Sink>(
             Ok(checked) => Ok(checked),
             Err(fault) => Err(type_refused(&fault, err)),
         },
+    }
+}
+
+// Why types that are named aren't there.
+#[derive(Drop)]
+enum Missing<'a> {
+    // No type has this name.
+    Unknown(&'a TypeName<'a>),
+    // Memory ran out.
+    NoMemory,
+}
+
+// The types of these names, in order, or the first name that no type has.
+fn types_of<'a>(
+    alloc: Global,
+    world: &World,
+    names: &'a [TypeName<'a>],
+) -> Result<Vec<TypeId>, Missing<'a>>
+    ensures types { IfOk result (λ types. types_named (world_view world.now) (map type_view names.now) ≡ Some types.items) }
+    ensures of_types { IfOk result (λ types. All (index.IsType (world_view world.now)) types.items) }
+    ensures unknown { IfErr result (IsMissing (world_view world.now) (map type_view names.now)) }
+{
+    let mut types = Vec::new(alloc);
+    for of in names {
+        match world.find(of.module, of.name) {
+            None => return Err(Missing::Unknown(of)),
+            Some(found) => match types.push(found) {
+                Ok(()) => {}
+                Err(_) => return Err(Missing::NoMemory),
+            },
+        }
+    }
+    Ok(types)
+}
+
+/// The grammars of the types of these names, in order. Where one has none, the line that says why was written to the output for errors.
+pub fn named_grammars<E: Sink>(
+    alloc: Global,
+    world: &World,
+    names: &[TypeName<'_>],
+    err: &mut E,
+) -> Result<Vec<Checked>, Status>
+    requires { IsOfSources (world_view world.now) }
+    ensures grammars { IfOk result (λ all. spec.Answers (world_view world.now) (Some (map type_view names.now)) (map (λ c. c.tree) all.items)) }
+    ensures silent { OnOk result (IsSilent (E.taken err.old, E.faults err.old) (E.taken err.new, E.faults err.new)) }
+    ensures fails { IfErr result (spec.EndsForWorld (world_view world.now) (Some (map type_view names.now)) (E.taken err.old, E.faults err.old) (E.taken err.new, E.faults err.new)) }
+{
+    let types = match types_of(alloc, world, names) {
+        Ok(types) => types,
+        Err(Missing::Unknown(of)) => return Err(type_unknown(of, err)),
+        Err(Missing::NoMemory) => return Err(no_memory(err)),
+    };
+    match grammars_of_types(alloc, world, &types) {
+        Ok(all) => Ok(all),
+        Err(fault) => Err(type_refused(&fault, err)),
     }
 }

@@ -2,6 +2,7 @@
 #![tactic(auto)]
 
 mod answers;
+mod comparing;
 mod grammars;
 mod laws;
 mod reports;

@@ -7,11 +7,12 @@ ghost use Rattle.acn_run.specs.Steps as spec;
 ghost use Rattle.acn_stream.specs.Decoding.{DecodeEnds};
 ghost use Rattle.acn_stream.specs.Encoding.{EncodeEnds};
 
-use crate::reports::{empty_packet, stream_failed};
+use crate::reports::{empty_packet, no_memory, stream_failed};
 use crate::status::Status;
 use acn_bounds::bounds;
 use acn_check::Checked;
 use acn_outside::{Sink, Source};
+use acn_plan::compile;
 use acn_stream::{StreamFault, decode_all, encode_all};
 use std::alloc::Global;
 
@@ -42,7 +43,10 @@ pub fn decode<S: Source, O: Sink, E: Sink>(
     if bounds(checked).least == 0 {
         return empty_packet(checked.tree(), err);
     }
-    let ended = decode_all(alloc, checked, input, out, MOST_INPUT_BYTES);
+    let Ok(plan) = compile(alloc, checked) else {
+        return no_memory(err);
+    };
+    let ended = decode_all(alloc, checked, &plan, input, out, MOST_INPUT_BYTES);
     behind_stream(checked, ended, err)
 }
 

@@ -3,7 +3,8 @@
 ghost use Rattle.std.specs.Prelude.{◌≡◌, ◌↔◌, ◌≤◌, true, List, None, Some, map, string_bytes, IsTrue};
 ghost use Rattle.std.specs.List.{AllByRecursion, list_all};
 ghost use Rattle.acn_run.specs.Asked.{HasGrammars};
-ghost use Rattle.acn_run.specs.Complete.{IsComplete};
+ghost use Rattle.acn_run.specs.Complete.{IsComplete, NothingFailed};
+ghost use Rattle.acn_run.specs.Exactly.{EndsUnfailed, IsRefused};
 ghost use Rattle.acn_run.specs.Headline.{KeepsItsPromise};
 ghost use Rattle.acn_run.specs.Outside.{seen};
 ghost use Rattle.acn_run.specs.Run as spec;
@@ -18,6 +19,9 @@ use crate::laws::each_grammar_keeps_its_promise;
 use crate::reports::usage;
 use crate::sources::read_world;
 use crate::status::Status;
+use acn_front::{
+    faulty_files_have_no_world, one_grammar, one_world, refused_types_have_no_grammars,
+};
 use acn_outside::{Files, Sink, Source};
 use acn_stream_laws::{lines_are_encoded, recordings_are_decoded};
 use acn_words::{Request as Asked, read_words};
@@ -61,7 +65,9 @@ fn run_words<F: Files, S: Source, O: Sink, E: Sink>(
 
 /// The top call: does what the words behind the program's name ask for, and answers the status with which the program ends.
 ///
-/// Where nothing is refused and no device fails, that is 0, and the whole was written, or 7, where memory ran out.
+/// Where nothing is refused and no device fails, that is 0, and the whole was written, or 7, where memory ran out. Where the sources
+/// are refused it is 2, unless a file can't be read (4) or memory runs out. 4, 5 and 6 come only where a count of faults rose, so never
+/// over devices that can't fail.
 pub fn run<F: Files, S: Source, O: Sink, E: Sink>(
     alloc: Global,
     words: &Vec<String>,
@@ -72,6 +78,8 @@ pub fn run<F: Files, S: Source, O: Sink, E: Sink>(
 ) -> u8
     ensures ends { spec.EndsWith (seen (F.contents files.old) (F.faults files.old) (S.rest input.old) (S.faults input.old) (O.taken out.old, O.faults out.old) (E.taken err.old, E.faults err.old)) (seen (F.contents files.old) (F.faults files.new) (S.rest input.new) (S.faults input.new) (O.taken out.new, O.faults out.new) (E.taken err.new, E.faults err.new)) (map string_bytes words.now.items) result }
     ensures complete { (request : Request) → request_in (map string_bytes words.now.items) ≡ Some request → IsComplete (seen (F.contents files.old) (F.faults files.old) (S.rest input.old) (S.faults input.old) (O.taken out.old, O.faults out.old) (E.taken err.old, E.faults err.old)) (seen (F.contents files.old) (F.faults files.new) (S.rest input.new) (S.faults input.new) (O.taken out.new, O.faults out.new) (E.taken err.new, E.faults err.new)) request result }
+    ensures refused { (request : Request) → request_in (map string_bytes words.now.items) ≡ Some request → IsRefused (F.contents files.old) request result }
+    ensures unfailed { NothingFailed (seen (F.contents files.old) (F.faults files.old) (S.rest input.old) (S.faults input.old) (O.taken out.old, O.faults out.old) (E.taken err.old, E.faults err.old)) (seen (F.contents files.old) (F.faults files.new) (S.rest input.new) (S.faults input.new) (O.taken out.new, O.faults out.new) (E.taken err.new, E.faults err.new)) → EndsUnfailed result }
     ensures promise { (request : Request) (trees : List Tree) → HasGrammars (F.contents files.old) request trees → AllByRecursion (λ tree. KeepsItsPromise (grammar_of tree.root)) trees }
     ensures usage { (result ≡ 1) ↔ (request_in (map string_bytes words.now.items) ≡ None) }
     ensures known { result ≤ 7 }
@@ -79,5 +87,9 @@ pub fn run<F: Files, S: Source, O: Sink, E: Sink>(
     each_grammar_keeps_its_promise();
     recordings_are_decoded();
     lines_are_encoded();
+    one_world();
+    faulty_files_have_no_world();
+    refused_types_have_no_grammars();
+    one_grammar();
     run_words(alloc, words, files, input, out, err).code()
 }

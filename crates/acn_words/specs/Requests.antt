@@ -12,6 +12,7 @@ pub data Request : Type 0 where
   layout : (of : TypeName) → (files : List (List ℕ)) → Request
   encode : (of : TypeName) → (files : List (List ℕ)) → Request
   decode : (of : TypeName) → (files : List (List ℕ)) → Request
+  compare : (old new : TypeName) → (files : List (List ℕ)) → Request
   work : (of : TypeName) → (start count : ℕ) → (files : List (List ℕ)) → Request
 
 abbrev pub with_files : (List (List ℕ) → Request) → List (List ℕ) → Option Request
@@ -24,6 +25,11 @@ type_and_files (of ∷ names) = if is_type of && are_files names then Some (name
 
 abbrev pub with_type : (TypeName → List (List ℕ) → Request) → List (List ℕ) → Option Request
 with_type asks words = option_map (λ p. asks p.0 p.1) (type_and_files words)
+
+-- OLD NEW FILE..
+abbrev pub with_types : List (List ℕ) → Option Request
+with_types [] = None
+with_types (old ∷ words) = if is_type old then option_map (λ p. compare (named old) p.0 p.1) (type_and_files words) else None
 
 -- how many values are made: 1 to the most
 abbrev pub is_count : ℕ → Bool
@@ -55,7 +61,8 @@ by_command command rest =
     else (if bytes_eq command (codes "layout") then with_type layout rest
     else (if bytes_eq command (codes "encode") then with_type encode rest
     else (if bytes_eq command (codes "decode") then with_type decode rest
-    else (if bytes_eq command (codes "work") then with_work rest else None)))))
+    else (if bytes_eq command (codes "compare") then with_types rest
+    else (if bytes_eq command (codes "work") then with_work rest else None))))))
 
 -- what these words ask for, where they have a form
 abbrev pub request_in : List (List ℕ) → Option Request
@@ -69,16 +76,18 @@ files_of (bounds names) = names
 files_of (layout of names) = names
 files_of (encode of names) = names
 files_of (decode of names) = names
+files_of (compare old new names) = names
 files_of (work of start count names) = names
 
--- the type that a request names, where it names one
-abbrev pub type_of : Request → Option TypeName
-type_of (check names) = None
-type_of (bounds names) = None
-type_of (layout of names) = Some of
-type_of (encode of names) = Some of
-type_of (decode of names) = Some of
-type_of (work of start count names) = Some of
+-- the types that a request names, in the order of the words, where it names some
+abbrev pub types_of : Request → Option (List TypeName)
+types_of (check names) = None
+types_of (bounds names) = None
+types_of (layout of names) = Some (of ∷ [])
+types_of (encode of names) = Some (of ∷ [])
+types_of (decode of names) = Some (of ∷ [])
+types_of (compare old new names) = Some (old ∷ new ∷ [])
+types_of (work of start count names) = Some (of ∷ [])
 
 -- whether it reads the input
 abbrev pub reads_input : Request → Bool

@@ -9,7 +9,8 @@ use acn_sources::FileKind;
 /// The most FILEs of a command.
 pub const MOST_FILES: usize = 1000;
 
-fn is_file(name: &[u8]) -> bool
+/// Whether a word ends as a FILE does.
+pub fn is_file(name: &[u8]) -> bool
     ensures { result ≡ spec.is_file name.now }
 {
     FileKind::of_name(name).is_some()
@@ -37,7 +38,8 @@ fn all_are_files(words: &[String]) -> bool
     true
 }
 
-fn one_has_modules(words: &[String]) -> bool
+/// Whether one of the FILEs has modules of ASN.1.
+pub fn one_has_modules(words: &[String]) -> bool
     ensures { result ≡ list_any spec.has_modules (map string_bytes words.now) }
 {
     for word in words {

@@ -3,6 +3,7 @@
 ghost use Rattle.std.specs.Prelude.{◌≡◌, ◌∷◌, option_map, map, string_bytes, IfSome, IsTrue, true};
 ghost use Rattle.std.specs.List.{list_all};
 ghost use Rattle.acn_words.specs.Files.{is_file};
+ghost use Rattle.acn_words.specs.Asking.{asks};
 ghost use Rattle.acn_words.specs.Requests as spec;
 ghost use Rattle.acn_words.specs.View.{request_view, type_view};
 
@@ -39,6 +40,12 @@ pub enum Request<'a> {
         of: TypeName<'a>,
         files: &'a [String],
     },
+    /// `compare OLD NEW FILE..`: whether packets of one type can be read as those of another.
+    Compare {
+        old: TypeName<'a>,
+        new: TypeName<'a>,
+        files: &'a [String],
+    },
     /// `work TYPE START COUNT FILE..`: COUNT values that are drawn from START on, written and read.
     Work {
         of: TypeName<'a>,
@@ -59,6 +66,7 @@ impl<'a> Request<'a> {
             Request::Layout { files, .. } => files,
             Request::Encode { files, .. } => files,
             Request::Decode { files, .. } => files,
+            Request::Compare { files, .. } => files,
             Request::Work { files, .. } => files,
         }
     }
@@ -84,6 +92,24 @@ fn bounds<'a>(files: &'a [String]) -> Option<Request<'a>>
     }
 }
 
+// A command that names one type.
+#[derive(Clone, Copy)]
+enum OfType {
+    Layout,
+    Encode,
+    Decode,
+}
+
+fn asked<'a>(command: OfType, of: &TypeName<'a>, files: &'a [String]) -> Request<'a>
+    ensures request { request_view result ≡ asks command (type_view of.now) (map string_bytes files.now) }
+{
+    match command {
+        OfType::Layout => Request::Layout { of: *of, files },
+        OfType::Encode => Request::Encode { of: *of, files },
+        OfType::Decode => Request::Decode { of: *of, files },
+    }
+}
+
 // TYPE and the FILEs behind it.
 fn type_and_files<'a>(of: &'a String, files: &'a [String]) -> Option<TypeName<'a>>
     ensures name { option_map type_view result ≡ option_map (λ p. p.0) (spec.type_and_files (string_bytes of.now ∷ map string_bytes files.now)) }
@@ -95,47 +121,55 @@ fn type_and_files<'a>(of: &'a String, files: &'a [String]) -> Option<TypeName<'a
     }
 }
 
-fn layout<'a>(rest: &'a [String]) -> Option<Request<'a>>
-    ensures request { option_map request_view result ≡ spec.with_type spec.layout (map string_bytes rest.now) }
+fn with_type<'a>(command: OfType, rest: &'a [String]) -> Option<Request<'a>>
+    ensures request { option_map request_view result ≡ spec.with_type (asks command) (map string_bytes rest.now) }
     ensures files { IfSome result (λ request. IsTrue (list_all is_file (spec.files_of (request_view request)))) }
+    ensures count { IfSome result (λ request. spec.has_count (request_view request) ≡ true) }
 {
     match rest {
         [] => None,
         [of, files @ ..] => match type_and_files(of, files) {
-            Some(of) => Some(Request::Layout { of, files }),
+            Some(of) => Some(asked(command, &of, files)),
             None => None,
         },
     }
 }
 
-fn encode<'a>(rest: &'a [String]) -> Option<Request<'a>>
-    ensures request { option_map request_view result ≡ spec.with_type spec.encode (map string_bytes rest.now) }
+// The type that packets of the old one are to be read by, and the FILEs behind it.
+fn against<'a>(old: &TypeName<'a>, rest: &'a [String]) -> Option<Request<'a>>
+    ensures request { option_map request_view result ≡ option_map (λ p. spec.compare (type_view old.now) p.0 p.1) (spec.type_and_files (map string_bytes rest.now)) }
     ensures files { IfSome result (λ request. IsTrue (list_all is_file (spec.files_of (request_view request)))) }
+    ensures count { IfSome result (λ request. spec.has_count (request_view request) ≡ true) }
 {
     match rest {
         [] => None,
-        [of, files @ ..] => match type_and_files(of, files) {
-            Some(of) => Some(Request::Encode { of, files }),
+        [newer, files @ ..] => match type_and_files(newer, files) {
+            Some(new) => Some(Request::Compare {
+                old: *old,
+                new,
+                files,
+            }),
             None => None,
         },
     }
 }
 
-fn decode<'a>(rest: &'a [String]) -> Option<Request<'a>>
-    ensures request { option_map request_view result ≡ spec.with_type spec.decode (map string_bytes rest.now) }
+fn compare<'a>(rest: &'a [String]) -> Option<Request<'a>>
+    ensures request { option_map request_view result ≡ spec.with_types (map string_bytes rest.now) }
     ensures files { IfSome result (λ request. IsTrue (list_all is_file (spec.files_of (request_view request)))) }
+    ensures count { IfSome result (λ request. spec.has_count (request_view request) ≡ true) }
 {
     match rest {
         [] => None,
-        [of, files @ ..] => match type_and_files(of, files) {
-            Some(of) => Some(Request::Decode { of, files }),
+        [old, words @ ..] => match type_named(old.as_str().as_bytes()) {
+            Some(old) => against(&old, words),
             None => None,
         },
     }
 }
 
-// A number of values from 1 to `MOST_MADE`.
-fn count_of(word: &[u8]) -> Option<u64>
+/// A number of values from 1 to `MOST_MADE`.
+pub fn count_of(word: &[u8]) -> Option<u64>
     ensures count { result ≡ spec.count_in word.now }
     ensures few { IfSome result (λ count. spec.is_count count ≡ true) }
 {
@@ -216,9 +250,10 @@ pub fn read_words(words: &[String]) -> Option<Request<'_>>
     match command.as_str() {
         "check" => check(rest),
         "bounds" => bounds(rest),
-        "layout" => layout(rest),
-        "encode" => encode(rest),
-        "decode" => decode(rest),
+        "layout" => with_type(OfType::Layout, rest),
+        "encode" => with_type(OfType::Encode, rest),
+        "decode" => with_type(OfType::Decode, rest),
+        "compare" => compare(rest),
         "work" => work(rest),
         _ => None,
     }

@@ -1,8 +1,14 @@
+use Rattle.std.proofs.Common.{[], ◌∷◌}
+use Rattle.acn_grammar.specs.View.{grammar_of}
+use Rattle.acn_words.specs.Requests.{work}
 use Rattle.acn_words.specs.View.{type_view}
 use Rattle.acn_world.specs.Viewed.{world_view}
-use Rattle.acn_run.proofs.Summing.{summary_serves}
+use Rattle.acn_run.specs.Steps.{IsSummaryLine}
+use Rattle.acn_run.proofs.Printing.{ends_serve}
 use Rattle.acn_run.proofs.answers.work.Goals as goal
 
 pub returns-in-Ok : goal.returns-in-Ok
 returns-in-Ok g c = λ names.
-    summary_serves (type_view c.args.of.now) c.args.start c.args.count names (world_view c.args.world.now) c.in-Ok.checked.tree c.in-Ok.ensures.grammars _ _ _ _ _ c.summary.result c.in-Ok.ensures.silent c.summary.ensures
+    let tree = c.in-Ok.checked.tree in
+    ends_serve (work (type_view c.args.of.now) c.args.start c.args.count names) (world_view c.args.world.now) (tree ∷ []) c.in-Ok.ensures.grammars (IsSummaryLine (grammar_of tree.root) c.args.start c.args.count) (λ text h. h)
+    _ _ _ _ _ c.summary.result c.in-Ok.ensures.silent c.summary.ensures

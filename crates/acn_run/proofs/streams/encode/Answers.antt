@@ -5,7 +5,7 @@ use Rattle.acn_report.specs.Texts.{empty_line}
 use Rattle.acn_tree.specs.declared.tree.Tree.{Tree}
 use Rattle.acn_run.specs.Outside.{Says}
 use Rattle.acn_run.specs.Steps.{never_begun, ended}
-use Rattle.acn_run.proofs.Begun.{was_begun, failed_so}
+use Rattle.acn_run.proofs.Begun.{above, was_begun, failed_so}
 use Rattle.acn_run.proofs.streams.encode.Goals as goal
 
 pub returns-then-bounds-eq0 : goal.returns-then-bounds-eq0
@@ -16,6 +16,6 @@ returns-then-bounds-eq0 g c =
 
 pub returns : goal.returns
 returns g c =
-    ended c.encode_all-ended.result c.behind_stream.result c.encode_all-ended.ensures.ends c.behind_stream.ensures
+    ended c.encode_all-ended.result c.behind_stream.result (above _ (λ e. c.if-bounds-eq0.false (rw c.bounds.ensures.exact e))) c.encode_all-ended.ensures.ends c.behind_stream.ensures
     (was_begun c.encode_all-ended.result (λ e. c.if-bounds-eq0.false (rw c.bounds.ensures.exact (c.encode_all-ended.ensures.empty.0 e))))
     (failed_so c.encode_all-ended.result _ _ _ _ c.encode_all-ended.ensures.input_fault c.encode_all-ended.ensures.output_fault)

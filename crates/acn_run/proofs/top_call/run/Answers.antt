@@ -4,6 +4,8 @@ use Rattle.acn_words.specs.Requests.{request_in}
 use Rattle.acn_run.specs.Run.{code_of}
 use Rattle.acn_run.proofs.Completing.{completes}
 use Rattle.acn_run.proofs.Ended.{at_most_seven, is_usage, promises}
+use Rattle.acn_run.proofs.Excluded.{refuses}
+use Rattle.acn_run.proofs.Unfailed.{unfailed}
 use Rattle.acn_run.proofs.top_call.run.Goals as goal
 
 pub returns-clause-promise : goal.returns-clause-promise
@@ -15,6 +17,13 @@ returns-clause-usage g c =
 
 pub returns-clause-known : goal.returns-clause-known
 returns-clause-known g c = rw c.code.ensures (at_most_seven c.run_words.result)
+
+pub returns-clause-refused : goal.returns-clause-refused
+returns-clause-refused g c =
+    refuses c.one_world.ensures c.faulty_files_have_no_world.ensures c.refused_types_have_no_grammars.ensures c.one_grammar.ensures _ _ _ _ _ _ (ap (λ (ws : List _). map string_bytes ws) c.deref.ensures.value) c.code.ensures c.run_words.ensures
+
+pub returns-clause-unfailed : goal.returns-clause-unfailed
+returns-clause-unfailed g c = λ sure. rw c.code.ensures (unfailed _ _ _ _ sure c.run_words.ensures)
 
 pub returns-clause-complete : goal.returns-clause-complete
 returns-clause-complete g c = completes c.recordings_are_decoded.ensures c.lines_are_encoded.ensures _ _ _ _ _ _ (ap (λ (ws : List _). map string_bytes ws) c.deref.ensures.value) c.code.ensures c.run_words.ensures
