@@ -182,6 +182,15 @@ impl<const S: usize> Holes<S> {
         });
     }
 
+    /// The number of the first bit of the hole at a place of the order, which stays kept, and how many bits it has.
+    pub fn shown(&self, at: usize) -> (u64, u32)
+        requires { (gap : Gap) × (slice_get self.now at ≡ Some (Some gap)) }
+        ensures { slice_get self.now at ≡ Some (Some (record { place = result.0; width = result.1 })) }
+    {
+        let kept = self.kept[at];
+        (kept.place, kept.width)
+    }
+
     /// Gives back the hole at a place of the order, and keeps it no more. Those behind it move up.
     pub fn release(&mut self, at: usize) -> Hole
         requires { (gap : Gap) × (slice_get self.old at ≡ Some (Some gap)) }

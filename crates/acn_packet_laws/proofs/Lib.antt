@@ -1,6 +1,7 @@
 mod Accepted
 mod Answering
-mod AskHomes
+-- for packing in place
+pub mod AskHomes
 mod AskRows
 mod BoundsLaw
 mod ChoiceRows
@@ -51,11 +52,13 @@ mod NodePaths
 mod NodeTotal
 mod NumberRows
 mod NumberTotal
-mod Occurrences
+-- for packing in place
+pub mod Occurrences
 mod OnPaths
 mod OneFault
 mod OneRefusals
-mod OneWriting
+-- for packing in place
+pub mod OneWriting
 mod Overlaps
 mod PartPaths
 mod NamedSlots

@@ -261,7 +261,7 @@ module _ (root : Grammar) (f : List ℕ) where
     behind_it name g slot fs p k m (j ∷ q) l e = sym (if_no (nat_eq m k) None (field_slot fs (suc k) m (j ∷ q)) (differs m k l)) ∙ e
 
     mutual
-      ask_form : (form : Form) → FormHomes form → FormNot s form → (paths : FieldPaths) → Hears paths → (p : List ℕ) → OnlyForm form p → (d : Data) → asks_of f (form_moments root form paths p d) ≡ form_asks_on root s form d
+      pub ask_form : (form : Form) → FormHomes form → FormNot s form → (paths : FieldPaths) → Hears paths → (p : List ℕ) → OnlyForm form p → (d : Data) → asks_of f (form_moments root form paths p d) ≡ form_asks_on root s form d
       ask_form (octets sizing) homes none paths h p only (octet_string os) = size_on paths h p (length os) sizing.rule
       ask_form (bits sizing) homes none paths h p only (bit_string bs) = size_on paths h p (length bs) sizing.rule
       ask_form (text leaf) homes none paths h p only (characters cs) = size_on paths h p (length cs) leaf.sized.rule
@@ -279,10 +279,10 @@ module _ (root : Grammar) (f : List ℕ) where
       ask_form _ homes none paths h p only d = refl
 
       -- a node that the field isn't in
-      ask_node : (g : Grammar) → NodeHomes g → NodeNot s g → (paths : FieldPaths) → Hears paths → (p : List ℕ) → Off p → (d : Data) → asks_of f (moments root g paths p d) ≡ asks_on root s g d
+      pub ask_node : (g : Grammar) → NodeHomes g → NodeNot s g → (paths : FieldPaths) → Hears paths → (p : List ℕ) → Off p → (d : Data) → asks_of f (moments root g paths p d) ≡ asks_on root s g d
       ask_node (node align form) homes none paths h p off d = ask_form form homes none paths h p (never form p off) d
 
-      ask_fields : (fs : Fields) → FieldsHomes fs → FieldsNot s fs → (paths : FieldPaths) → Hears paths → (p : List ℕ) (k : ℕ) → OnlyFields fs p k → (ps : Places) → asks_of f (fields_moments root fs paths p k ps) ≡ fields_asks_on root s fs ps
+      pub ask_fields : (fs : Fields) → FieldsHomes fs → FieldsNot s fs → (paths : FieldPaths) → Hears paths → (p : List ℕ) (k : ℕ) → OnlyFields fs p k → (ps : Places) → asks_of f (fields_moments root fs paths p k ps) ≡ fields_asks_on root s fs ps
       ask_fields (component name (node align form) presence default own fs) homes none paths h p k only (filled d ps) =
           let at = p ++ k ∷ [] in
           join (own_asks paths at own d ++ presence_asks paths at true presence ++ form_moments root form paths at d) (fields_moments root fs paths p (suc k) ps)
@@ -299,7 +299,7 @@ module _ (root : Grammar) (f : List ℕ) where
           ask_fields fs homes none paths h p (suc k) (λ m q l e. behind_it name g slot fs p k m q l (only m q (omega arith) e)) ps
       ask_fields _ homes none paths h p k only ps = refl
 
-      ask_case : (cases : Alternatives) → CasesHomes cases → CasesNot s cases → (paths : FieldPaths) → Hears paths → (rule : ChoiceRule) (p : List ℕ) (i j : ℕ) (d : Data) → Off (p ++ i ∷ []) → asks_of f (alternative_moments root cases rule paths p i j d) ≡ alternative_asks_on root s cases rule j d
+      pub ask_case : (cases : Alternatives) → CasesHomes cases → CasesNot s cases → (paths : FieldPaths) → Hears paths → (rule : ChoiceRule) (p : List ℕ) (i j : ℕ) (d : Data) → Off (p ++ i ∷ []) → asks_of f (alternative_moments root cases rule paths p i j d) ≡ alternative_asks_on root s cases rule j d
       ask_case (alternative name g tests more) homes none paths h rule p i zero d off =
           join (rule_asks root paths p i rule name tests) (moments root g paths (p ++ i ∷ []) d) (rule_asks_on root s rule name tests) (asks_on root s g d) (rule_on paths h p i rule name tests) (ask_node g homes.0 none.0 paths h (p ++ i ∷ []) off d)
       ask_case (alternative name g tests more) homes none paths h rule p i (suc j) d off = ask_case more homes.1 none.1 paths h rule p i j d off
@@ -316,7 +316,7 @@ module _ (root : Grammar) (f : List ℕ) where
       abbrev wants : List Ask
       wants = form_asks_on root s (seq fields0 home0) part0
 
-      start : (paths : FieldPaths) → Deaf paths → (p : List ℕ) → f ≡ p ++ steps0 → FormHomes (seq fields0 home0) → (d : Data) → asks_of f (form_moments root (seq fields0 home0) paths p d) ≡ form_asks_on root s (seq fields0 home0) d
+      pub start : (paths : FieldPaths) → Deaf paths → (p : List ℕ) → f ≡ p ++ steps0 → FormHomes (seq fields0 home0) → (d : Data) → asks_of f (form_moments root (seq fields0 home0) paths p d) ≡ form_asks_on root s (seq fields0 home0) d
       start paths deaf p is homes (record_of ps) =
           ask_fields fields0 homes.1 (homes.0 s mine).1 (with_fields p fields0 home0 paths) hears p 0 (λ m q l e. led m q e) ps
         where

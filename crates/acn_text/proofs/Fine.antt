@@ -79,7 +79,7 @@ alphabet_few leaf f =
     let h = count_few (negsuc 0) leaf.alphabet (alphabet_above leaf f) f.small (omega (arith, ints)) (omega (arith, ints)) in
     omega (arith, ints)
 
-small_width : (n m w : ℕ) → 2 ^ (n - 1) ≤ m → m < 2 ^ w → n ≤ w
+pub small_width : (n m w : ℕ) → 2 ^ (n - 1) ≤ m → m < 2 ^ w → n ≤ w
 small_width n m w h few = by (order n w)
   where
     order : (a b : ℕ) → (a ≤ b) ⊎ (b < a)

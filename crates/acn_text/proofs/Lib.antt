@@ -1,7 +1,8 @@
 mod Calls
 mod EndedReads
 mod Ends
-mod Fine
+-- for acn_events
+pub mod Fine
 mod Listing
 mod Marks
 mod Places

@@ -1,0 +1,5 @@
+mod Limits
+mod Members
+mod Room
+mod Sources
+mod Within

@@ -1,0 +1,20 @@
+mod Asking
+mod Coming
+mod Heard
+-- for the walk that packs
+pub mod Joins
+mod Judging
+-- for acn_event_limits, acn_writer
+pub mod Keeping
+mod Located
+mod Packets
+mod Passing
+mod Right
+mod Runs
+mod Showing
+mod Small
+mod Spelling
+-- for acn_event_limits, acn_writer
+pub mod Standing
+mod Tested
+mod Writing

@@ -1,0 +1,13 @@
+//! A value written in place, by a walk over the steps of a plan.
+#![tactic(auto)]
+
+mod asking;
+mod flags;
+mod leaves;
+mod node;
+mod parts;
+mod steps;
+mod values;
+mod walk;
+
+pub use node::pack_node;

@@ -1,0 +1,35 @@
+//! A value of a node, written by the walk.
+
+ghost use Rattle.std.specs.Prelude.{◌≡◌, ◌<◌, length, OnOk};
+ghost use Rattle.acn_grammar.specs.View.{data_of};
+ghost use Rattle.acn_events.specs.Events.{events};
+ghost use Rattle.acn_plan.specs.Back.{root_of, node_at};
+ghost use Rattle.acn_plan.specs.Made.{IsMade};
+ghost use Rattle.acn_pack.specs.Packs.{Packs};
+ghost use Rattle.acn_pack.specs.Sounds.{IsSound};
+
+use crate::walk::pack_step;
+use acn_grammar::Value;
+use acn_num::Path;
+use acn_plan::Step;
+use acn_writer::{Halt, Writer};
+
+/// Writes a value of the node of a step, at a path.
+///
+/// With Ok the events of the value ran, and the path is as before. Else they stopped at the path
+/// where the walk stands.
+pub fn pack_node<'p, const N: usize, const S: usize, const A: usize>(
+    steps: &'p [Step],
+    this: usize,
+    v: &Value,
+    w: &mut Writer<'_, 'p, N, S, A>,
+    path: &mut Path,
+) -> Result<(), Halt>
+    requires made { IsMade steps.now }
+    requires there { this < length steps.now }
+    requires sound { IsSound (root_of steps.now) (length path.old) (node_at steps.now this) }
+    ensures packs { Packs (events (root_of steps.now) (node_at steps.now this) path.old (data_of v.now)) w.old w.new path.new result }
+    ensures path { OnOk result (path.new ≡ path.old) }
+{
+    pack_step::<(), N, S, A>(steps, this, v, w, path)
+}

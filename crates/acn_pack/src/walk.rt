@@ -1,0 +1,445 @@
+//! The walk over steps and a value, as one cycle of functions.
+//!
+//! `T` stands for nothing: what the cycle asks of its own calls is stated as the code needs it only
+//! where the cycle is generic over a type, and not over numbers alone.
+
+ghost use Rattle.std.specs.Prelude.{◌≡◌, ◌<◌, ◌≤◌, ◌+◌, ℕ, suc, Some, List, ◌∷◌, [], ◌++◌, drop, length, option_map, OnOk, IfOk, IfSome};
+ghost use Rattle.acn_grammar.specs.Grammar.{Fields, seq, list, contained, record_of, list_of, alt};
+ghost use Rattle.acn_grammar.specs.View.{data_of, elements_view, places_view, with_field};
+ghost use Rattle.acn_num.specs.declared.limits.TheConstants.{MOST_SIZE};
+ghost use Rattle.acn_events.specs.Events.{events, form_events, field_events, run_events, rule_events};
+ghost use Rattle.acn_plan.specs.Back.{StepAt, root_of, node_at, form_at, fields_at, field_by};
+ghost use Rattle.acn_plan.specs.Made.{IsMade};
+ghost use Rattle.acn_plan.specs.declared.step.Act.TheVariants.{Choice as ChoiceAct};
+ghost use Rattle.acn_plan.specs.declared.step.Step.{Step as StepData};
+ghost use Rattle.acn_pack.specs.Packs.{Packs, PacksTo};
+ghost use Rattle.acn_pack.specs.Parts.{place_events, left_of, name_in, tests_in, OwnIsNumber, IsItemed};
+ghost use Rattle.acn_pack.specs.Sounds.{IsSound, FormIsSound, FieldsAreSound};
+
+use crate::asking::{ask_presence, ask_size};
+use crate::flags::put_flags;
+use crate::leaves::{fill_home, put_bits, put_end, put_index, put_number, put_octets, put_text};
+use crate::parts::{ask_case, ask_item, note_own, put_inserted};
+use crate::steps::{Component, at, case_of, component_of, inserted_slot};
+use crate::values::{case_in, elements_in, places_in};
+use acn_grammar::{ChoiceRule, Presence, Sizing, Value};
+use acn_num::Path;
+use acn_plan::{Act, Step};
+use acn_writer::{Halt, Writer};
+
+/// The node of a step.
+#[cycle(pack)]
+pub fn pack_step<'p, T, const N: usize, const S: usize, const A: usize>(
+    steps: &'p [Step],
+    this: usize,
+    v: &Value,
+    w: &mut Writer<'_, 'p, N, S, A>,
+    path: &mut Path,
+) -> Result<(), Halt>
+    requires made { IsMade steps.now }
+    requires there { this < length steps.now }
+    requires sound { IsSound (root_of steps.now) (length path.old) (node_at steps.now this) }
+    ensures packs { Packs (events (root_of steps.now) (node_at steps.now this) path.old (data_of v.now)) w.old w.new path.new result }
+    ensures path { OnOk result (path.new ≡ path.old) }
+{
+    let step = at(steps, this);
+    w.align(step.align)?;
+    pack_body::<T, N, S, A>(steps, this, step, v, w, path)
+}
+
+#[cycle(pack)]
+fn pack_body<'p, T, const N: usize, const S: usize, const A: usize>(
+    steps: &'p [Step],
+    this: usize,
+    step: &'p Step,
+    v: &Value,
+    w: &mut Writer<'_, 'p, N, S, A>,
+    path: &mut Path,
+) -> Result<(), Halt>
+    requires made { IsMade steps.now }
+    requires there { this < length steps.now }
+    requires is { StepAt steps.now this step.now }
+    requires sound { FormIsSound (root_of steps.now) (length path.old) (form_at steps.now this step.now) }
+    ensures packs { Packs (form_events (root_of steps.now) (form_at steps.now this step.now) path.old (data_of v.now)) w.old w.new path.new result }
+    ensures path { OnOk result (path.new ≡ path.old) }
+{
+    match &step.act {
+        Act::Num(leaf) => put_number(leaf, v, w),
+        Act::Octets(sizing) => put_octets(sizing, v, w),
+        Act::Bits(sizing) => put_bits(sizing, v, w),
+        Act::Text(leaf) => put_text(leaf, v, w),
+        Act::Seq(home) => {
+            let end = step.next as usize;
+            pack_seq::<T, N, S, A>(steps, this + 1, end, home.items(), v, w, path)
+        }
+        Act::List(sizing) => pack_list::<T, N, S, A>(steps, this + 1, sizing, v, w, path),
+        Act::Choice(rule) => pack_choice::<T, N, S, A>(steps, this, *rule, v, w, path),
+        Act::Contained(sizing) => pack_contained::<T, N, S, A>(steps, this + 1, sizing, v, w, path),
+    }
+}
+
+// A node inside another, at a step from it.
+#[cycle(pack)]
+fn pack_child<'p, T, const N: usize, const S: usize, const A: usize>(
+    steps: &'p [Step],
+    this: usize,
+    k: u32,
+    v: &Value,
+    w: &mut Writer<'_, 'p, N, S, A>,
+    path: &mut Path,
+) -> Result<(), Halt>
+    requires made { IsMade steps.now }
+    requires there { this < length steps.now }
+    requires sound { IsSound (root_of steps.now) (suc (length path.old)) (node_at steps.now this) }
+    ensures packs { Packs (events (root_of steps.now) (node_at steps.now this) (path.old ++ k ∷ []) (data_of v.now)) w.old w.new path.new result }
+    ensures path { OnOk result (path.new ≡ path.old) }
+{
+    path.push(k);
+    pack_step::<T, N, S, A>(steps, this, v, w, path)?;
+    path.pop();
+    Ok(())
+}
+
+#[cycle(pack)]
+fn pack_seq<'p, T, const N: usize, const S: usize, const A: usize>(
+    steps: &'p [Step],
+    first: usize,
+    end: usize,
+    home: &[u32],
+    v: &Value,
+    w: &mut Writer<'_, 'p, N, S, A>,
+    path: &mut Path,
+) -> Result<(), Halt>
+    requires made { IsMade steps.now }
+    requires within { end ≤ length steps.now }
+    requires sound { FormIsSound (root_of steps.now) (length path.old) (seq (fields_at steps.now first end) home.now) }
+    ensures packs { Packs (form_events (root_of steps.now) (seq (fields_at steps.now first end) home.now) path.old (data_of v.now)) w.old w.new path.new result }
+    ensures path { OnOk result (path.new ≡ path.old) }
+{
+    match places_in(v) {
+        Some(places) => pack_places::<T, N, S, A>(steps, first, end, home, places, w, path),
+        None => Ok(()),
+    }
+}
+
+#[cycle(pack)]
+fn pack_places<'p, T, const N: usize, const S: usize, const A: usize>(
+    steps: &'p [Step],
+    first: usize,
+    end: usize,
+    home: &[u32],
+    places: &[Option<Value>],
+    w: &mut Writer<'_, 'p, N, S, A>,
+    path: &mut Path,
+) -> Result<(), Halt>
+    requires made { IsMade steps.now }
+    requires within { end ≤ length steps.now }
+    requires sound { FormIsSound (root_of steps.now) (length path.old) (seq (fields_at steps.now first end) home.now) }
+    ensures packs { Packs (form_events (root_of steps.now) (seq (fields_at steps.now first end) home.now) path.old (record_of (places_view places.now))) w.old w.new path.new result }
+    ensures path { OnOk result (path.new ≡ path.old) }
+{
+    put_flags(steps, first, end, places, w)?;
+    pack_fields::<T, N, S, A>(steps, first, end, places, w, path)?;
+    fill_home(home, w)
+}
+
+#[cycle(pack)]
+fn pack_fields<'p, T, const N: usize, const S: usize, const A: usize>(
+    steps: &'p [Step],
+    first: usize,
+    end: usize,
+    places: &[Option<Value>],
+    w: &mut Writer<'_, 'p, N, S, A>,
+    path: &mut Path,
+) -> Result<(), Halt>
+    requires made { IsMade steps.now }
+    requires within { end ≤ length steps.now }
+    requires sound { FieldsAreSound (root_of steps.now) (suc (length path.old)) (fields_at steps.now first end) }
+    ensures packs { Packs (field_events (root_of steps.now) (fields_at steps.now first end) path.old 0 (places_view places.now)) w.old w.new path.new result }
+    ensures path { OnOk result (path.new ≡ path.old) }
+{
+    let mut this = first;
+    let mut k = 0u32;
+    let mut next = 0;
+    while this < end {
+        let step = at(steps, this);
+        match pack_field::<T, N, S, A>(steps, this, k, places, next, w, path) {
+            Ok(Some(behind)) => {
+                next = behind;
+                k += 1;
+                this = step.next as usize;
+            }
+            Ok(None) => return Ok(()),
+            Err(halt) => return Err(halt),
+        }
+    }
+    Ok(())
+}
+
+// Field k of a SEQUENCE, where the place of the next component is this one. The answer is that of
+// the component behind it. Where a component has no place there is none, and nothing is left to be
+// written.
+#[cycle(pack)]
+fn pack_field<'p, T, const N: usize, const S: usize, const A: usize>(
+    steps: &'p [Step],
+    this: usize,
+    k: u32,
+    places: &[Option<Value>],
+    next: usize,
+    w: &mut Writer<'_, 'p, N, S, A>,
+    path: &mut Path,
+) -> Result<Option<usize>, Halt>
+    requires made { IsMade steps.now }
+    requires there { this < length steps.now }
+    requires within { next ≤ length places.now }
+    requires sound { (fs : Fields) × (step : StepData) × StepAt steps.now this step × FieldsAreSound (root_of steps.now) (suc (length path.old)) (with_field (field_by step.place (node_at steps.now this)) fs) }
+    ensures packs { (fs : Fields) (step : StepData) → StepAt steps.now this step → PacksTo (field_events (root_of steps.now) (with_field (field_by step.place (node_at steps.now this)) fs) path.old k (places_view (drop next places.now))) (left_of (root_of steps.now) fs path.old (suc k) places.now) w.old w.new path.new result }
+    ensures within { IfOk result (λ behind. IfSome behind (λ n. n ≤ length places.now)) }
+    ensures path { OnOk result (path.new ≡ path.old) }
+{
+    let step = at(steps, this);
+    match component_of(&step.place) {
+        Some(component) => match places.get(next) {
+            Some(place) => {
+                pack_component::<T, N, S, A>(steps, this, component, k, place, w, path)?;
+                Ok(Some(next + 1))
+            }
+            None => Ok(None),
+        },
+        None => {
+            let slot = inserted_slot(&step.place);
+            put_inserted(steps, this, slot, w)?;
+            Ok(Some(next))
+        }
+    }
+}
+
+#[cycle(pack)]
+fn pack_component<'p, T, const N: usize, const S: usize, const A: usize>(
+    steps: &'p [Step],
+    this: usize,
+    component: Component<'p>,
+    k: u32,
+    place: &Option<Value>,
+    w: &mut Writer<'_, 'p, N, S, A>,
+    path: &mut Path,
+) -> Result<(), Halt>
+    requires made { IsMade steps.now }
+    requires there { this < length steps.now }
+    requires sound { IsSound (root_of steps.now) (suc (length path.old)) (node_at steps.now this) }
+    requires own { OwnIsNumber component.slot (node_at steps.now this) }
+    ensures packs { Packs (place_events (root_of steps.now) (node_at steps.now this) component.entry.presence.now component.entry.slot (path.old ++ k ∷ []) (option_map data_of place.now)) w.old w.new path.new result }
+    ensures path { OnOk result (path.new ≡ path.old) }
+{
+    path.push(k);
+    pack_place::<T, N, S, A>(steps, this, component, place, w, path)?;
+    path.pop();
+    Ok(())
+}
+
+// A component at the path, which may be absent.
+#[cycle(pack)]
+fn pack_place<'p, T, const N: usize, const S: usize, const A: usize>(
+    steps: &'p [Step],
+    this: usize,
+    component: Component<'p>,
+    place: &Option<Value>,
+    w: &mut Writer<'_, 'p, N, S, A>,
+    path: &mut Path,
+) -> Result<(), Halt>
+    requires made { IsMade steps.now }
+    requires there { this < length steps.now }
+    requires sound { IsSound (root_of steps.now) (length path.old) (node_at steps.now this) }
+    requires own { OwnIsNumber component.slot (node_at steps.now this) }
+    ensures packs { Packs (place_events (root_of steps.now) (node_at steps.now this) component.entry.presence.now component.entry.slot path.old (option_map data_of place.now)) w.old w.new path.new result }
+    ensures path { OnOk result (path.new ≡ path.old) }
+{
+    match place {
+        Some(v) => pack_there::<T, N, S, A>(steps, this, component, v, w, path),
+        None => ask_presence(component.presence, false, w),
+    }
+}
+
+#[cycle(pack)]
+fn pack_there<'p, T, const N: usize, const S: usize, const A: usize>(
+    steps: &'p [Step],
+    this: usize,
+    component: Component<'p>,
+    v: &Value,
+    w: &mut Writer<'_, 'p, N, S, A>,
+    path: &mut Path,
+) -> Result<(), Halt>
+    requires made { IsMade steps.now }
+    requires there { this < length steps.now }
+    requires sound { IsSound (root_of steps.now) (length path.old) (node_at steps.now this) }
+    requires own { OwnIsNumber component.slot (node_at steps.now this) }
+    ensures packs { Packs (place_events (root_of steps.now) (node_at steps.now this) component.entry.presence.now component.entry.slot path.old (Some (data_of v.now))) w.old w.new path.new result }
+    ensures path { OnOk result (path.new ≡ path.old) }
+{
+    note_own(steps, this, component.slot, v, w)?;
+    ask_presence(component.presence, true, w)?;
+    pack_step::<T, N, S, A>(steps, this, v, w, path)
+}
+
+#[cycle(pack)]
+fn pack_list<'p, T, const N: usize, const S: usize, const A: usize>(
+    steps: &'p [Step],
+    this: usize,
+    sizing: &Sizing,
+    v: &Value,
+    w: &mut Writer<'_, 'p, N, S, A>,
+    path: &mut Path,
+) -> Result<(), Halt>
+    requires made { IsMade steps.now }
+    requires there { this < length steps.now }
+    requires sound { FormIsSound (root_of steps.now) (length path.old) (list sizing.now (node_at steps.now this)) }
+    ensures packs { Packs (form_events (root_of steps.now) (list sizing.now (node_at steps.now this)) path.old (data_of v.now)) w.old w.new path.new result }
+    ensures path { OnOk result (path.new ≡ path.old) }
+{
+    match elements_in(v) {
+        Some(elements) => pack_elements::<T, N, S, A>(steps, this, sizing, elements, w, path),
+        None => Ok(()),
+    }
+}
+
+#[cycle(pack)]
+fn pack_elements<'p, T, const N: usize, const S: usize, const A: usize>(
+    steps: &'p [Step],
+    this: usize,
+    sizing: &Sizing,
+    elements: &[Value],
+    w: &mut Writer<'_, 'p, N, S, A>,
+    path: &mut Path,
+) -> Result<(), Halt>
+    requires made { IsMade steps.now }
+    requires there { this < length steps.now }
+    requires sound { FormIsSound (root_of steps.now) (length path.old) (list sizing.now (node_at steps.now this)) }
+    ensures packs { Packs (form_events (root_of steps.now) (list sizing.now (node_at steps.now this)) path.old (list_of (elements_view elements.now))) w.old w.new path.new result }
+    ensures path { OnOk result (path.new ≡ path.old) }
+{
+    let n = elements.len() as u64;
+    w.size(sizing, n)?;
+    ask_size(&sizing.rule, n, w)?;
+    pack_run::<T, N, S, A>(steps, this, elements, w, path)?;
+    put_end(&sizing.rule, w)
+}
+
+#[cycle(pack)]
+fn pack_run<'p, T, const N: usize, const S: usize, const A: usize>(
+    steps: &'p [Step],
+    this: usize,
+    elements: &[Value],
+    w: &mut Writer<'_, 'p, N, S, A>,
+    path: &mut Path,
+) -> Result<(), Halt>
+    requires made { IsMade steps.now }
+    requires there { this < length steps.now }
+    requires few { length elements.now ≤ MOST_SIZE }
+    requires sound { IsSound (root_of steps.now) (suc (length path.old)) (node_at steps.now this) }
+    ensures packs { Packs (run_events (λ k d. events (root_of steps.now) (node_at steps.now this) (path.old ++ k ∷ []) d) 0 (elements_view elements.now)) w.old w.new path.new result }
+    ensures path { OnOk result (path.new ≡ path.old) }
+{
+    let mut k = 0u32;
+    for v in elements {
+        match pack_child::<T, N, S, A>(steps, this, k, v, w, path) {
+            Ok(()) => k += 1,
+            Err(halt) => return Err(halt),
+        }
+    }
+    Ok(())
+}
+
+#[cycle(pack)]
+fn pack_choice<'p, T, const N: usize, const S: usize, const A: usize>(
+    steps: &'p [Step],
+    this: usize,
+    rule: ChoiceRule,
+    v: &Value,
+    w: &mut Writer<'_, 'p, N, S, A>,
+    path: &mut Path,
+) -> Result<(), Halt>
+    requires made { IsMade steps.now }
+    requires there { this < length steps.now }
+    requires is { (step : StepData) → StepAt steps.now this step → step.act ≡ ChoiceAct rule }
+    requires sound { (step : StepData) → StepAt steps.now this step → FormIsSound (root_of steps.now) (length path.old) (form_at steps.now this step) }
+    ensures packs { (step : StepData) → StepAt steps.now this step → Packs (form_events (root_of steps.now) (form_at steps.now this step) path.old (data_of v.now)) w.old w.new path.new result }
+    ensures path { OnOk result (path.new ≡ path.old) }
+{
+    match case_in(v) {
+        Some((i, inside)) => pack_chosen::<T, N, S, A>(steps, this, rule, i, inside, w, path),
+        None => Ok(()),
+    }
+}
+
+// The alternative of index i of the CHOICE of a step.
+#[cycle(pack)]
+fn pack_chosen<'p, T, const N: usize, const S: usize, const A: usize>(
+    steps: &'p [Step],
+    this: usize,
+    rule: ChoiceRule,
+    i: u32,
+    v: &Value,
+    w: &mut Writer<'_, 'p, N, S, A>,
+    path: &mut Path,
+) -> Result<(), Halt>
+    requires made { IsMade steps.now }
+    requires there { this < length steps.now }
+    requires is { (step : StepData) → StepAt steps.now this step → step.act ≡ ChoiceAct rule }
+    requires sound { (step : StepData) → StepAt steps.now this step → FormIsSound (root_of steps.now) (length path.old) (form_at steps.now this step) }
+    ensures packs { (step : StepData) → StepAt steps.now this step → Packs (form_events (root_of steps.now) (form_at steps.now this step) path.old (alt i (data_of v.now))) w.old w.new path.new result }
+    ensures path { OnOk result (path.new ≡ path.old) }
+{
+    put_index(&rule, i, w)?;
+    let step = at(steps, this);
+    match case_of(steps, this + 1, step.next as usize, i) {
+        Some(case) => pack_case::<T, N, S, A>(steps, case, rule, i, v, w, path),
+        None => Ok(()),
+    }
+}
+
+#[cycle(pack)]
+fn pack_case<'p, T, const N: usize, const S: usize, const A: usize>(
+    steps: &'p [Step],
+    this: usize,
+    rule: ChoiceRule,
+    i: u32,
+    v: &Value,
+    w: &mut Writer<'_, 'p, N, S, A>,
+    path: &mut Path,
+) -> Result<(), Halt>
+    requires made { IsMade steps.now }
+    requires there { this < length steps.now }
+    requires sound { IsSound (root_of steps.now) (suc (length path.old)) (node_at steps.now this) }
+    requires item { (step : StepData) → StepAt steps.now this step → IsItemed (root_of steps.now) rule step.place }
+    ensures packs { (step : StepData) → StepAt steps.now this step → Packs (rule_events (root_of steps.now) path.old i rule (name_in step.place) (tests_in step.place) ++ events (root_of steps.now) (node_at steps.now this) (path.old ++ i ∷ []) (data_of v.now)) w.old w.new path.new result }
+    ensures path { OnOk result (path.new ≡ path.old) }
+{
+    let step = at(steps, this);
+    ask_item(&rule, &step.place, w)?;
+    path.push(i);
+    ask_case(&rule, &step.place, w)?;
+    pack_step::<T, N, S, A>(steps, this, v, w, path)?;
+    path.pop();
+    Ok(())
+}
+
+#[cycle(pack)]
+fn pack_contained<'p, T, const N: usize, const S: usize, const A: usize>(
+    steps: &'p [Step],
+    this: usize,
+    sizing: &Sizing,
+    v: &Value,
+    w: &mut Writer<'_, 'p, N, S, A>,
+    path: &mut Path,
+) -> Result<(), Halt>
+    requires made { IsMade steps.now }
+    requires there { this < length steps.now }
+    requires sound { FormIsSound (root_of steps.now) (length path.old) (contained sizing.now (node_at steps.now this)) }
+    ensures packs { Packs (form_events (root_of steps.now) (contained sizing.now (node_at steps.now this)) path.old (data_of v.now)) w.old w.new path.new result }
+    ensures path { OnOk result (path.new ≡ path.old) }
+{
+    w.enter(&sizing.rule)?;
+    pack_child::<T, N, S, A>(steps, this, 0, v, w, path)?;
+    w.align(8)?;
+    w.close(sizing)
+}

@@ -1,0 +1,12 @@
+mod Abandoned
+mod Breaches
+mod Buffers
+mod Endings
+mod FrameLists
+-- for acn_pack
+pub mod Joining
+mod LeafLists
+mod Numbers
+mod Puts
+mod States
+mod Tables

@@ -1,0 +1,18 @@
+use Rattle.std.proofs.Common.{refl, sym, ◌∙◌}
+use Rattle.std.specs.Int.{w128}
+use Rattle.std.proofs.lemmas.Int.{to_z-of_z}
+use Rattle.acn_events.specs.Event.{notes}
+use Rattle.acn_writer.specs.declared.halt.Halt.TheVariants.{Full}
+use Rattle.acn_writer.proofs.States.{halts_still, slot_noted}
+use Rattle.acn_writer.proofs.writer.Writer.note.Goals as goal
+
+pub returns-then-not-can_begin-clause-halted : goal.returns-then-not-can_begin-clause-halted
+returns-then-not-can_begin-clause-halted g c = halts_still (λ path. notes path c.args.slot c.args.set.now c.args.x) c.args.self.now Full (λ path. c.can_begin.ensures.full c.if-not-can_begin.true)
+
+pub returns-clause-ran : goal.returns-clause-ran
+returns-clause-ran g c =
+    let plain = to_z-of_z w128 c.args.x c.ranges.x in
+    let holds = rw plain at c.holds.ensures in
+    let keeps = rw plain at c.note.ensures.keeps in
+    let permitted = sym holds ∙ c.if-not-holds.false in
+    slot_noted c.args.self.now _ c.args.slot c.args.set.now c.args.x permitted (sym c.is_begun.ensures ∙ c.if-is_begun.false) (keeps c.args.set.now permitted) c.note.ensures.begun_so c.note.ensures.leaves refl refl

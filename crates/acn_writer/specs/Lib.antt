@@ -1,0 +1,6 @@
+pub mod Answers
+pub mod Contents
+pub mod Ending
+pub mod Halts
+pub mod Leaves
+pub mod Slots
