@@ -1,0 +1,5 @@
+pub mod CanWalk
+pub mod Kinds
+pub mod Laws
+pub mod Pieces
+pub mod Walking

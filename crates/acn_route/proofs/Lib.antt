@@ -1,0 +1,9 @@
+mod Counts
+mod Ending
+mod Headers
+mod LineTexts
+mod Lookups
+mod OneLine
+mod Pages
+mod Spaces
+mod Taking
