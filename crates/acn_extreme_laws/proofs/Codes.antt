@@ -1,6 +1,6 @@
 -- The number that is picked is permitted, and no code of the leaf is shorter, or longer, than its own.
 use Rattle.std.proofs.Common.{◌≡◌, ℕ, ◌<◌, ◌≤◌, ℤ, pos, ◌+ℤ◌, Bool, true, false, not, ◌&&◌, List, [], ◌∷◌, ◌++◌, length, ◌-◌, Option, Some, None, append_assoc, refl, sym, ap, ◌∙◌, arith, inl, inr, ◌⊎◌, IsTrue, max, nat_eq, nat_lt}
-use Rattle.std.proofs.lemmas.Bool.{and_from, and_parts, or_left, or_right, or_parts, not-true}
+use Rattle.std.proofs.lemmas.Bool.{and_from, and_parts, eqb-true, or_left, or_right, or_parts, not-true}
 use Rattle.std.proofs.lemmas.Bool.Decides.{nat_tests}
 use Rattle.std.proofs.lemmas.Int.{ints}
 use Rattle.std.specs.Prelude.{◌-ℤ◌, ◌≤ℤ◌, ◌<ℤ◌, int_le, int_lt, if◌then◌else◌, unwrap_or}
@@ -26,7 +26,7 @@ use Rattle.acn_grammar.proofs.Monotone.{Varies, range_has}
 use Rattle.acn_grammar.proofs.SpanLaw.{fixed_is, varies_if}
 use Rattle.acn_grammar.proofs.WholeTests.{either, le_fact, lt_fact, ge_fact, le_test}
 use Rattle.acn_grammar.proofs.Within.{between}
-use Rattle.acn_extreme_laws.specs.Codes.{ahead, image_on, nearest_key, tried_on, tried_by, pick, number_by, number_at}
+use Rattle.acn_extreme_laws.specs.Codes.{ahead, image_on, nearest_key, tried_on, tried_by, pick, steps, firsts_by, lesser, least_of, picked_of, number_by, number_at}
 use Rattle.acn_extreme_laws.specs.declared.side.Side.{Side}
 use Rattle.acn_extreme_laws.specs.declared.side.Side.TheVariants.{Shortest, Longest}
 
@@ -292,6 +292,29 @@ module _ (coding : NumCoding) (varies : Varies coding) (len : ℤ → ℕ) where
       (λ q. let w = lines_in r table.lines k q in or_left (int_le r.0 k && int_le k r.1) (has rs k) (in_range r.0 r.1 k w.0 w.1))
       (λ q. or_right (int_le r.0 k && int_le k r.1) (has rs k) (tried_in (Some table) rs o.1 k q))
 
+-- The least of those with one length is permitted too, and has that length.
+
+record Keeps (leaf : NumLeaf) (best x : ℤ) : Type 0 where
+  there : In leaf.set x
+  alike : num_length leaf x ≡ num_length leaf best
+
+lesser_keeps : (leaf : NumLeaf) (x best : ℤ) → In leaf.set best → Keeps leaf best (lesser leaf x best)
+lesser_keeps leaf x best h = by (has leaf.set x && (nat_eq (num_length leaf x) (num_length leaf best) && int_lt x best)) refl
+  where
+    by : (t : Bool) → (has leaf.set x && (nat_eq (num_length leaf x) (num_length leaf best) && int_lt x best)) ≡ t → Keeps leaf best (if t then x else best)
+    by true e =
+        let a = and_parts (has leaf.set x) (nat_eq (num_length leaf x) (num_length leaf best) && int_lt x best) e in
+        let b = and_parts (nat_eq (num_length leaf x) (num_length leaf best)) (int_lt x best) a.1 in
+        record { there = a.0; alike = eqb-true (num_length leaf x) (num_length leaf best) b.0 }
+    by false e = record { there = h; alike = refl }
+
+least_keeps : (leaf : NumLeaf) (best : ℤ) (xs : List ℤ) → In leaf.set best → Keeps leaf best (least_of leaf best xs)
+least_keeps leaf best [] h = record { there = h; alike = refl }
+least_keeps leaf best (x ∷ xs) h =
+    let one = lesser_keeps leaf x best h in
+    let two = least_keeps leaf (lesser leaf x best) xs one.there in
+    record { there = two.there; alike = two.alike ∙ one.alike }
+
 -- Leaves that keep their rules.
 
 is_integer : (kind : NumKind) (coding : NumCoding) → Varies coding → takes kind coding ≡ true → kind ≡ Integer
@@ -362,13 +385,16 @@ module _ (leaf : NumLeaf) (fine : IsTrue (num_fine leaf)) where
           self : (x : ℤ) → x ≤ℤ x
           self x = omega (arith, ints)
 
+  picked_permitted : (side : Side) → None ≡ fixed_width leaf.coding → In leaf.set (picked_of side leaf)
+  picked_permitted side e = picked (num_length leaf) side (In leaf.set) (least leaf.set) (tried_by (origin leaf.coding) leaf.table leaf.set) least_in (tried_in leaf.coding (varies_if leaf.coding e) (num_length leaf) leaf.table leaf.set ordered)
+
   -- the number is permitted
   pub number_permitted : (side : Side) → In leaf.set (number_at side leaf)
   number_permitted side = by (fixed_width leaf.coding) refl
     where
       by : (o : Option ℕ) → o ≡ fixed_width leaf.coding → In leaf.set (number_by o side leaf)
       by (Some w) e = least_in
-      by None e = picked (num_length leaf) side (In leaf.set) (least leaf.set) (tried_by (origin leaf.coding) leaf.table leaf.set) least_in (tried_in leaf.coding (varies_if leaf.coding e) (num_length leaf) leaf.table leaf.set ordered)
+      by None e = (least_keeps leaf (picked_of side leaf) (firsts_by (origin leaf.coding) leaf.table leaf.set (steps leaf.coding)) (picked_permitted side e)).there
 
   -- no code is shorter than that of the one, and none longer than that of the other
   pub lengths_between : (x : ℤ) → In leaf.set x → (num_length leaf (number_at Shortest leaf) ≤ num_length leaf x) × (num_length leaf x ≤ num_length leaf (number_at Longest leaf))
@@ -385,4 +411,7 @@ module _ (leaf : NumLeaf) (fine : IsTrue (num_fine leaf)) where
           let high = each_long (num_length leaf) (least leaf.set) (tried_by (origin leaf.coding) leaf.table leaf.set) c.high c.high_there in
           let a = c.shorter in
           let b = c.longer in
+          let firsts = firsts_by (origin leaf.coding) leaf.table leaf.set (steps leaf.coding) in
+          let short = (least_keeps leaf (picked_of Shortest leaf) firsts (picked_permitted Shortest e)).alike in
+          let long = (least_keeps leaf (picked_of Longest leaf) firsts (picked_permitted Longest e)).alike in
           (omega arith, omega arith)

@@ -4,6 +4,7 @@ ghost use Rattle.acn_grammar.specs.View.{grammar_of};
 ghost use Rattle.acn_grammar.specs.ItemsNamed.{ItemsNamed};
 
 use crate::compared::compared;
+use crate::extreme::{extremes_in_words, extremes_of_lines};
 use crate::fault::fault_in_words;
 use crate::plan::plan_in_words;
 use acn_case_lines::{wide, word};
@@ -175,6 +176,8 @@ fn told(alloc: Global, tree: Boxed<Tree>, words: &[&str]) -> Result<String, NoMe
         "at" => node_told(alloc, tree.get(), word(rest, 0)),
         "meets" => meets_told(alloc, tree.get(), rest),
         "shaped" => shaped_told(alloc, tree.get(), rest),
+        "extremes" => extremes_in_words(alloc, tree, true),
+        "extreme-bits" => extremes_in_words(alloc, tree, false),
         "make" => made_told(alloc, tree.get(), wide(rest, 0)),
         _ => Ok(format!(in alloc; "not understood")?),
     }
@@ -202,6 +205,12 @@ pub fn answer(alloc: Global, sheet: &Sheet, case: &str) -> Result<String, NoMemo
     }
     if word(words.as_slice(), 0) == "compare" {
         return compared(alloc, sheet, case);
+    }
+    if word(words.as_slice(), 0) == "extremes-of" {
+        return extremes_of_lines(
+            alloc,
+            case.trim().strip_prefix("extremes-of ").unwrap_or(""),
+        );
     }
     of_tree(
         alloc,

@@ -3,12 +3,14 @@
 //! A tree stands in lines, as `acn_case_trees` says. A case `QUESTION =>` asks of it; behind `;;` stand its parts.
 //!
 //! Questions: `form`, `values`, `bits`, `bits-at PATH`, `check`, `check-twice`, `plan`, `named`, `at PATH`, `meets VALUE`,
-//! `shaped VALUE`, `make NUMBER`. `compare ;; PARTS / ;; PARTS` compares the tree with the parts in front of the stroke with that
-//! with those behind it.
+//! `shaped VALUE`, `make NUMBER`; `extremes`, of a shortest and a longest packet, or `extreme-bits` of how long they are.
+//! `compare ;; PARTS / ;; PARTS` compares the tree with the parts in front of the stroke with that with those behind it.
+//! `extremes-of LINE | LINE` asks `extremes` of a tree whose lines stand in the case itself.
 #![tactic(auto)]
 
 mod answer;
 mod compared;
+mod extreme;
 mod fault;
 mod plan;
 

@@ -1,0 +1,18 @@
+//! The shortest and the longest packet that a tree has.
+#![tactic(auto)]
+
+mod answer;
+mod best;
+mod characters;
+mod lines;
+mod numbers;
+mod parts;
+mod reached;
+mod single;
+mod slots;
+mod uses;
+mod ways;
+
+pub use acn_extreme_laws::Why;
+pub use answer::{Ends, ExtremesFault};
+pub use reached::extremes;

@@ -1,0 +1,78 @@
+//! The shortest and the longest packet.
+
+ghost use Rattle.std.specs.Prelude.{IfOk, IfErr, MatchOption};
+ghost use Rattle.acn_extreme_laws.specs.Single.{Single};
+ghost use Rattle.acn_extremes.specs.Extreme.{AreEnds, EachIsRefused, IsWhyNot};
+ghost use Rattle.acn_extremes.specs.Told.{BestEnds};
+ghost use Rattle.acn_extremes.specs.Ways.{CanMake};
+ghost use Rattle.acn_grammar.specs.View.{grammar_of};
+ghost use Rattle.acn_packet_laws.specs.Laws.{IsAccepted};
+
+use crate::answer::{Ends, ExtremesFault};
+use crate::best::best_node;
+use crate::single::first_unsingle;
+use crate::slots::Slots;
+use acn_check::Checked;
+use acn_extreme_laws::{
+    Side, best_is_extreme, best_is_written, first_unsingle_is_found, no_best_is_refused,
+};
+use acn_num::NoMemory;
+use acn_packet_laws::accepted_is_sound;
+use acn_tree::Node;
+use std::alloc::Global;
+
+// The best values on both sides.
+fn best_ends(alloc: Global, slots: &Slots<'_>) -> Result<Option<Ends>, NoMemory>
+    requires { CanMake (grammar_of slots.now.root.now) }
+    ensures { IfOk result (BestEnds (grammar_of slots.now.root.now)) }
+{
+    match best_node(alloc, slots.root, slots, Side::Shortest, 0)? {
+        None => Ok(None),
+        Some(shortest) => match best_node(alloc, slots.root, slots, Side::Longest, 0)? {
+            None => Ok(None),
+            Some(longest) => Ok(Some(Ends {
+                least: shortest.end,
+                least_value: shortest.made,
+                greatest: longest.end,
+                greatest_value: longest.made,
+            })),
+        },
+    }
+}
+
+// The same of a root.
+fn root_extremes(alloc: Global, root: &Node) -> Result<Option<Ends>, ExtremesFault>
+    requires { IsAccepted (grammar_of root.now) }
+    ensures single { IfOk result (λ _. Single (grammar_of root.now)) }
+    ensures fault { IfErr result (IsWhyNot (grammar_of root.now)) }
+    ensures ends { IfOk result (λ found. MatchOption found (EachIsRefused (grammar_of root.now)) (AreEnds (grammar_of root.now))) }
+{
+    accepted_is_sound();
+    best_is_extreme();
+    best_is_written();
+    first_unsingle_is_found();
+    no_best_is_refused();
+    let slots = Slots { root };
+    match first_unsingle(alloc, &slots)? {
+        Some(reason) => Err(ExtremesFault::NotSingle {
+            at: reason.at,
+            why: reason.why,
+        }),
+        None => Ok(best_ends(alloc, &slots)?),
+    }
+}
+
+/// A shortest and a longest packet of an accepted tree in which each determinant serves one use: two values, and how many bits each is
+/// written in. No value has a packet, written or read, with fewer bits or with more. None comes exactly where each value of the tree's
+/// form is refused. `NotSingle` comes exactly where determinants don't serve one use each, or something else in the tree keeps packets
+/// from being put together part by part (`Why`); the numbers are then not told, though `bounds` holds. `NoMemory` comes where memory runs
+/// out, and where the index of an item has more than 32 bits. (This profile's own.)
+pub fn extremes(alloc: Global, checked: &Checked) -> Result<Option<Ends>, ExtremesFault>
+    ensures single { IfOk result (λ _. Single (grammar_of checked.now.tree.root)) }
+    ensures fault { IfErr result (IsWhyNot (grammar_of checked.now.tree.root)) }
+    ensures ends { IfOk result (λ found. MatchOption found (EachIsRefused (grammar_of checked.now.tree.root)) (AreEnds (grammar_of checked.now.tree.root))) }
+{
+    let tree = checked.tree();
+    let root = tree.root();
+    root_extremes(alloc, root)
+}
