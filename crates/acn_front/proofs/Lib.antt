@@ -1,3 +1,4 @@
-mod Grown
+-- for acn_run: grammars of types, one more behind the others
+pub mod Grown
 mod OfSources
 mod Excluding

@@ -7,7 +7,8 @@ use acn_num::NoMemory;
 use acn_stream::StreamFault;
 use std::alloc::Global;
 
-fn packet_fault(alloc: Global, fault: &Fault) -> Result<String, NoMemory> {
+/// Why a packet isn't read.
+pub fn packet_fault(alloc: Global, fault: &Fault) -> Result<String, NoMemory> {
     let path = path_in_words(alloc, &fault.path)?;
     let reason = match fault.reason {
         Reason::Short => "Short",

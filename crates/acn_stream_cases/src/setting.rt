@@ -7,6 +7,9 @@ use acn_case_lines::word;
 pub enum Question {
     Decode,
     Encode,
+    Route,
+    Explain,
+    Pieces,
 }
 
 /// What stands between the question and the bytes.
@@ -39,6 +42,9 @@ pub fn setting_of(words: &[&str]) -> Option<Setting> {
     let question = match word(words, 0) {
         "decode" => Question::Decode,
         "encode" => Question::Encode,
+        "route" => Question::Route,
+        "explain" => Question::Explain,
+        "pieces" => Question::Pieces,
         _ => return None,
     };
     Some(Setting {

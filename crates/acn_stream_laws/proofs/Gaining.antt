@@ -1,5 +1,5 @@
 -- What was taken of an input, and what an output gained.
-use Rattle.std.proofs.Common.{◌≡◌, ℕ, List, [], ◌++◌, Option, None, Some, subst, ap, refl, ◌∙◌, append_assoc, append-nil}
+use Rattle.std.proofs.Common.{◌≡◌, ℕ, ◌≤◌, List, [], ◌∷◌, ◌++◌, length, Option, None, Some, subst, ap, refl, ◌∙◌, arith, append_assoc, append-nil, length-append}
 use Rattle.acn_outside.specs.Moves.{Takes, Gains, IsUsedUp}
 use Rattle.acn_outside.specs.Whole.{GainsFront}
 
@@ -18,6 +18,12 @@ none_left bytes given i' l u = subst IsUsedUp l.is u
 
 pub all_given : (bytes given : List ℕ) (i' : Option (List ℕ)) → Left bytes given i' → IsUsedUp i' → bytes ≡ given
 all_given bytes given i' l u = l.whole ∙ ap (λ (t : List ℕ). given ++ t) (none_left bytes given i' l u) ∙ append-nil given
+
+-- no more bytes come than there are
+pub not_past : (bytes given : List ℕ) (byte limit : ℕ) (i' : Option (List ℕ)) → Takes (Some bytes) i' (given ++ byte ∷ []) → length given ≡ limit → length bytes ≤ limit → ⊥
+not_past bytes given byte limit i' t full few =
+    let l = left_of bytes (given ++ byte ∷ []) i' t in
+    omega (arith, full, few, ap length l.whole, length-append (given ++ byte ∷ []) l.left, length-append given (byte ∷ []))
 
 -- all of the bytes in front were gained, or a front of them
 pub gains_front : (o o' : Option (List ℕ)) (front back : List ℕ) → Gains o o' front → GainsFront o o' (front ++ back)

@@ -1,7 +1,11 @@
 mod Pieces
-mod Gaining
+-- for acn_run
+pub mod Gaining
 mod Refusing
+mod Stuck
 mod Whole
 mod LineCuts
+mod Writings
 mod Octets
 mod Lines
+mod Naming

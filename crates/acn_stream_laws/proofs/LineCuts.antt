@@ -23,7 +23,7 @@ same_line a b more rest x y e =
     let long : length a ≡ length b = omega (arith, inside_line a b (10 ∷ more) rest x e, inside_line b a (10 ∷ rest) more y (sym e)) in
     same_front a b (10 ∷ more) (10 ∷ rest) long e
 
-line_parts : (a b : List ℕ) (p q r s : List ℕ) → IsEndedLine a p → IsEndedLine b q → p ++ r ≡ q ++ s → (a ≡ b) × (p ≡ q)
+pub line_parts : (a b : List ℕ) (p q r s : List ℕ) → IsEndedLine a p → IsEndedLine b q → p ++ r ≡ q ++ s → (a ≡ b) × (p ≡ q)
 line_parts a b p q r s h k e =
     let cut : a ++ 10 ∷ r ≡ b ++ 10 ∷ s = sym (append_assoc a (10 ∷ []) r) ∙ ap (λ (t : List ℕ). t ++ r) (sym h.whole) ∙ e ∙ ap (λ (t : List ℕ). t ++ s) k.whole ∙ append_assoc b (10 ∷ []) s in
     let same = same_line a b r s h.fits.one k.fits.one cut in

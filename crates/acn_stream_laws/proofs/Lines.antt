@@ -14,19 +14,19 @@ use Rattle.acn_stream.specs.declared.stream_fault.StreamFault.TheVariants.{LineT
 use Rattle.acn_supply.specs.Cutting.{IsOneLine}
 use Rattle.acn_supply.specs.declared.lines.TheConstants.{MOST_LINE_BYTES}
 use Rattle.acn_stream.proofs.Joining.{joined_on}
-use Rattle.acn_stream_laws.proofs.Gaining.{Left, left_of, none_left, all_given, gains_front, front_more}
+use Rattle.acn_stream_laws.proofs.Gaining.{Left, left_of, none_left, all_given, not_past, gains_front, front_more}
 use Rattle.acn_stream_laws.proofs.LineCuts.{inside_line, same_line, one_cut, lines_on}
 use Rattle.acn_stream_laws.proofs.Octets.{packets_there}
 use Rattle.acn_stream_laws.proofs.Pieces.{GoesOn, Splits, splits, one_whole, all_behind}
-use Rattle.acn_stream_laws.proofs.Whole.{not_past}
-use Rattle.acn_stream_laws.specs.Laws.{HasWriting, WritesPackets}
+use Rattle.acn_stream_laws.proofs.Writings.{HasWriting}
+use Rattle.acn_stream_laws.specs.Laws.{WritesPackets}
 
 -- what stands behind a line begins with its line feed
-record Feeds (behind : List ℕ) : Type 0 where
-  more : List ℕ
-  is : behind ≡ 10 ∷ more
+pub record Feeds (behind : List ℕ) : Type 0 where
+  pub more : List ℕ
+  pub is : behind ≡ 10 ∷ more
 
-feeds : (bytes given behind : List ℕ) (i' : Option (List ℕ)) (l : Left bytes given i') → EndsLine i' behind → Feeds (behind ++ (l.left ++ 10 ∷ []))
+pub feeds : (bytes given behind : List ℕ) (i' : Option (List ℕ)) (l : Left bytes given i') → EndsLine i' behind → Feeds (behind ++ (l.left ++ 10 ∷ []))
 feeds bytes given [] i' l e = record { more = []; is = ap (λ (t : List ℕ). t ++ 10 ∷ []) (none_left bytes given i' l e) }
 feeds bytes given (b ∷ behind) i' l e = record { more = behind ++ (l.left ++ 10 ∷ []); is = ap (λ (x : ℕ). x ∷ (behind ++ (l.left ++ 10 ∷ []))) e }
 

@@ -11,7 +11,7 @@ use Rattle.acn_grammar.specs.Shaped.{are_octets}
 use Rattle.acn_packet_laws.specs.Laws.{IsAccepted, OneWriting}
 use Rattle.acn_stream.specs.Encoding.{IsWrittenPacket, Packets}
 use Rattle.acn_stream_laws.proofs.Pieces.{same_front}
-use Rattle.acn_stream_laws.specs.Laws.{HasWriting}
+use Rattle.acn_stream_laws.proofs.Writings.{HasWriting}
 
 -- ---- octets of bits
 

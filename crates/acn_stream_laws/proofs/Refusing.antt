@@ -18,7 +18,7 @@ use Rattle.acn_stream_laws.proofs.Pieces.{same_front, GoesOn, goes_on, one_list}
 take_front : (a b : List Bool) → take (length a) (a ++ b) ≡ a
 take_front a b = take-append-le (length a) a b (omega arith) ∙ take_all (length a) a (omega arith)
 
-short_or_not : (r : Reason) → (r ≡ short) ⊎ (r ≢ short)
+pub short_or_not : (r : Reason) → (r ≡ short) ⊎ (r ≢ short)
 short_or_not short = inl refl
 short_or_not (out_of_range x) = inr (λ e. cc)
 short_or_not not_minimal = inr (λ e. cc)
@@ -39,7 +39,7 @@ module _ (g : Grammar) where
   size_of : (d : Data) (p : List ℕ) (h : IsPacket g d p) → 8 * length p ≡ length h.spelling + length h.fill
   size_of d p h = sym (length-bits p) ∙ ap length h.whole ∙ length-append h.spelling h.fill
 
-  front_of : (d : Data) (p r : List ℕ) (h : IsPacket g d p) → Front g (bits (p ++ r)) d (length h.spelling)
+  pub front_of : (d : Data) (p r : List ℕ) (h : IsPacket g d p) → Front g (bits (p ++ r)) d (length h.spelling)
   front_of d p r h =
       let cut = in_front d p r h in
       record {
@@ -48,14 +48,14 @@ module _ (g : Grammar) where
       }
 
   module _ (accepted : IsAccepted g) (some : 0 < (span g).least) (free : PacketsArePrefixFree) (lie : SpellingsLieBetween g (span g)) where
-    packet_parts : (d e : Data) (p q r s : List ℕ) → IsPacket g d p → IsPacket g e q → p ++ r ≡ q ++ s → (d ≡ e) × (p ≡ q)
+    pub packet_parts : (d e : Data) (p q r s : List ℕ) → IsPacket g d p → IsPacket g e q → p ++ r ≡ q ++ s → (d ≡ e) × (p ≡ q)
     packet_parts d e p q r s h k same =
         let cut : h.spelling ++ (h.fill ++ bits r) ≡ k.spelling ++ (k.fill ++ bits s) = sym (in_front d p r h) ∙ ap bits same ∙ in_front e q s k in
         let one = free g d e h.spelling k.spelling (h.fill ++ bits r) (k.fill ++ bits s) accepted h.spelled k.spelled cut in
         let long : length p ≡ length q = omega (arith, size_of d p h, size_of e q k, ap length one.0, h.few, k.few) in
         (one.1, same_front p q r s long same)
 
-    packet_some : (d : Data) (p : List ℕ) → IsPacket g d p → 0 < length p
+    pub packet_some : (d : Data) (p : List ℕ) → IsPacket g d p → 0 < length p
     packet_some d p h = omega (arith, some, (lie Any d h.spelling h.spelled).0, size_of d p h)
 
     pub one_recording : (values others : List Data) (bytes : List ℕ) → Recording g values bytes → Recording g others bytes → others ≡ values
@@ -72,7 +72,7 @@ module _ (g : Grammar) where
           let same : take s.reach (bits (rest ++ left)) ≡ take s.reach (bits rest) = ap (λ (t : List Bool). take s.reach t) (bits-append rest left) ∙ take-append-le s.reach (bits rest) (bits left) there in
           excluding g (bits (rest ++ left)) d n fault s.reach accepted f (resting g (bits rest) (bits (rest ++ left)) fault s.reach accepted.formed s.fails other same)
 
-      at_front : (rest left : List ℕ) (fault : Fault) (d : Data) (n : ℕ) → Front g (bits (rest ++ left)) d n → IsStuck g rest fault → (fault.reason ≡ short → left ≡ []) → ⊥
+      pub at_front : (rest left : List ℕ) (fault : Fault) (d : Data) (n : ℕ) → Front g (bits (rest ++ left)) d n → IsStuck g rest fault → (fault.reason ≡ short → left ≡ []) → ⊥
       at_front rest left fault d n f s ends = by_reason (short_or_not fault.reason)
         where
           by_reason : (fault.reason ≡ short) ⊎ (fault.reason ≢ short) → ⊥
