@@ -1,6 +1,8 @@
 -- Sources that are refused have no grammars, so a run doesn't do with them what a command does with grammars.
 use Rattle.std.proofs.Common.{◌≡◌, ℕ, zero, suc, ◌<◌, ◌≤◌, true, false, List, [], ◌∷◌, ◌++◌, length, Option, Some, None, refl, sym, ap, ◌∙◌, subst, arith, inl, inr}
 use Rattle.std.specs.Prelude.{Result, Ok, Err, ◌⊎◌, IsTrue, is_some, slice_get}
+use Rattle.acn_extreme_laws.specs.Single.{FirstUnsingle}
+use Rattle.acn_extreme_laws.specs.declared.why.Why.{Why}
 use Rattle.acn_files.specs.Contents.{Told, AreWhole, IsFirstTooLong}
 use Rattle.acn_front.specs.Grammars.{AreGrammarsOf, IsFirstTypeFault}
 use Rattle.acn_front.specs.Laws.{OneWorld, FaultyFilesHaveNoWorld, RefusedTypesHaveNoGrammars, OneGrammar}
@@ -15,6 +17,9 @@ use Rattle.acn_index.specs.World.{World}
 use Rattle.acn_index.specs.declared.sources.TypeId.{TypeId}
 use Rattle.acn_num.specs.declared.limits.TheConstants.{MOST_FILE_BYTES}
 use Rattle.acn_outside.specs.Whole.{IsWhole, IsTooLong}
+use Rattle.acn_route.specs.declared.count.RouteCount.{RouteCount}
+use Rattle.acn_route.specs.declared.route_fault.RouteFault.{RouteFault}
+use Rattle.acn_route.specs.declared.route_fault.RouteFault.TheVariants as routing
 use Rattle.acn_sources.specs.Laws.{AreAlike}
 use Rattle.acn_sources.specs.Names.{kind_of_name}
 use Rattle.acn_sources.specs.declared.kind.FileKind.{FileKind}
@@ -23,13 +28,13 @@ use Rattle.acn_stream.specs.declared.stream_fault.StreamFault.{StreamFault}
 use Rattle.acn_stream.specs.declared.stream_fault.StreamFault.TheVariants as stream
 use Rattle.acn_tree.specs.declared.tree.Tree.{Tree}
 use Rattle.acn_words.specs.Names.{TypeName}
-use Rattle.acn_words.specs.Requests.{Request, check, bounds, layout, encode, decode, compare, work, request_in, files_of, types_of, reads_input}
+use Rattle.acn_words.specs.Requests.{Request, check, bounds, layout, encode, decode, compare, extremes, route, explain, work, request_in, files_of, types_of, reads_input, asks_extremes}
 use Rattle.acn_run.specs.Asked.{AreFilesOf, AreRead, IsWorldOfNames, HasGrammars, with_type, types_named, types_for}
 use Rattle.acn_run.specs.Exactly.{AreTold, EndsRefused, IsRefused}
 use Rattle.acn_run.specs.Outside.{Outside}
 use Rattle.acn_run.specs.Refusals as refusals
 use Rattle.acn_run.specs.Refusals.{Refuses, IsFirstUnknown, HasTypeFault}
-use Rattle.acn_run.specs.Run.{code_of, IsText, Converts, Serves, printed, converted, refused, unconverted, unreadable, broken_off, unwritten, cut, stopped, halted, Ends, no_form, served}
+use Rattle.acn_run.specs.Run.{code_of, IsText, Converts, Routes, StreamEnds, Serves, printed, converted, routed, refused, unconverted, unrouted, unreadable, broken_off, route_broken, unwritten, cut, route_cut, stopped, halted, route_halted, Ends, no_form, served}
 use Rattle.acn_run.specs.declared.status.Status.{Status}
 use Rattle.acn_run.specs.declared.status.Status.TheVariants.{Done, Usage, NoGrammar, BadInput, FileFailed, InputFailed, OutputFailed, NoMemory}
 
@@ -106,7 +111,7 @@ all_named w (x ∷ front) of back types e none =
 none_unknown : (w : World) (names : List TypeName) (of : TypeName) (types : List TypeId) → IsFirstUnknown w names of → types_named w names ≡ Some types → ⊥
 none_unknown w names of types h e = all_named w h.front of h.back types (subst (λ (ns : List TypeName). types_named w ns ≡ Some types) h.parts e) h.unknown
 
-same_head : (x y : Tree) → x ∷ [] ≡ y ∷ [] → x ≡ y
+pub same_head : (x y : Tree) → x ∷ [] ≡ y ∷ [] → x ≡ y
 same_head x y e = cc
 
 some_types : (x y : List TypeId) → Some x ≡ Some y → x ≡ y
@@ -129,26 +134,30 @@ module _ (one : OneWorld) (none : FaultyFilesHaveNoWorld) (refuse : RefusedTypes
         let first = subst (λ (v : World). IsFirstTypeFault v h.types f) same h.first in
         refuse has.world h.types f trees first (subst (λ (xs : List TypeId). AreGrammarsOf has.world xs trees) types has.grammars)
 
+    -- something keeps the packets of the one type that has a grammar from being put together part by part
+    abbrev IsUnsingle : Type 0
+    IsUnsingle = IsTrue (asks_extremes request) × (tree : Tree) × (trees ≡ tree ∷ []) × (at : List ℕ) × (why : Why) × FirstUnsingle (grammar_of tree.root) at why
+
     -- the packets of the one type that has a grammar may be empty
     abbrev MayBeEmpty : Type 0
     MayBeEmpty = IsTrue (reads_input request) × (tree : Tree) × (trees ≡ tree ∷ []) × ((span (grammar_of tree.root)).least ≡ 0)
 
-    one_tree : (tree : Tree) → HasGrammars told request (tree ∷ []) → (span (grammar_of tree.root)).least ≡ 0 → (t : Tree) × (trees ≡ t ∷ []) × ((span (grammar_of t.root)).least ≡ 0)
-    one_tree tree h least =
+    pub one_tree : (tree : Tree) → HasGrammars told request (tree ∷ []) → (t : Tree) × (trees ≡ t ∷ []) × (grammar_of t.root ≡ grammar_of tree.root)
+    one_tree tree h =
         let same = one_world h.world has.world h.read has.read in
         let question = subst (λ (v : World). types_for v (types_of request) ≡ Some h.types) same h.question in
         let types = some_types has.types h.types (sym has.question ∙ question) in
         by h.types trees (subst (λ (v : World). AreGrammarsOf v h.types (tree ∷ [])) same h.grammars) (subst (λ (xs : List TypeId). AreGrammarsOf has.world xs trees) types has.grammars)
       where
-        by : (types : List TypeId) (ts : List Tree) → AreGrammarsOf has.world types (tree ∷ []) → AreGrammarsOf has.world types ts → (t : Tree) × (ts ≡ t ∷ []) × ((span (grammar_of t.root)).least ≡ 0)
+        by : (types : List TypeId) (ts : List Tree) → AreGrammarsOf has.world types (tree ∷ []) → AreGrammarsOf has.world types ts → (t : Tree) × (ts ≡ t ∷ []) × (grammar_of t.root ≡ grammar_of tree.root)
         by [] ts a b = absurd a
         by (of ∷ []) [] a b = absurd b
-        by (of ∷ []) (t ∷ []) a b = (t, refl, ap (λ (g : Grammar). (span g).least) (single has.world of tree t a.0 b.0).0 ∙ least)
+        by (of ∷ []) (t ∷ []) a b = (t, refl, (single has.world of tree t a.0 b.0).0)
         by (of ∷ []) (t ∷ u ∷ ts) a b = absurd b.1
         by (of ∷ x ∷ types) ts a b = absurd a.1
 
-    -- where grammars are there, only that packets may be empty refuses the sources
-    pub may_be_empty : (line : List ℕ) → Refuses told request line → MayBeEmpty
+    -- where grammars are there, only that packets may be empty, or can't be put together part by part, refuses the sources
+    pub may_be_empty : (line : List ℕ) → Refuses told request line → MayBeEmpty ⊎ IsUnsingle
     may_be_empty line (refusals.too_long k name stands first) = absurd (none_too_long told (files_of request) has.read.contents k first.name are has.read.read.whole first.stands first.long)
     may_be_empty line (refusals.file contents files name bytes f read fault n b) =
         let h = none files has.read.files (load_fault.File f) has.world (alike told (files_of request) contents has.read.contents files has.read.files are read has.read.read) fault has.read.world in
@@ -163,8 +172,11 @@ module _ (one : OneWorld) (none : FaultyFilesHaveNoWorld) (refuse : RefusedTypes
     may_be_empty line (refusals.unmade w r h) = let e = no_fault w (type_fault.Refused r) h in absurd (cc)
     may_be_empty line (refusals.undecodable w tree f h) = let e = no_fault w (type_fault.Undecodable tree f) h in absurd (cc)
     may_be_empty line (refusals.empty tree h reads least) =
-        let t = one_tree tree h least in
-        (reads, t.0, t.1, t.2)
+        let t = one_tree tree h in
+        inl (reads, t.0, t.1, ap (λ (g : Grammar). (span g).least) t.2 ∙ least)
+    may_be_empty line (refusals.unsingle tree at why h asks first) =
+        let t = one_tree tree h in
+        inr (asks, t.0, t.1, at, why, subst (λ (g : Grammar). FirstUnsingle g at why) (sym t.2) first)
 
 -- what is printed by a command doesn't come of one that reads the input
 no_text : (request : Request) (trees : List Tree) (text : List ℕ) → IsTrue (reads_input request) → IsText request trees text → ⊥
@@ -174,29 +186,93 @@ no_text (check names) trees text reads is = cc
 no_text (bounds names) trees text reads is = cc
 no_text (layout of names) trees text reads is = cc
 no_text (compare old new names) trees text reads is = cc
+no_text (extremes of names) trees text reads is = cc
+no_text (route routes names) trees text reads is = cc
+no_text (explain of names) trees text reads is = absurd is
 no_text (work of start count names) trees text reads is = cc
+
+-- a shortest and a longest packet are told of single grammars alone
+no_extremes : (request : Request) (trees : List Tree) (text : List ℕ) (tree : Tree) (at : List ℕ) (why : Why) → IsTrue (asks_extremes request) → trees ≡ tree ∷ [] → FirstUnsingle (grammar_of tree.root) at why → IsText request trees text → ⊥
+no_extremes (extremes of names) trees text tree at why asks same first is =
+    let h = subst (λ (ts : List Tree). IsText (extremes of names) ts text) same is in
+    h.single why first.number first.here first.stands first.shows
+no_extremes (check names) trees text tree at why asks same first is = cc
+no_extremes (bounds names) trees text tree at why asks same first is = cc
+no_extremes (layout of names) trees text tree at why asks same first is = cc
+no_extremes (encode of names) trees text tree at why asks same first is = cc
+no_extremes (decode of names) trees text tree at why asks same first is = cc
+no_extremes (compare old new names) trees text tree at why asks same first is = cc
+no_extremes (route routes names) trees text tree at why asks same first is = cc
+no_extremes (explain of names) trees text tree at why asks same first is = cc
+no_extremes (work of start count names) trees text tree at why asks same first is = cc
+
+module _ (b a : Outside) where
+  -- what asks for extremes converts no input
+  no_stream : (request : Request) (tree : Tree) (result : Result ℕ StreamFault) → IsTrue (asks_extremes request) → StreamEnds request tree b a result → ⊥
+  no_stream (extremes of names) tree result asks e = absurd e
+  no_stream (check names) tree result asks e = cc
+  no_stream (bounds names) tree result asks e = cc
+  no_stream (layout of names) tree result asks e = cc
+  no_stream (encode of names) tree result asks e = cc
+  no_stream (decode of names) tree result asks e = cc
+  no_stream (compare old new names) tree result asks e = cc
+  no_stream (route routes names) tree result asks e = cc
+  no_stream (explain of names) tree result asks e = cc
+  no_stream (work of start count names) tree result asks e = cc
+
+  -- neither that packets may be empty nor that they can't be put together refuses routes
+  no_routes : (request : Request) (trees : List Tree) (result : Result RouteCount RouteFault) → Routes request trees b a result → (reads_input request ≡ false) × (asks_extremes request ≡ false)
+  no_routes (route routes names) trees result e = (refl, refl)
+  no_routes (check names) trees result e = absurd e
+  no_routes (bounds names) trees result e = absurd e
+  no_routes (layout of names) trees result e = absurd e
+  no_routes (encode of names) trees result e = absurd e
+  no_routes (decode of names) trees result e = absurd e
+  no_routes (compare old new names) trees result e = absurd e
+  no_routes (extremes of names) trees result e = absurd e
+  no_routes (explain of names) trees result e = absurd e
+  no_routes (work of start count names) trees result e = absurd e
 
 module _ (one : OneWorld) (none : FaultyFilesHaveNoWorld) (refuse : RefusedTypesHaveNoGrammars) (single : OneGrammar) (b a : Outside) where
   module _ (request : Request) (are : AreTold b.files (files_of request)) (line : List ℕ) (why : Refuses b.files request line) where
     not_converted : (tree : Tree) (result : Result ℕ StreamFault) → HasGrammars b.files request (tree ∷ []) → Converts request tree b a result → ⊥
     not_converted tree result has c =
-        let e = may_be_empty one none refuse single b.files request are (tree ∷ []) has line why in
-        let same = same_head tree e.1 e.2 in
-        let least = subst (λ (t : Tree). (span (grammar_of t.root)).least ≡ 0) (sym same) e.3 in
-        omega (arith, least, c.some)
+        by (may_be_empty one none refuse single b.files request are (tree ∷ []) has line why)
+      where
+        by : MayBeEmpty one none refuse single b.files request are (tree ∷ []) has ⊎ IsUnsingle one none refuse single b.files request are (tree ∷ []) has → ⊥
+        by (inl e) =
+            let same = same_head tree e.1 e.2 in
+            let least = subst (λ (t : Tree). (span (grammar_of t.root)).least ≡ 0) (sym same) e.3 in
+            omega (arith, least, c.some)
+        by (inr e) = no_stream b a request tree result e.0 c.ends
 
     not_printed : (trees : List Tree) (text : List ℕ) → HasGrammars b.files request trees → IsText request trees text → ⊥
-    not_printed trees text has is = no_text request trees text (may_be_empty one none refuse single b.files request are trees has line why).0 is
+    not_printed trees text has is = by (may_be_empty one none refuse single b.files request are trees has line why)
+      where
+        by : MayBeEmpty one none refuse single b.files request are trees has ⊎ IsUnsingle one none refuse single b.files request are trees has → ⊥
+        by (inl e) = no_text request trees text e.0 is
+        by (inr e) = no_extremes request trees text e.1 e.3 e.4 e.0 e.2 e.5 is
+
+    not_routed : (trees : List Tree) (result : Result RouteCount RouteFault) → HasGrammars b.files request trees → Routes request trees b a result → ⊥
+    not_routed trees result has r = by (may_be_empty one none refuse single b.files request are trees has line why)
+      where
+        by : MayBeEmpty one none refuse single b.files request are trees has ⊎ IsUnsingle one none refuse single b.files request are trees has → ⊥
+        by (inl e) = let reads = (no_routes b a request trees result r).0 in let asked = e.0 in cc
+        by (inr e) = let asks = (no_routes b a request trees result r).1 in let asked = e.0 in cc
 
     ends_refused : (status : Status) → Serves b a request status → EndsRefused (code_of status)
     ends_refused Done (printed trees text has is unread gains silent) = absurd (not_printed trees text has is)
     ends_refused Done (converted tree count has c silent) = absurd (not_converted tree (Ok count) has c)
+    ends_refused Done (routed trees counts has e silent) = absurd (not_routed trees (Ok counts) has e)
     ends_refused NoGrammar s = inl refl
     ends_refused BadInput (unconverted tree fault has of c says) = absurd (not_converted tree (Err fault) has c)
+    ends_refused BadInput (unrouted trees fault has of e says) = absurd (not_routed trees (Err fault) has e)
     ends_refused FileFailed s = inr (inl refl)
     ends_refused InputFailed (broken_off tree has c rose says) = absurd (not_converted tree (Err stream.InputFault) has c)
+    ends_refused InputFailed (route_broken trees has e rose says) = absurd (not_routed trees (Err routing.InputFault) has e)
     ends_refused OutputFailed (unwritten trees text has is unread gains rose says) = absurd (not_printed trees text has is)
     ends_refused OutputFailed (cut tree has c rose says) = absurd (not_converted tree (Err stream.OutputFault) has c)
+    ends_refused OutputFailed (route_cut trees has e rose says) = absurd (not_routed trees (Err routing.OutputFault) has e)
     ends_refused NoMemory s = inr (inr refl)
     ends_refused Usage s = elim s [ ]
 

@@ -8,6 +8,12 @@ mod Printing
 mod Ended
 mod Begun
 mod Completing
+mod Listing
 mod Named
+mod Packets
 mod Excluded
+mod Stopping
+mod Lining
+mod Telling
 mod Unfailed
+mod Answering

@@ -12,6 +12,8 @@ use Rattle.acn_grammar.specs.declared.check_fault.CheckFault.{CheckFault}
 use Rattle.acn_index.specs.Lookup.{type_in}
 use Rattle.acn_index.specs.World.{World}
 use Rattle.acn_index.specs.declared.sources.TypeId.{TypeId}
+use Rattle.acn_extreme_laws.specs.Single.{FirstUnsingle}
+use Rattle.acn_extreme_laws.specs.declared.why.Why.{Why}
 use Rattle.acn_report.specs.CheckTexts.{check_line}
 use Rattle.acn_report.specs.Texts.{empty_line}
 use Rattle.acn_source_report.specs.Texts.{long_file_line, file_line, name_line, name_line_with, refused_line}
@@ -20,8 +22,9 @@ use Rattle.acn_sources.specs.declared.sources.File.{File}
 use Rattle.acn_survey.specs.declared.reason.Refused.{Refused}
 use Rattle.acn_tree.specs.declared.tree.Tree.{Tree}
 use Rattle.acn_words.specs.Names.{TypeName}
-use Rattle.acn_words.specs.Requests.{Request, files_of, types_of, reads_input}
+use Rattle.acn_words.specs.Requests.{Request, files_of, types_of, reads_input, asks_extremes}
 use Rattle.acn_world.specs.declared.fault.NameFault.{NameFault}
+use Rattle.acn_run.specs.Extremes.{unsingle_line}
 use Rattle.acn_run.specs.Asked.{AreRead, IsWorldOfNames, types_named, types_for, HasGrammars}
 
 -- where no type has this name
@@ -58,5 +61,7 @@ module _ (told : Told) (request : Request) where
     unmade : (w : World) (r : Refused) → HasTypeFault told request w (type_fault.Refused r) → Refuses (refused_line r)
     -- packets of a type can't be decoded
     undecodable : (w : World) (tree : Tree) (f : CheckFault) → HasTypeFault told request w (type_fault.Undecodable tree f) → Refuses (check_line tree f)
+    -- something keeps the packets of a type from being put together part by part
+    unsingle : (tree : Tree) (at : List ℕ) (why : Why) → HasGrammars told request (tree ∷ []) → IsTrue (asks_extremes request) → FirstUnsingle (grammar_of tree.root) at why → Refuses (unsingle_line tree at why)
     -- nothing says how many packets there are
     empty : (tree : Tree) → HasGrammars told request (tree ∷ []) → IsTrue (reads_input request) → (span (grammar_of tree.root)).least ≡ 0 → Refuses (empty_line tree)

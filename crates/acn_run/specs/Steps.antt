@@ -1,5 +1,8 @@
 -- What the calls inside say of a part of a run. (This program's own.)
-use Rattle.std.specs.Prelude.{◌≡◌, ◌<◌, ℕ, List, Option, Some, slice_get, Result, Ok, Err}
+use Rattle.std.specs.Prelude.{◌≡◌, ◌<◌, ℕ, List, Option, Some, None, slice_get, Result, Ok, Err}
+use Rattle.std.specs.List.{flat_map}
+use Rattle.acn_extreme_laws.specs.Single.{FirstUnsingle}
+use Rattle.acn_extreme_laws.specs.declared.why.Why.{Why}
 use Rattle.acn_files.specs.Contents.{Told, AreWhole}
 use Rattle.acn_files.specs.declared.whole.FilesFault.{FilesFault}
 use Rattle.acn_front.specs.Grammars.{AreGrammarsOf}
@@ -30,10 +33,20 @@ use Rattle.acn_words.specs.Requests.{Request, files_of, types_of}
 use Rattle.acn_work.specs.Line.{summary_line}
 use Rattle.acn_work.specs.Summaries.{IsSummary}
 use Rattle.acn_work.specs.declared.summary.Summary.{Summary}
+use Rattle.acn_run.specs.Extremes.{IsExtremesText, unsingle_line}
+use Rattle.acn_run.specs.Roots.{root_line}
+use Rattle.acn_run.specs.declared.roots.RootLine.{RootLine}
 use Rattle.acn_run.specs.Asked.{AreRead, AreFilesOf, IsWorldOfNames, types_for}
 use Rattle.acn_run.specs.Lines.{output_failed_line, stream_line}
 use Rattle.acn_run.specs.Outside.{seen, Says, IsSilent}
+use Rattle.acn_route.specs.Listed.{Listed}
+use Rattle.acn_route.specs.Routing.{RouteEnds}
+use Rattle.acn_route.specs.declared.count.RouteCount.{RouteCount}
+use Rattle.acn_route.specs.declared.route_fault.RouteFault.{RouteFault}
+use Rattle.acn_route.specs.declared.route_fault.RouteFault.TheVariants as routing
+use Rattle.acn_run.specs.Routed.{route_line}
 use Rattle.acn_run.specs.Run.{Serves}
+use Rattle.acn_run.specs.declared.streams.TheConstants.{MOST_INPUT_BYTES}
 use Rattle.acn_run.specs.declared.status.Status.{Status}
 use Rattle.acn_run.specs.declared.status.Status.TheVariants.{Done, NoGrammar, BadInput, FileFailed, InputFailed, OutputFailed, NoMemory}
 
@@ -51,6 +64,12 @@ pub record Answers (w : World) (named : Option (List TypeName)) (trees : List Tr
   pub types : List TypeId
   pub question : types_for w named ≡ Some types
   pub grammars : AreGrammarsOf w types trees
+
+-- these are the lines of all roots
+pub record TellsRoots (w : World) (line : RootLine) (text : List ℕ) : Type 0 where
+  pub trees : List Tree
+  pub answers : Answers w None trees
+  pub is : text ≡ flat_map (root_line line) trees
 
 -- so it does for each request with these files, where they were read whole
 abbrev pub EndsForFiles : (names contents : List (List ℕ)) → List File → (err err' : Output) → Status → Type 0
@@ -134,6 +153,30 @@ pub data EndsStream (ends : (i i' o o' : Option (List ℕ)) → Result ℕ Strea
   unplanned : i' ≡ i → n' ≡ n → IsSilent o o' → Says no_memory_line err err' → EndsStream ends tree i i' n n' o o' err err' NoMemory
   ended : (result : Result ℕ StreamFault) (status : Status) → 0 < (span (grammar_of tree.root)).least → ends i i' o.0 o'.0 result → TellsStream tree result err err' status → WasBegun result → FailedSo result n n' o.1 o'.1 → EndsStream ends tree i i' n n' o o' err err' status
 
+-- the status with which space packets come that weren't routed to their end
+abbrev pub status_of_routes : RouteFault → Status
+status_of_routes (routing.Cut number left) = BadInput
+status_of_routes routing.InputTooLong = BadInput
+status_of_routes routing.InputFault = InputFailed
+status_of_routes routing.OutputFault = OutputFailed
+status_of_routes routing.NoMemory = NoMemory
+
+-- space packets were routed to their end, or it is said why not
+abbrev pub TellsRoutes : Result RouteCount RouteFault → (err err' : Output) → Status → Type 0
+TellsRoutes (Ok counts) err err' status = (status ≡ Done) × IsSilent err err'
+TellsRoutes (Err fault) err err' status = (status ≡ status_of_routes fault) × Says (route_line fault) err err'
+
+-- where a device failed its count rose
+abbrev pub RoutesFailedSo : Result RouteCount RouteFault → (input input' output output' : ℕ) → Type 0
+RoutesFailedSo (Err routing.InputFault) n n' m m' = Rose n n'
+RoutesFailedSo (Err routing.OutputFault) n n' m m' = Rose m m'
+RoutesFailedSo result n n' m m' = Unit {0}
+
+-- Routing ended so: it was not begun, since memory ran out; or it ended in this way, which the status and what is said fit, and where a device failed its count rose.
+pub data EndsRoutes (routes : List Listed) (i i' : Option (List ℕ)) (n n' : ℕ) (o o' err err' : Output) : Status → Type 0 where
+  unready : i' ≡ i → n' ≡ n → IsSilent o o' → Says no_memory_line err err' → EndsRoutes routes i i' n n' o o' err err' NoMemory
+  begun : (result : Result RouteCount RouteFault) (status : Status) → RouteEnds routes MOST_INPUT_BYTES i i' o.0 o'.0 result → TellsRoutes result err err' status → RoutesFailedSo result n n' o.1 o'.1 → EndsRoutes routes i i' n n' o o' err err' status
+
 -- what a command does that doesn't read the input, where the files say this
 abbrev pub AnswersText : Request → World → (o o' err err' : Output) → Status → Type 0
 AnswersText request w o o' err err' status =
@@ -149,6 +192,11 @@ pub data TextEnds (is : List ℕ → Type 0) (o o' err err' : Output) : Status �
   told : (text : List ℕ) → is text → Gains o.0 o'.0 text → IsSilent err err' → TextEnds is o o' err err' Done
   untold : (text : List ℕ) → is text → GainsFront o.0 o'.0 text → Rose o.1 o'.1 → Says output_failed_line err err' → TextEnds is o o' err err' OutputFailed
   stopped : IsSilent o o' → Says no_memory_line err err' → TextEnds is o o' err err' NoMemory
+
+-- How the shortest and the longest packet are told: as a text is, or packets can't be put together part by part.
+pub data ExtremesEnd (tree : Tree) (o o' err err' : Output) : Status → Type 0 where
+  in_text : (status : Status) → TextEnds (IsExtremesText tree) o o' err err' status → ExtremesEnd tree o o' err err' status
+  not_single : (at : List ℕ) (why : Why) → FirstUnsingle (grammar_of tree.root) at why → IsSilent o o' → Says (unsingle_line tree at why) err err' → ExtremesEnd tree o o' err err' NoGrammar
 
 -- the line of what came of the values that are made
 abbrev pub IsSummaryLine : Grammar → (start count : ℕ) → List ℕ → Type 0

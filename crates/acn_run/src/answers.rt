@@ -12,16 +12,20 @@ ghost use Rattle.acn_words.specs.View.{type_view, request_view};
 ghost use Rattle.acn_world.specs.Viewed.{world_view};
 
 use crate::comparing::compare_types;
-use crate::grammars::{named_grammar, root_grammars};
+use crate::extremes::type_extremes;
+use crate::grammars::named_grammar;
 use crate::reports::no_memory;
+use crate::roots::{RootLine, root_lines};
+use crate::routing::route;
 use crate::status::Status;
 use crate::streams;
-use crate::texts::{behind_text, put_each_bounds, put_each_ok};
+use crate::texts::behind_text;
 use acn_check::Checked;
 use acn_layout::put_layout;
 use acn_num::NoMemory;
 use acn_outside::{Sink, Source};
 use acn_plan::compile;
+use acn_print::{Piece, put_piece};
 use acn_words::{Request, TypeName};
 use acn_work::{Summary, put_summary, work as work_by};
 use acn_world::World;
@@ -31,8 +35,8 @@ fn check<O: Sink, E: Sink>(alloc: Global, world: &World, out: &mut O, err: &mut 
     requires { IsOfSources (world_view world.now) }
     ensures { (names : List (List ℕ)) → spec.AnswersText (requests.check names) (world_view world.now) (O.taken out.old, O.faults out.old) (O.taken out.new, O.faults out.new) (E.taken err.old, E.faults err.old) (E.taken err.new, E.faults err.new) result }
 {
-    match root_grammars(alloc, world, err) {
-        Ok(all) => behind_text(put_each_ok(&all, out), err),
+    match root_lines(alloc, world, RootLine::Decodable, err) {
+        Ok(text) => behind_text(put_piece(out, &Piece::Name(&text)), err),
         Err(status) => status,
     }
 }
@@ -41,8 +45,8 @@ fn bounds<O: Sink, E: Sink>(alloc: Global, world: &World, out: &mut O, err: &mut
     requires { IsOfSources (world_view world.now) }
     ensures { (names : List (List ℕ)) → spec.AnswersText (requests.bounds names) (world_view world.now) (O.taken out.old, O.faults out.old) (O.taken out.new, O.faults out.new) (E.taken err.old, E.faults err.old) (E.taken err.new, E.faults err.new) result }
 {
-    match root_grammars(alloc, world, err) {
-        Ok(all) => behind_text(put_each_bounds(&all, out), err),
+    match root_lines(alloc, world, RootLine::Bounds, err) {
+        Ok(text) => behind_text(put_piece(out, &Piece::Name(&text)), err),
         Err(status) => status,
     }
 }
@@ -150,6 +154,23 @@ fn decode<S: Source, O: Sink, E: Sink>(
     }
 }
 
+fn explain<S: Source, O: Sink, E: Sink>(
+    alloc: Global,
+    world: &World,
+    of: &TypeName<'_>,
+    input: &mut S,
+    out: &mut O,
+    err: &mut E,
+) -> Status
+    requires { IsOfSources (world_view world.now) }
+    ensures { (names : List (List ℕ)) → spec.AnswersStream (requests.explain (type_view of.now) names) (world_view world.now) (S.rest input.old) (S.rest input.new) (S.faults input.old) (S.faults input.new) (O.taken out.old, O.faults out.old) (O.taken out.new, O.faults out.new) (E.taken err.old, E.faults err.old) (E.taken err.new, E.faults err.new) result }
+{
+    match named_grammar(alloc, world, of, err) {
+        Ok(checked) => streams::explain(alloc, &checked, input, out, err),
+        Err(status) => status,
+    }
+}
+
 /// Does what the words ask for, with the world of their files.
 pub fn answer<S: Source, O: Sink, E: Sink>(
     alloc: Global,
@@ -170,6 +191,9 @@ pub fn answer<S: Source, O: Sink, E: Sink>(
         Request::Encode { of, .. } => encode(alloc, world, of, input, out, err),
         Request::Decode { of, .. } => decode(alloc, world, of, input, out, err),
         Request::Compare { old, new, .. } => compare_types(alloc, world, old, new, out, err),
+        Request::Extremes { of, .. } => type_extremes(alloc, world, of, out, err),
+        Request::Route { routes, .. } => route(alloc, world, routes, input, out, err),
+        Request::Explain { of, .. } => explain(alloc, world, of, input, out, err),
         Request::Work {
             of,
             start,

@@ -24,8 +24,8 @@ use acn_words::TypeName;
 use acn_world::World;
 use std::alloc::Global;
 
-// A type has no grammar.
-fn type_refused<E: Sink>(fault: &TypeFault, err: &mut E) -> Status
+/// Says why a type has no grammar.
+pub fn type_refused<E: Sink>(fault: &TypeFault, err: &mut E) -> Status
     ensures { spec.TellsTypeFault fault.now (E.taken err.old, E.faults err.old) (E.taken err.new, E.faults err.new) result }
 {
     let _ = match fault {
@@ -34,26 +34,6 @@ fn type_refused<E: Sink>(fault: &TypeFault, err: &mut E) -> Status
         TypeFault::NoMemory => return no_memory(err),
     };
     Status::NoGrammar
-}
-
-/// The grammars of all roots. Where one has none, the line that says why was written to the output for errors.
-pub fn root_grammars<E: Sink>(
-    alloc: Global,
-    world: &World,
-    err: &mut E,
-) -> Result<Vec<Checked>, Status>
-    requires { IsOfSources (world_view world.now) }
-    ensures grammars { IfOk result (λ all. spec.Answers (world_view world.now) None (map (λ c. c.tree) all.items)) }
-    ensures silent { OnOk result (IsSilent (E.taken err.old, E.faults err.old) (E.taken err.new, E.faults err.new)) }
-    ensures fails { IfErr result (spec.EndsForWorld (world_view world.now) None (E.taken err.old, E.faults err.old) (E.taken err.new, E.faults err.new)) }
-{
-    let Ok(roots) = world.roots(alloc) else {
-        return Err(no_memory(err));
-    };
-    match grammars_of_types(alloc, world, &roots) {
-        Ok(all) => Ok(all),
-        Err(fault) => Err(type_refused(&fault, err)),
-    }
 }
 
 // No type has this name.

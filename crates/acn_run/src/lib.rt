@@ -3,16 +3,19 @@
 
 mod answers;
 mod comparing;
+mod extremes;
 mod grammars;
 mod laws;
 mod reports;
+mod roots;
+mod routing;
 mod sources;
 mod status;
 mod streams;
 mod texts;
 mod top_call;
 
-pub use laws::each_grammar_keeps_its_promise;
+pub use laws::{each_grammar_keeps_its_promise, one_answer};
 pub use status::Status;
 pub use streams::MOST_INPUT_BYTES;
 pub use top_call::run;

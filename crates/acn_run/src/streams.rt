@@ -3,6 +3,7 @@
 ghost use Rattle.std.specs.Prelude.{◌≡◌, ◌∷◌, [], map};
 ghost use Rattle.acn_grammar.specs.ItemsNamed.{ItemsNamed};
 ghost use Rattle.acn_grammar.specs.View.{grammar_of};
+ghost use Rattle.acn_explain.specs.Explaining.{ExplainEnds};
 ghost use Rattle.acn_run.specs.Steps as spec;
 ghost use Rattle.acn_stream.specs.Decoding.{DecodeEnds};
 ghost use Rattle.acn_stream.specs.Encoding.{EncodeEnds};
@@ -11,6 +12,7 @@ use crate::reports::{empty_packet, no_memory, stream_failed};
 use crate::status::Status;
 use acn_bounds::bounds;
 use acn_check::Checked;
+use acn_explain::explain_all;
 use acn_outside::{Sink, Source};
 use acn_plan::compile;
 use acn_stream::{StreamFault, decode_all, encode_all};
@@ -47,6 +49,27 @@ pub fn decode<S: Source, O: Sink, E: Sink>(
         return no_memory(err);
     };
     let ended = decode_all(alloc, checked, &plan, input, out, MOST_INPUT_BYTES);
+    behind_stream(checked, ended, err)
+}
+
+/// Packets of the input become lines that say what each bit is.
+pub fn explain<S: Source, O: Sink, E: Sink>(
+    alloc: Global,
+    checked: &Checked,
+    input: &mut S,
+    out: &mut O,
+    err: &mut E,
+) -> Status
+    requires named { ItemsNamed (grammar_of checked.now.tree.root) }
+    ensures { spec.EndsStream (ExplainEnds checked.now.tree MOST_INPUT_BYTES) checked.now.tree (S.rest input.old) (S.rest input.new) (S.faults input.old) (S.faults input.new) (O.taken out.old, O.faults out.old) (O.taken out.new, O.faults out.new) (E.taken err.old, E.faults err.old) (E.taken err.new, E.faults err.new) result }
+{
+    if bounds(checked).least == 0 {
+        return empty_packet(checked.tree(), err);
+    }
+    let Ok(plan) = compile(alloc, checked) else {
+        return no_memory(err);
+    };
+    let ended = explain_all(alloc, checked, &plan, input, out, MOST_INPUT_BYTES);
     behind_stream(checked, ended, err)
 }
 

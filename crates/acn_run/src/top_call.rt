@@ -8,6 +8,7 @@ ghost use Rattle.acn_run.specs.Exactly.{EndsUnfailed, IsRefused};
 ghost use Rattle.acn_run.specs.Headline.{KeepsItsPromise};
 ghost use Rattle.acn_run.specs.Outside.{seen};
 ghost use Rattle.acn_run.specs.Run as spec;
+ghost use Rattle.acn_run.specs.Stuck.{IsRefusedRun, IsStuckRun};
 ghost use Rattle.acn_grammar.specs.View.{grammar_of};
 ghost use Rattle.acn_tree.specs.declared.tree.Tree.{Tree};
 ghost use Rattle.acn_words.specs.Files.{is_file};
@@ -23,7 +24,11 @@ use acn_front::{
     faulty_files_have_no_world, one_grammar, one_world, refused_types_have_no_grammars,
 };
 use acn_outside::{Files, Sink, Source};
-use acn_stream_laws::{lines_are_encoded, recordings_are_decoded};
+use acn_route::one_space;
+use acn_stream_laws::{
+    lines_are_encoded, recordings_are_decoded, recordings_are_shown, refused_lines_are_named,
+    stuck_recordings_are_refused,
+};
 use acn_words::{Request as Asked, read_words};
 use std::alloc::Global;
 
@@ -66,7 +71,8 @@ fn run_words<F: Files, S: Source, O: Sink, E: Sink>(
 /// The top call: does what the words behind the program's name ask for, and answers the status with which the program ends.
 ///
 /// Where nothing is refused and no device fails, that is 0, and the whole was written, or 7, where memory ran out. Where the sources
-/// are refused it is 2, unless a file can't be read (4) or memory runs out. 4, 5 and 6 come only where a count of faults rose, so never
+/// are refused it is 2, unless a file can't be read (4) or memory runs out; where a packet or a line of the input is refused it is 3,
+/// with the number of the first one and the reason. 4, 5 and 6 come only where a count of faults rose, so never
 /// over devices that can't fail.
 pub fn run<F: Files, S: Source, O: Sink, E: Sink>(
     alloc: Global,
@@ -78,6 +84,8 @@ pub fn run<F: Files, S: Source, O: Sink, E: Sink>(
 ) -> u8
     ensures ends { spec.EndsWith (seen (F.contents files.old) (F.faults files.old) (S.rest input.old) (S.faults input.old) (O.taken out.old, O.faults out.old) (E.taken err.old, E.faults err.old)) (seen (F.contents files.old) (F.faults files.new) (S.rest input.new) (S.faults input.new) (O.taken out.new, O.faults out.new) (E.taken err.new, E.faults err.new)) (map string_bytes words.now.items) result }
     ensures complete { (request : Request) → request_in (map string_bytes words.now.items) ≡ Some request → IsComplete (seen (F.contents files.old) (F.faults files.old) (S.rest input.old) (S.faults input.old) (O.taken out.old, O.faults out.old) (E.taken err.old, E.faults err.old)) (seen (F.contents files.old) (F.faults files.new) (S.rest input.new) (S.faults input.new) (O.taken out.new, O.faults out.new) (E.taken err.new, E.faults err.new)) request result }
+    ensures stuck { (request : Request) → request_in (map string_bytes words.now.items) ≡ Some request → IsStuckRun (seen (F.contents files.old) (F.faults files.old) (S.rest input.old) (S.faults input.old) (O.taken out.old, O.faults out.old) (E.taken err.old, E.faults err.old)) (seen (F.contents files.old) (F.faults files.new) (S.rest input.new) (S.faults input.new) (O.taken out.new, O.faults out.new) (E.taken err.new, E.faults err.new)) request result }
+    ensures lines { (request : Request) → request_in (map string_bytes words.now.items) ≡ Some request → IsRefusedRun (seen (F.contents files.old) (F.faults files.old) (S.rest input.old) (S.faults input.old) (O.taken out.old, O.faults out.old) (E.taken err.old, E.faults err.old)) (seen (F.contents files.old) (F.faults files.new) (S.rest input.new) (S.faults input.new) (O.taken out.new, O.faults out.new) (E.taken err.new, E.faults err.new)) request result }
     ensures refused { (request : Request) → request_in (map string_bytes words.now.items) ≡ Some request → IsRefused (F.contents files.old) request result }
     ensures unfailed { NothingFailed (seen (F.contents files.old) (F.faults files.old) (S.rest input.old) (S.faults input.old) (O.taken out.old, O.faults out.old) (E.taken err.old, E.faults err.old)) (seen (F.contents files.old) (F.faults files.new) (S.rest input.new) (S.faults input.new) (O.taken out.new, O.faults out.new) (E.taken err.new, E.faults err.new)) → EndsUnfailed result }
     ensures promise { (request : Request) (trees : List Tree) → HasGrammars (F.contents files.old) request trees → AllByRecursion (λ tree. KeepsItsPromise (grammar_of tree.root)) trees }
@@ -86,7 +94,11 @@ pub fn run<F: Files, S: Source, O: Sink, E: Sink>(
 {
     each_grammar_keeps_its_promise();
     recordings_are_decoded();
+    recordings_are_shown();
+    stuck_recordings_are_refused();
+    refused_lines_are_named();
     lines_are_encoded();
+    one_space();
     one_world();
     faulty_files_have_no_world();
     refused_types_have_no_grammars();

@@ -1,14 +1,15 @@
 -- Something is wrong with words exactly where they have no form.
-use Rattle.std.proofs.Common.{◌≡◌, ℕ, Bool, true, false, not, ◌&&◌, ◌||◌, nat_le, List, [], ◌∷◌, length, Option, Some, None, is_some, option_map, if◌then◌else◌, refl, codes}
+use Rattle.std.proofs.Common.{◌≡◌, ℕ, suc, Bool, true, false, not, ◌&&◌, ◌||◌, nat_le, List, [], ◌∷◌, length, map, take, drop, Option, Some, None, is_some, option_map, if◌then◌else◌, refl, codes}
 use Rattle.std.specs.List.{list_all, list_any}
 use Rattle.std.specs.Str.{bytes_eq}
 use Rattle.acn_lex.specs.Number.{number_in}
-use Rattle.acn_words.specs.Faults.{Fault, type_word, no_modules, too_many_files, stranger, unless_modules, files_fault, type_fault, types_fault, unless, work_fault, fault_in}
+use Rattle.acn_words.specs.Faults.{Fault, type_word, no_modules, too_many_files, stranger, unless_modules, files_fault, type_fault, types_fault, unless, work_fault, fault_in, repeated, unless_repeated, routes_fault, route_word}
 use Rattle.acn_words.specs.Faults as fault
 use Rattle.acn_words.specs.Files.{is_file, has_modules, are_files}
 use Rattle.acn_words.specs.Names.{TypeName, named, is_type}
-use Rattle.acn_words.specs.Requests.{Request, with_files, with_type, with_types, count_in, made, with_work, request_in}
+use Rattle.acn_words.specs.Requests.{Request, with_files, with_type, with_types, count_in, made, with_work, with_routes, request_in}
 use Rattle.acn_words.specs.Requests as request
+use Rattle.acn_words.specs.Routes.{is_route, route_of, apid_of, has_apid, apids_differ, count_routes}
 use Rattle.acn_words.specs.declared.files.TheConstants.{MOST_FILES}
 
 one_stops : (b all : Bool) (name : List ℕ) (behind : Option (List ℕ)) → is_some behind ≡ not all → is_some (if b then behind else Some name) ≡ not (b && all)
@@ -94,6 +95,50 @@ work_told (of ∷ []) = always (is_type of) fault.no_start (type_word of)
 work_told (of ∷ first ∷ []) = always_two (is_type of) (number_in first) (fault.start first) fault.no_count (type_word of)
 work_told (of ∷ first ∷ second ∷ names) = of_work of first second names (is_type of) (are_files names) (number_in first) (count_in second) (files_told names)
 
+differ_or : (b d : Bool) (word : List ℕ) (behind : Option (List ℕ)) → is_some behind ≡ not d → is_some (if b then Some word else behind) ≡ not (not b && d)
+differ_or true d word behind h = refl
+differ_or false d word behind h = h
+
+repeats : (words : List (List ℕ)) → is_some (repeated words) ≡ not (apids_differ words)
+repeats [] = refl
+repeats (word ∷ words) = differ_or (has_apid (apid_of word) words) (apids_differ words) word (repeated words) (repeats words)
+
+both_true : (a b : Bool) → a ≡ true → b ≡ true → (a && b) ≡ true
+both_true a b p q = rw (p, q) refl
+
+fronts_by : (b : Bool) (word : List ℕ) (words : List (List ℕ)) → is_route word ≡ b → list_all is_route (take (count_routes words) words) ≡ true → list_all is_route (take (if b then suc (count_routes words) else 0) (word ∷ words)) ≡ true
+fronts_by true word words h rest = both_true (is_route word) (list_all is_route (take (count_routes words) words)) h rest
+fronts_by false word words h rest = refl
+
+fronts : (words : List (List ℕ)) → list_all is_route (take (count_routes words) words) ≡ true
+fronts [] = refl
+fronts (word ∷ words) = fronts_by (is_route word) word words refl (fronts words)
+
+of_routes : (o : Option (List ℕ)) (d f : Bool) (names : List (List ℕ)) (asked : Request) → is_some o ≡ not d → is_some (files_fault names) ≡ not f
+    → is_some (unless_repeated o names) ≡ not (is_some (if d && f then Some asked else None))
+of_routes (Some word) true f names asked h k = cc
+of_routes (Some word) false f names asked h k = refl
+of_routes None true true names asked h k = k
+of_routes None true false names asked h k = k
+of_routes None false f names asked h k = cc
+
+of_front : (one all : Bool) (front names : List (List ℕ)) (asked : Request) → one ≡ true → all ≡ true
+    → is_some (unless_repeated (repeated front) names) ≡ not (is_some (if ((one && all) && apids_differ front) && are_files names then Some asked else None))
+of_front one all front names asked p q = rw (p, q) (of_routes (repeated front) (apids_differ front) (are_files names) names asked (repeats front) (files_told names))
+
+first_told : (b : Bool) (word : List ℕ) (words : List (List ℕ)) → is_route word ≡ b
+    → is_some (if b then unless_repeated (repeated (take (if b then suc (count_routes words) else 0) (word ∷ words))) (drop (if b then suc (count_routes words) else 0) (word ∷ words)) else Some (route_word word))
+    ≡ not (is_some (request.routed (take (if b then suc (count_routes words) else 0) (word ∷ words)) (drop (if b then suc (count_routes words) else 0) (word ∷ words))))
+first_told true word words h =
+    let front = word ∷ take (count_routes words) words in
+    let names = drop (count_routes words) words in
+    of_front (is_route word) (list_all is_route (take (count_routes words) words)) front names (request.route (map route_of front) names) h (fronts words)
+first_told false word words h = refl
+
+routes_told : (rest : List (List ℕ)) → is_some (routes_fault rest) ≡ not (is_some (with_routes rest))
+routes_told [] = refl
+routes_told (word ∷ words) = first_told (is_route word) word words refl
+
 pick : (b : Bool) (x y : Option Fault) (u v : Option Request) → is_some x ≡ not (is_some u) → is_some y ≡ not (is_some v) → is_some (if b then x else y) ≡ not (is_some (if b then u else v))
 pick true x y u v h k = h
 pick false x y u v h k = k
@@ -107,4 +152,7 @@ told (name ∷ rest) =
     (pick (bytes_eq name (codes "encode")) _ _ _ _ (with_type_told request.encode rest)
     (pick (bytes_eq name (codes "decode")) _ _ _ _ (with_type_told request.decode rest)
     (pick (bytes_eq name (codes "compare")) _ _ _ _ (with_types_told rest)
-    (pick (bytes_eq name (codes "work")) _ _ _ _ (work_told rest) refl))))))
+    (pick (bytes_eq name (codes "extremes")) _ _ _ _ (with_type_told request.extremes rest)
+    (pick (bytes_eq name (codes "route")) _ _ _ _ (routes_told rest)
+    (pick (bytes_eq name (codes "explain")) _ _ _ _ (with_type_told request.explain rest)
+    (pick (bytes_eq name (codes "work")) _ _ _ _ (work_told rest) refl)))))))))

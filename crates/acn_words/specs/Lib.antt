@@ -1,5 +1,6 @@
 pub mod Names
 pub mod Files
+pub mod Routes
 pub mod Requests
 pub mod Faults
 pub mod View

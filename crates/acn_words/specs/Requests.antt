@@ -1,9 +1,10 @@
 -- What the words of a command ask for. (This program's own.)
-use Rattle.std.specs.Prelude.{ℕ, Bool, true, false, ◌&&◌, nat_le, List, [], ◌∷◌, Option, Some, None, option_and_then, option_map, if◌then◌else◌, codes}
+use Rattle.std.specs.Prelude.{ℕ, Bool, true, false, ◌&&◌, nat_le, List, [], ◌∷◌, map, take, drop, Option, Some, None, option_and_then, option_map, if◌then◌else◌, codes}
 use Rattle.std.specs.Str.{bytes_eq}
 use Rattle.acn_lex.specs.Number.{number_in}
 use Rattle.acn_words.specs.Files.{are_files}
 use Rattle.acn_words.specs.Names.{TypeName, named, is_type}
+use Rattle.acn_words.specs.Routes.{Route, route_of, count_routes, are_routes}
 use Rattle.acn_words.specs.declared.requests.TheConstants.{MOST_MADE}
 
 pub data Request : Type 0 where
@@ -13,6 +14,9 @@ pub data Request : Type 0 where
   encode : (of : TypeName) → (files : List (List ℕ)) → Request
   decode : (of : TypeName) → (files : List (List ℕ)) → Request
   compare : (old new : TypeName) → (files : List (List ℕ)) → Request
+  extremes : (of : TypeName) → (files : List (List ℕ)) → Request
+  route : (routes : List Route) → (files : List (List ℕ)) → Request
+  explain : (of : TypeName) → (files : List (List ℕ)) → Request
   work : (of : TypeName) → (start count : ℕ) → (files : List (List ℕ)) → Request
 
 abbrev pub with_files : (List (List ℕ) → Request) → List (List ℕ) → Option Request
@@ -30,6 +34,13 @@ with_type asks words = option_map (λ p. asks p.0 p.1) (type_and_files words)
 abbrev pub with_types : List (List ℕ) → Option Request
 with_types [] = None
 with_types (old ∷ words) = if is_type old then option_map (λ p. compare (named old) p.0 p.1) (type_and_files words) else None
+
+abbrev pub routed : (fronts names : List (List ℕ)) → Option Request
+routed fronts names = if are_routes fronts && are_files names then Some (route (map route_of fronts) names) else None
+
+-- APID=TYPE .. FILE..
+abbrev pub with_routes : List (List ℕ) → Option Request
+with_routes words = routed (take (count_routes words) words) (drop (count_routes words) words)
 
 -- how many values are made: 1 to the most
 abbrev pub is_count : ℕ → Bool
@@ -62,7 +73,10 @@ by_command command rest =
     else (if bytes_eq command (codes "encode") then with_type encode rest
     else (if bytes_eq command (codes "decode") then with_type decode rest
     else (if bytes_eq command (codes "compare") then with_types rest
-    else (if bytes_eq command (codes "work") then with_work rest else None))))))
+    else (if bytes_eq command (codes "extremes") then with_type extremes rest
+    else (if bytes_eq command (codes "route") then with_routes rest
+    else (if bytes_eq command (codes "explain") then with_type explain rest
+    else (if bytes_eq command (codes "work") then with_work rest else None)))))))))
 
 -- what these words ask for, where they have a form
 abbrev pub request_in : List (List ℕ) → Option Request
@@ -77,6 +91,9 @@ files_of (layout of names) = names
 files_of (encode of names) = names
 files_of (decode of names) = names
 files_of (compare old new names) = names
+files_of (extremes of names) = names
+files_of (route routes names) = names
+files_of (explain of names) = names
 files_of (work of start count names) = names
 
 -- the types that a request names, in the order of the words, where it names some
@@ -87,13 +104,22 @@ types_of (layout of names) = Some (of ∷ [])
 types_of (encode of names) = Some (of ∷ [])
 types_of (decode of names) = Some (of ∷ [])
 types_of (compare old new names) = Some (old ∷ new ∷ [])
+types_of (extremes of names) = Some (of ∷ [])
+types_of (route routes names) = Some (map (λ r. r.of) routes)
+types_of (explain of names) = Some (of ∷ [])
 types_of (work of start count names) = Some (of ∷ [])
 
--- whether it reads the input
+-- whether it reads packets of one type, or what becomes such packets
 abbrev pub reads_input : Request → Bool
 reads_input (encode of names) = true
 reads_input (decode of names) = true
+reads_input (explain of names) = true
 reads_input _ = false
+
+-- whether it asks for the shortest and the longest packet
+abbrev pub asks_extremes : Request → Bool
+asks_extremes (extremes of names) = true
+asks_extremes _ = false
 
 -- whether a number of values that are made is one
 abbrev pub has_count : Request → Bool

@@ -8,9 +8,10 @@ ghost use Rattle.acn_words.specs.View.{fault_view};
 use crate::files::{MOST_FILES, is_file, one_has_modules};
 use crate::names::type_named;
 use crate::requests::count_of;
+use crate::routes::{apid_of, count_routes, has_apid, is_route};
 use acn_lex::number_of;
 
-/// Why words have none of the forms of `Request`: the first of the command, TYPE, START, COUNT and the FILEs that isn't as it has to be.
+/// Why words have none of the forms of `Request`: the first of the command, TYPE, APID=TYPE, START, COUNT and the FILEs that isn't as it has to be.
 #[derive(Clone, Copy)]
 pub enum WordsFault<'a> {
     /// There are no words.
@@ -21,6 +22,12 @@ pub enum WordsFault<'a> {
     NoType,
     /// This word stands where TYPE has to, and is none.
     Type(&'a String),
+    /// No word stands where the first APID=TYPE has to.
+    NoRoute,
+    /// This word stands where the first APID=TYPE has to, and is none.
+    Route(&'a String),
+    /// The application process of this word is that of one behind it too.
+    RouteTwice(&'a String),
     /// No word stands where START has to.
     NoStart,
     /// This word stands where START has to, and is no number.
@@ -112,6 +119,46 @@ fn types_fault(rest: &[String]) -> Option<WordsFault<'_>>
     }
 }
 
+// The first route whose application process comes again.
+fn repeated(routes: &[String]) -> Option<&String>
+    ensures { option_map (λ word. string_bytes word.now) result ≡ spec.repeated (map string_bytes routes.now) }
+{
+    let mut rest = routes;
+    while let [word, behind @ ..] = rest {
+        if has_apid(behind, apid_of(word.as_str().as_bytes())) {
+            return Some(word);
+        }
+        rest = behind;
+    }
+    None
+}
+
+// What is wrong with routes and the FILEs behind them.
+fn routed_fault<'a>(routes: &'a [String], files: &'a [String]) -> Option<WordsFault<'a>>
+    ensures { option_map fault_view result ≡ spec.unless_repeated (spec.repeated (map string_bytes routes.now)) (map string_bytes files.now) }
+{
+    match repeated(routes) {
+        Some(word) => Some(WordsFault::RouteTwice(word)),
+        None => files_fault(files),
+    }
+}
+
+fn routes_fault(rest: &[String]) -> Option<WordsFault<'_>>
+    ensures { option_map fault_view result ≡ spec.routes_fault (map string_bytes rest.now) }
+{
+    match rest {
+        [] => Some(WordsFault::NoRoute),
+        [first, ..] => {
+            if is_route(first.as_str().as_bytes()) {
+                let count = count_routes(rest);
+                routed_fault(&rest[..count], &rest[count..])
+            } else {
+                Some(WordsFault::Route(first))
+            }
+        }
+    }
+}
+
 fn count_fault(rest: &[String]) -> Option<WordsFault<'_>>
     ensures { option_map fault_view result ≡ spec.count_fault (map string_bytes rest.now) }
 {
@@ -165,6 +212,9 @@ fn fault_of(words: &[String]) -> Option<WordsFault<'_>>
         "encode" => type_fault(rest),
         "decode" => type_fault(rest),
         "compare" => types_fault(rest),
+        "extremes" => type_fault(rest),
+        "route" => routes_fault(rest),
+        "explain" => type_fault(rest),
         "work" => work_fault(rest),
         _ => Some(WordsFault::Command(command)),
     }

@@ -9,6 +9,8 @@ ghost use Rattle.acn_words.specs.View.{request_view, type_view};
 
 use crate::files::are_files;
 use crate::names::{TypeName, type_named};
+use crate::route_words::RouteWords;
+use crate::routes::count_routes;
 use acn_lex::number_of;
 
 /// The most values that `work` makes.
@@ -46,6 +48,21 @@ pub enum Request<'a> {
         new: TypeName<'a>,
         files: &'a [String],
     },
+    /// `extremes TYPE FILE..`: the shortest and the longest packet of a type.
+    Extremes {
+        of: TypeName<'a>,
+        files: &'a [String],
+    },
+    /// `route APID=TYPE .. FILE..`: space packets to lines, each by the type of its application process.
+    Route {
+        routes: RouteWords<'a>,
+        files: &'a [String],
+    },
+    /// `explain TYPE FILE..`: packets to lines that say what each bit is.
+    Explain {
+        of: TypeName<'a>,
+        files: &'a [String],
+    },
     /// `work TYPE START COUNT FILE..`: COUNT values that are drawn from START on, written and read.
     Work {
         of: TypeName<'a>,
@@ -67,6 +84,9 @@ impl<'a> Request<'a> {
             Request::Encode { files, .. } => files,
             Request::Decode { files, .. } => files,
             Request::Compare { files, .. } => files,
+            Request::Extremes { files, .. } => files,
+            Request::Route { files, .. } => files,
+            Request::Explain { files, .. } => files,
             Request::Work { files, .. } => files,
         }
     }
@@ -98,6 +118,8 @@ enum OfType {
     Layout,
     Encode,
     Decode,
+    Extremes,
+    Explain,
 }
 
 fn asked<'a>(command: OfType, of: &TypeName<'a>, files: &'a [String]) -> Request<'a>
@@ -107,6 +129,8 @@ fn asked<'a>(command: OfType, of: &TypeName<'a>, files: &'a [String]) -> Request
         OfType::Layout => Request::Layout { of: *of, files },
         OfType::Encode => Request::Encode { of: *of, files },
         OfType::Decode => Request::Decode { of: *of, files },
+        OfType::Extremes => Request::Extremes { of: *of, files },
+        OfType::Explain => Request::Explain { of: *of, files },
     }
 }
 
@@ -165,6 +189,33 @@ fn compare<'a>(rest: &'a [String]) -> Option<Request<'a>>
             Some(old) => against(&old, words),
             None => None,
         },
+    }
+}
+
+// The routes, and the FILEs behind them.
+fn route<'a>(rest: &'a [String]) -> Option<Request<'a>>
+    ensures request { option_map request_view result ≡ spec.with_routes (map string_bytes rest.now) }
+    ensures files { IfSome result (λ request. IsTrue (list_all is_file (spec.files_of (request_view request)))) }
+    ensures count { IfSome result (λ request. spec.has_count (request_view request) ≡ true) }
+{
+    let count = count_routes(rest);
+    routed(&rest[..count], &rest[count..])
+}
+
+fn routed<'a>(routes: &'a [String], files: &'a [String]) -> Option<Request<'a>>
+    ensures request { option_map request_view result ≡ spec.routed (map string_bytes routes.now) (map string_bytes files.now) }
+    ensures files { IfSome result (λ request. IsTrue (list_all is_file (spec.files_of (request_view request)))) }
+    ensures count { IfSome result (λ request. spec.has_count (request_view request) ≡ true) }
+{
+    match RouteWords::of_words(routes) {
+        Some(routes) => {
+            if are_files(files) {
+                Some(Request::Route { routes, files })
+            } else {
+                None
+            }
+        }
+        None => None,
     }
 }
 
@@ -254,6 +305,9 @@ pub fn read_words(words: &[String]) -> Option<Request<'_>>
         "encode" => with_type(OfType::Encode, rest),
         "decode" => with_type(OfType::Decode, rest),
         "compare" => compare(rest),
+        "extremes" => with_type(OfType::Extremes, rest),
+        "route" => route(rest),
+        "explain" => with_type(OfType::Explain, rest),
         "work" => work(rest),
         _ => None,
     }

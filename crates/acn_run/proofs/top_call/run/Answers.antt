@@ -5,6 +5,8 @@ use Rattle.acn_run.specs.Run.{code_of}
 use Rattle.acn_run.proofs.Completing.{completes}
 use Rattle.acn_run.proofs.Ended.{at_most_seven, is_usage, promises}
 use Rattle.acn_run.proofs.Excluded.{refuses}
+use Rattle.acn_run.proofs.Lining.{names_it}
+use Rattle.acn_run.proofs.Stopping.{stops_there}
 use Rattle.acn_run.proofs.Unfailed.{unfailed}
 use Rattle.acn_run.proofs.top_call.run.Goals as goal
 
@@ -25,5 +27,11 @@ returns-clause-refused g c =
 pub returns-clause-unfailed : goal.returns-clause-unfailed
 returns-clause-unfailed g c = λ sure. rw c.code.ensures (unfailed _ _ _ _ sure c.run_words.ensures)
 
+pub returns-clause-stuck : goal.returns-clause-stuck
+returns-clause-stuck g c = stops_there c.stuck_recordings_are_refused.ensures _ _ _ _ _ _ (ap (λ (ws : List _). map string_bytes ws) c.deref.ensures.value) c.code.ensures c.run_words.ensures
+
+pub returns-clause-lines : goal.returns-clause-lines
+returns-clause-lines g c = names_it c.refused_lines_are_named.ensures _ _ _ _ _ _ (ap (λ (ws : List _). map string_bytes ws) c.deref.ensures.value) c.code.ensures c.run_words.ensures
+
 pub returns-clause-complete : goal.returns-clause-complete
-returns-clause-complete g c = completes c.recordings_are_decoded.ensures c.lines_are_encoded.ensures _ _ _ _ _ _ (ap (λ (ws : List _). map string_bytes ws) c.deref.ensures.value) c.code.ensures c.run_words.ensures
+returns-clause-complete g c = completes c.recordings_are_decoded.ensures c.recordings_are_shown.ensures c.lines_are_encoded.ensures c.one_space.ensures _ _ _ _ _ _ (ap (λ (ws : List _). map string_bytes ws) c.deref.ensures.value) c.code.ensures c.run_words.ensures

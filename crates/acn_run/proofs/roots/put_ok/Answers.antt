@@ -2,7 +2,7 @@ use Rattle.std.proofs.Common.{ℕ, List, [], ◌∷◌, ap, ◌∙◌, subst, co
 use Rattle.std.specs.List.{concat}
 use Rattle.acn_print.specs.Printing.{Prints}
 use Rattle.acn_tree.specs.declared.tree.Tree.{Tree}
-use Rattle.acn_run.proofs.texts.put_ok.Goals as goal
+use Rattle.acn_run.proofs.roots.put_ok.Goals as goal
 
 pub returns : goal.returns
 returns g c =

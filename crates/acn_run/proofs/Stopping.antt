@@ -1,0 +1,124 @@
+-- That a run whose input is stuck ends there, from how it ends and the law of such recordings.
+use Rattle.std.proofs.Common.{◌≡◌, ℕ, ◌+◌, ◌<◌, true, List, [], ◌∷◌, length, Option, Some, refl, sym, ap, subst, ◌∙◌}
+use Rattle.std.specs.Prelude.{Result, Ok, Err, IsErrOf, IsTrue}
+use Rattle.acn_explain.specs.Explaining.{ExplainEnds}
+use Rattle.acn_explain.specs.Texts.{packet_text}
+use Rattle.acn_grammar.specs.Faults.{fault_of}
+use Rattle.acn_grammar.specs.Grammar.{Grammar}
+use Rattle.acn_grammar.specs.Interval.{span}
+use Rattle.acn_grammar.specs.View.{grammar_of}
+use Rattle.acn_packet_laws.specs.Laws.{IsAccepted}
+use Rattle.acn_report.specs.Texts.{packet_line}
+use Rattle.acn_route.specs.declared.count.RouteCount.{RouteCount}
+use Rattle.acn_route.specs.declared.route_fault.RouteFault.{RouteFault}
+use Rattle.acn_stream.specs.Decoding.{DecodeEnds}
+use Rattle.acn_stream.specs.Recording.{lines_text, texts}
+use Rattle.acn_stream.specs.declared.stream_fault.StreamFault.{StreamFault}
+use Rattle.acn_stream.specs.declared.stream_fault.StreamFault.TheVariants as stream
+use Rattle.acn_stream_laws.specs.Laws.{RefusesPacket, StuckRecordingsAreRefused}
+use Rattle.acn_tree.specs.declared.tree.Tree.{Tree}
+use Rattle.acn_words.specs.Requests.{Request, check, bounds, layout, encode, decode, compare, extremes, route, explain, work, request_in}
+use Rattle.acn_run.specs.Asked.{HasGrammars}
+use Rattle.acn_run.specs.Complete.{IsUnrefused, NothingFailed}
+use Rattle.acn_run.specs.Lines.{stream_line}
+use Rattle.acn_run.specs.Outside.{Outside, Says}
+use Rattle.acn_run.specs.Run.{code_of, is_of_input, Converts, IsText, Routes, StreamEnds, Serves, printed, converted, routed, refused, unconverted, unrouted, unreadable, broken_off, route_broken, unwritten, cut, route_cut, stopped, halted, route_halted, Ends, no_form, served}
+use Rattle.acn_run.specs.Stuck.{reads_recording, IsStuckInput, EndsStuck, at_packet, out_of_memory, IsStuckRun}
+use Rattle.acn_run.specs.declared.status.Status.{Status}
+use Rattle.acn_run.specs.declared.status.Status.TheVariants.{Done, Usage, NoGrammar, BadInput, FileFailed, InputFailed, OutputFailed, NoMemory}
+use Rattle.acn_run.specs.declared.streams.TheConstants.{MOST_INPUT_BYTES}
+use Rattle.acn_run.proofs.Ended.{is_accepted}
+
+no_text : (request : Request) (trees : List Tree) (text : List ℕ) → IsTrue (reads_recording request) → IsText request trees text → ⊥
+no_text (decode of names) trees text reads is = absurd is
+no_text (explain of names) trees text reads is = absurd is
+no_text (check names) trees text reads is = cc
+no_text (bounds names) trees text reads is = cc
+no_text (layout of names) trees text reads is = cc
+no_text (encode of names) trees text reads is = cc
+no_text (compare old new names) trees text reads is = cc
+no_text (extremes of names) trees text reads is = cc
+no_text (route routes names) trees text reads is = cc
+no_text (work of start count names) trees text reads is = cc
+
+module _ (b a : Outside) where
+  no_routes : (request : Request) (trees : List Tree) (result : Result RouteCount RouteFault) → IsTrue (reads_recording request) → Routes request trees b a result → ⊥
+  no_routes (decode of names) trees result reads e = absurd e
+  no_routes (explain of names) trees result reads e = absurd e
+  no_routes (check names) trees result reads e = cc
+  no_routes (bounds names) trees result reads e = cc
+  no_routes (layout of names) trees result reads e = cc
+  no_routes (encode of names) trees result reads e = cc
+  no_routes (compare old new names) trees result reads e = cc
+  no_routes (extremes of names) trees result reads e = cc
+  no_routes (route routes names) trees result reads e = cc
+  no_routes (work of start count names) trees result reads e = cc
+
+  module _ (law : StuckRecordingsAreRefused) (tree : Tree) (ok : IsAccepted (grammar_of tree.root)) (some : 0 < (span (grammar_of tree.root)).least) (input : IsStuckInput b tree) where
+    abbrev g : Grammar
+    g = grammar_of tree.root
+
+    stops : (request : Request) (result : Result ℕ StreamFault) → IsTrue (reads_recording request) → StreamEnds request tree b a result → (IsErrOf result stream.EmptyPacket → (span g).least ≡ 0) → RefusesPacket (length input.values + 1) input.fault result
+    stops (decode of names) result reads e empty =
+        law g (lines_text g) MOST_INPUT_BYTES input.values input.bytes input.fault a.input b.out.0 a.out.0 result ok some input.stuck input.within (subst (λ i. DecodeEnds g MOST_INPUT_BYTES i a.input b.out.0 a.out.0 result) input.is e) empty
+    stops (explain of names) result reads e empty =
+        law g (texts g (packet_text tree) 1) MOST_INPUT_BYTES input.values input.bytes input.fault a.input b.out.0 a.out.0 result ok some input.stuck input.within
+        (subst (λ i. ExplainEnds tree MOST_INPUT_BYTES i a.input b.out.0 a.out.0 result) input.is e) empty
+    stops (check names) result reads e empty = cc
+    stops (bounds names) result reads e empty = cc
+    stops (layout of names) result reads e empty = cc
+    stops (encode of names) result reads e empty = cc
+    stops (compare old new names) result reads e empty = cc
+    stops (extremes of names) result reads e empty = cc
+    stops (route routes names) result reads e empty = cc
+    stops (work of start count names) result reads e empty = cc
+
+  module _ (request : Request) (tree : Tree) (input : IsStuckInput b tree) (has : HasGrammars b.files request (tree ∷ [])) where
+    -- a fault of the input is that of the packet
+    says : (fault : StreamFault) → is_of_input fault ≡ true → RefusesPacket (length input.values + 1) input.fault (Err fault) → Says (stream_line tree fault) b.err a.err → EndsStuck b a request 3
+    says (stream.Packet k f) of r said = at_packet tree input f has r.1 (subst (λ n. Says (packet_line tree n f) b.err a.err) r.0 said)
+    says (stream.LineTooLong k) of r said = absurd r
+    says stream.InputTooLong of r said = absurd r
+    says stream.EmptyPacket of r said = absurd r
+    says (stream.BadLine k f) of r said = absurd r
+    says (stream.Unfit k f) of r said = absurd r
+    says stream.InputFault of r said = cc
+    says stream.OutputFault of r said = cc
+    says stream.NoMemory of r said = cc
+
+pub is_no_empty : (fault : StreamFault) → is_of_input fault ≡ true → (result : Result ℕ StreamFault) → result ≡ Err fault → result ≡ Err stream.EmptyPacket → ⊥
+is_no_empty fault of result is e = cc
+
+module _ (law : StuckRecordingsAreRefused) (b a : Outside) (request : Request) (reads : IsTrue (reads_recording request)) (unrefused : IsUnrefused b.files request) (sure : NothingFailed b a)
+    (stuck : (tree : Tree) → HasGrammars b.files request (tree ∷ []) → IsStuckInput b tree) where
+  by_status : (status : Status) → Serves b a request status → EndsStuck b a request (code_of status)
+  by_status Done (printed trees text has is unread gains silent) = absurd (no_text request trees text reads is)
+  by_status Done (converted tree count has c silent) = absurd (stops b a law tree (is_accepted b.files request tree has) c.some (stuck tree has) request (Ok count) reads c.ends (λ e. cc))
+  by_status Done (routed trees counts has e silent) = absurd (no_routes b a request trees (Ok counts) reads e)
+  by_status NoGrammar (refused line why untouched said) = absurd (unrefused line why)
+  by_status BadInput (unconverted tree fault has of c said) =
+      says b a request tree (stuck tree has) has fault of (stops b a law tree (is_accepted b.files request tree has) c.some (stuck tree has) request (Err fault) reads c.ends (λ e. absurd (is_no_empty fault of (Err fault) refl e))) said
+  by_status BadInput (unrouted trees fault has of e said) = absurd (no_routes b a request trees (Err fault) reads e)
+  by_status FileFailed (unreadable k name is rose untouched said) = absurd (sure.files name rose)
+  by_status InputFailed (broken_off tree has c rose said) = absurd (sure.input rose)
+  by_status InputFailed (route_broken trees has e rose said) = absurd (sure.input rose)
+  by_status OutputFailed (unwritten trees text has is unread gains rose said) = absurd (sure.out rose)
+  by_status OutputFailed (cut tree has c rose said) = absurd (sure.out rose)
+  by_status OutputFailed (route_cut trees has e rose said) = absurd (sure.out rose)
+  by_status NoMemory (stopped untouched said) = out_of_memory
+  by_status NoMemory (halted tree has c said) = out_of_memory
+  by_status NoMemory (route_halted trees has e said) = out_of_memory
+  by_status Usage s = elim s [ ]
+
+module _ (law : StuckRecordingsAreRefused) (b a : Outside) (words : List (List ℕ)) where
+  by_end : (request : Request) → request_in words ≡ Some request → (status : Status) → Ends b a words status → IsStuckRun b a request (code_of status)
+  by_end request is status (no_form none untouched said) = absurd (cc)
+  by_end request is status (served other s was serves) =
+      λ reads unrefused sure stuck. by_status law b a request reads unrefused sure stuck status (subst (λ r. Serves b a r status) (one_request other request was is) serves)
+    where
+      one_request : (x y : Request) → request_in words ≡ Some x → request_in words ≡ Some y → x ≡ y
+      one_request x y e f = cc
+
+  -- a run that ends so ends at the packet that is refused
+  pub stops_there : (words' : List (List ℕ)) (status : Status) (code : ℕ) → words ≡ words' → code ≡ code_of status → Ends b a words status → (request : Request) → request_in words' ≡ Some request → IsStuckRun b a request code
+  stops_there words' status code same is ends request asks = subst (λ n. IsStuckRun b a request n) (sym is) (by_end request (ap request_in same ∙ asks) status ends)
