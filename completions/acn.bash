@@ -9,11 +9,11 @@ _acn() {
     compopt -o default
     COMPREPLY=()
     if [ "$COMP_CWORD" -eq 1 ]; then
-        COMPREPLY=($(compgen -W "check bounds layout encode decode compare work --help --version --explain --hints" -- "$word"))
+        COMPREPLY=($(compgen -W "check bounds layout encode decode compare extremes route explain work --help --version --explain --hints" -- "$word"))
         return
     fi
     case "${COMP_WORDS[1]}:$COMP_CWORD" in
-        layout:2|encode:2|decode:2|compare:2|compare:3|work:2) COMPREPLY=($(compgen -W "$(_acn_types)" -- "$word")) ;;
+        layout:2|encode:2|decode:2|compare:2|compare:3|extremes:2|explain:2|work:2) COMPREPLY=($(compgen -W "$(_acn_types)" -- "$word")) ;;
         --*) compopt +o default ;;
         *) COMPREPLY=($(compgen -f -X '!*.@(asn|asn1|acn|map)' -- "$word")) ;;
     esac

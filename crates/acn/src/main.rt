@@ -5,7 +5,8 @@ mod questions;
 #[cfg(test)]
 mod tests;
 
-use acn_advice::{Heard, advise};
+use acn_advice::{Heard, Recalled};
+use acn_advisor::advise;
 use acn_outside::{StdError, StdFiles, StdInput, StdOutput};
 use acn_run::run;
 use questions::question_in;
@@ -54,6 +55,12 @@ fn out_of_memory(rt: &HostRuntime) -> ExitCode {
     ExitCode::from(7)
 }
 
+/// Says that the output failed, and answers the status for it.
+fn output_failed(rt: &HostRuntime) -> ExitCode {
+    let _ = eprint!(rt; "acn: output failed\n");
+    ExitCode::from(6)
+}
+
 fn main(rt: HostRuntime) -> ExitCode {
     let Call { hints, words } = match called(&rt) {
         Ok(called) => called,
@@ -67,11 +74,11 @@ fn main(rt: HostRuntime) -> ExitCode {
         let text = question.text();
         return match print!(rt; "{text}") {
             Ok(()) => ExitCode::from(0),
-            Err(_) => ExitCode::from(6),
+            Err(_) => output_failed(&rt),
         };
     }
     let mut files = StdFiles::new(rt.alloc(), &rt);
-    let mut input = StdInput::new(rt.reader());
+    let mut input = Recalled::new(rt.alloc(), StdInput::new(rt.reader()), hints);
     let stdout = rt.stdout();
     let stderr = rt.stderr();
     let mut out = StdOutput::new(&stdout);
@@ -86,7 +93,15 @@ fn main(rt: HostRuntime) -> ExitCode {
     );
     if hints {
         let (mut err, line) = err.into_parts();
-        advise(rt.alloc(), &words, status, &line, &mut files, &mut err);
+        advise(
+            rt.alloc(),
+            &words,
+            status,
+            &line,
+            input.kept(),
+            &mut files,
+            &mut err,
+        );
     }
     ExitCode::from(status)
 }

@@ -8,7 +8,8 @@ use std::alloc::Global;
 // The most bytes that are kept.
 const MOST_KEPT: usize = 65_536;
 
-/// An output that hands on what it takes, and keeps the first of it, as far as memory is there: of a run the line on its refusal.
+/// An output that hands on what it takes, and keeps the first of it, as far as memory is there: of
+/// a run the line on its refusal.
 #[derive(Drop)]
 pub struct Heard<O: Sink + Drop> {
     to: O,

@@ -1,12 +1,19 @@
-//! What helps on a refusal: lines that are printed behind the one line of a run. What they say is judged anew, over the words and the files,
-//! so a run knows nothing of it.
+//! A page of what helps on a refusal: at most `MOST_LINES` lines, which are printed behind the one
+//! line of a run. Here stand the page itself, what a run says and reads, kept for it, and what
+//! several pages say alike: lines with a mark, and names that are near.
 #![tactic(auto)]
 
-mod advice;
 mod heard;
 mod mark;
+mod near;
+mod page;
 mod place;
-mod words;
+mod recalled;
+mod shown;
 
-pub use advice::advise;
 pub use heard::Heard;
+pub use mark::{put_line_and_mark, put_marked};
+pub use near::nearest;
+pub use page::{MOST_LINES, Page};
+pub use recalled::Recalled;
+pub use shown::{put_names, put_shown};

@@ -32,6 +32,18 @@ pub fn behind(bytes: &[u8], at: usize) -> &[u8]
     bytes.get(at..).unwrap_or(&[])
 }
 
+/// What stands before the first end of a line.
+pub fn first_line(bytes: &[u8]) -> &[u8]
+    ensures { result.now ≡ spec.first_line bytes.now }
+{
+    for (number, byte) in bytes.iter().enumerate() {
+        if *byte == b'\n' || *byte == b'\r' {
+            return &bytes[..number];
+        }
+    }
+    bytes
+}
+
 /// The number of a place's line, from 1.
 pub fn line_number(bytes: &[u8], at: usize) -> u64 {
     let before = bytes.get(..at).unwrap_or(bytes);

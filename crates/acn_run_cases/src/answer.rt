@@ -4,6 +4,8 @@ use crate::input::{input_of, times_of};
 use crate::outputs::taken_in_words;
 use crate::setting::{Setting, setting_of};
 use crate::sheet::Sheet;
+use acn_advice::{Heard, Recalled};
+use acn_advisor::advise;
 use acn_case_lines::word;
 use acn_case_sheets::{Trouble, parts_of};
 use acn_num::NoMemory;
@@ -24,6 +26,7 @@ const WHOLE: usize = 1_000_000;
 #[derive(Drop)]
 struct Case<'a> {
     sheet: &'a Sheet,
+    hints: bool,
     words: Vec<String>,
     input: Vec<u8>,
     parts: Vec<&'a str>,
@@ -72,9 +75,10 @@ fn once(alloc: Global, case: &Case<'_>, setting: &Setting) -> Result<String, Tro
     let parts = case.parts.as_slice().get(1..).unwrap_or(&[]);
     let fail = failing(alloc, setting.file)?;
     let mut files = case.sheet.in_memory(alloc, parts, fail)?;
-    let mut input = source(alloc, setting, case.input.as_slice())?;
+    let input = source(alloc, setting, case.input.as_slice())?;
+    let mut input = Recalled::new(alloc, input, case.hints);
     let mut out = sink(alloc, setting, setting.output)?;
-    let mut err = sink(alloc, setting, setting.errors)?;
+    let mut err = Heard::new(alloc, sink(alloc, setting, setting.errors)?);
     let status = run(
         alloc,
         &case.words,
@@ -83,6 +87,18 @@ fn once(alloc: Global, case: &Case<'_>, setting: &Setting) -> Result<String, Tro
         &mut out,
         &mut err,
     );
+    let (mut err, line) = err.into_parts();
+    if case.hints {
+        advise(
+            alloc,
+            &case.words,
+            status,
+            &line,
+            input.kept(),
+            &mut files,
+            &mut err,
+        );
+    }
     let written = told(alloc, &out, group_of(case.words.as_slice(), setting))?;
     let errors = told(alloc, &err, None)?;
     Ok(format!(in alloc; "{status};{written};{errors}")?)
@@ -144,11 +160,16 @@ pub fn answer(alloc: Global, sheet: &Sheet, case: &str) -> Result<String, Troubl
     let parts = parts_of(alloc, case)?;
     let question = word(parts.as_slice(), 0);
     let (words, rest) = question.split_once(" :").unwrap_or((question, ""));
+    let (hints, words) = match words.strip_prefix("--hints") {
+        Some(behind) => (true, behind),
+        None => (false, words),
+    };
     let (input, settings) = rest.split_once(" :").unwrap_or((rest, ""));
     let settings: Vec<&str> = settings.split_whitespace().collect(alloc)?;
     let setting = setting_of(settings.as_slice());
     let case = Case {
         sheet,
+        hints,
         words: words_of(alloc, words)?,
         input: input_of(alloc, input)?,
         parts,

@@ -8,6 +8,8 @@
 //! The words of an input are hexadecimal digits, two a byte, or characters behind a `'`, where `\` and two hexadecimal digits are one
 //! byte. `5000x` writes the word behind it 5,000 times.
 //!
+//! With `--hints` in front of its words a case prints what helps behind the line, as the program does.
+//!
 //! The answer is `STATUS; OUTPUT; ERRORS`. An output is its lines with ` |` for each line feed, and that of `encode` its octets; what
 //! stands several times one behind the other is written once, with `x5000` behind it.
 //!

@@ -2,7 +2,7 @@
 
 use acn_outside::{Failed, Sink};
 use acn_print::{Piece, put_all, put_piece};
-use acn_words::WordsFault;
+use acn_words::{WordsFault, words_fault};
 
 fn put_word<'a, O: Sink>(word: &'a String, told: &'a str, out: &mut O) -> Result<(), Failed> {
     put_all(
@@ -15,8 +15,8 @@ fn put_word<'a, O: Sink>(word: &'a String, told: &'a str, out: &mut O) -> Result
     )
 }
 
-/// Prints which word is at fault, and why.
-pub fn put_fault<O: Sink>(fault: &WordsFault<'_>, out: &mut O) -> Result<(), Failed> {
+// Prints which word is at fault, and why.
+fn put_fault<O: Sink>(fault: &WordsFault<'_>, out: &mut O) -> Result<(), Failed> {
     match fault {
         WordsFault::NoCommand => put_piece(out, &Piece::Text("  there is no command\n")),
         WordsFault::Command(word) => put_word(*word, "' is no command\n", out),
@@ -27,6 +27,20 @@ pub fn put_fault<O: Sink>(fault: &WordsFault<'_>, out: &mut O) -> Result<(), Fai
         WordsFault::Type(word) => put_word(
             *word,
             "' is no TYPE: that is the name of a module, a full stop, and the name of a type, as Tm.Packet\n",
+            out,
+        ),
+        WordsFault::NoRoute => put_piece(
+            out,
+            &Piece::Text("  behind the command APID=TYPE is missing, as 100=Tm.Packet\n"),
+        ),
+        WordsFault::Route(word) => put_word(
+            *word,
+            "' is no APID=TYPE: that is a decimal number up to 2047, an equals sign, and a TYPE\n",
+            out,
+        ),
+        WordsFault::RouteTwice(word) => put_word(
+            *word,
+            "' and a word behind it name the same APID\n",
             out,
         ),
         WordsFault::NoStart => put_piece(
@@ -62,4 +76,15 @@ pub fn put_fault<O: Sink>(fault: &WordsFault<'_>, out: &mut O) -> Result<(), Fai
             &Piece::Text("  no FILE is of ASN.1: that ends in .asn or .asn1\n"),
         ),
     }
+}
+
+/// Prints what helps where the words have no form: two lines.
+pub fn put_usage<O: Sink>(words: &[String], out: &mut O) -> Result<(), Failed> {
+    if let Some(fault) = words_fault(words) {
+        put_fault(&fault, out)?;
+    }
+    put_piece(
+        out,
+        &Piece::Text("  'acn --help' shows the forms of the words\n"),
+    )
 }
