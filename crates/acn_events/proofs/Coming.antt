@@ -51,7 +51,7 @@ some_in leaf fine = by leaf.set (rules_of leaf fine).set (set_ordered leaf.kind 
 
 -- The place of the writer.
 
-base_depth : (fs : List Frame) (os : List (ℕ × SizeRule)) → AllStand fs os → (base_of fs ≡ depth_of os) × (length fs ≡ length os)
+pub base_depth : (fs : List Frame) (os : List (ℕ × SizeRule)) → AllStand fs os → (base_of fs ≡ depth_of os) × (length fs ≡ length os)
 base_depth [] [] h = (refl, refl)
 base_depth [] (o ∷ os) h = absurd h
 base_depth (f ∷ fs) [] h = absurd h

@@ -6,6 +6,7 @@ pub mod Joins
 mod Judging
 -- for acn_event_limits, acn_writer
 pub mod Keeping
+mod Later
 mod Located
 mod Packets
 mod Passing

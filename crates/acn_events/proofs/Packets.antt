@@ -80,13 +80,13 @@ pub record Behind (m n : State) : Type 0 where
   pub on : m.place ≤ n.place
   pub same : drop n.place n.buf ≡ drop n.place m.buf
 
-behind_none : (m n : State) → n.place ≡ m.place → n.buf ≡ m.buf → Behind m n
+pub behind_none : (m n : State) → n.place ≡ m.place → n.buf ≡ m.buf → Behind m n
 behind_none m n p b = record { on = omega (arith, p); same = ap (drop n.place) b }
 
 behind_put : (m n : State) (bs : List Bool) (at : ℕ) → m.place ≤ n.place → at + length bs ≤ n.place → at + length bs ≤ length m.buf → n.buf ≡ overwritten m.buf at bs → Behind m n
 behind_put m n bs at on l r e = record { on = on; same = ap (drop n.place) e ∙ behind_over m.buf at bs n.place r l }
 
-behind_then : (m n o : State) → Behind m n → Behind n o → Behind m o
+pub behind_then : (m n o : State) → Behind m n → Behind n o → Behind m o
 behind_then m n o f g =
     let a = f.on in
     let b = g.on in
@@ -148,7 +148,7 @@ module _ (root : Grammar) (size : ℕ) where
   closes_behind p m n (Slot t) k start rest gap is frames a d = behind_none m n (ap (λ (z : State). z.place) d.1) (ap (λ (z : State). z.buf) d.1)
   closes_behind p m n (Ended e) k start rest gap is frames a d = absurd d
 
-  behind_on : (e : Event) (p : Mark) (m n : State) → Right root e p → Step e m n → Stands root size p m → Behind m n
+  pub behind_on : (e : Event) (p : Mark) (m n : State) → Right root e p → Step e m n → Stands root size p m → Behind m n
   behind_on (aligns a) p m n r s h = by_put m n (replicate (padding a (position m)) false) (padding a (position m)) (length-replicate (padding a (position m)) false) s.can.1 s.does
   behind_on (copies bs) p m n r s h = by_put m n bs (length bs) refl s.can s.does
   behind_on (begins homes bs) p m n r s h = by_put m n bs (length bs) refl s.can s.does

@@ -90,3 +90,13 @@ pub record HolesPassed (m : State) : Type 0 where
 abbrev pub StopsPassTheirHoles : Type 0
 StopsPassTheirHoles =
     (c : Class) (root : Grammar) (d : Data) (buf : List Bool) (n : State) (h : Halt) → IsAccepted root → Shaped root d → Stops c (events root root [] d) (first_state buf) n h → HolesPassed n
+
+-- the writer stands within so many bits, with what stood behind it
+pub record KeepsWhatIsLater (long : ℕ) (buf : List Bool) (m : State) : Type 0 where
+  pub within : m.place ≤ long
+  pub behind : drop m.place m.buf ≡ drop m.place buf
+
+-- so it is where the events of a value stop, within the bits that the value has
+abbrev pub StopsKeepWhatIsLater : Type 0
+StopsKeepWhatIsLater =
+    (c : Class) (root : Grammar) (d : Data) (buf : List Bool) (n : State) (h : Halt) → IsAccepted root → Shaped root d → Stops c (events root root [] d) (first_state buf) n h → KeepsWhatIsLater (bit_length root 0 d) buf n

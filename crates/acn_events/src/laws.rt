@@ -1,4 +1,4 @@
-ghost use Rattle.acn_events.specs.Laws.{EventsAreInOrder, EventsAsk, EventsWriteThePacket, RunsAreWritable, RunsJoin, StopsAreRefusals, StopsPassTheirHoles};
+ghost use Rattle.acn_events.specs.Laws.{EventsAreInOrder, EventsAsk, EventsWriteThePacket, RunsAreWritable, RunsJoin, StopsAreRefusals, StopsKeepWhatIsLater, StopsPassTheirHoles};
 
 use acn_packet_laws::{
     accepted_is_sound, each_occurrence_asks, each_value_is_written_or_refused,
@@ -58,6 +58,13 @@ pub fn events_write_the_packet()
 /// Where the events of a value stop, each hole that is open lies behind the writer.
 pub fn stops_pass_their_holes()
     ensures { StopsPassTheirHoles }
+{
+    events_are_in_order();
+}
+
+/// Where the events of a value stop, the writer stands within the bits that the value has, and what is behind it is as before.
+pub fn stops_keep_what_is_later()
+    ensures { StopsKeepWhatIsLater }
 {
     events_are_in_order();
 }

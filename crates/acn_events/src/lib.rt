@@ -5,5 +5,5 @@ mod laws;
 
 pub use laws::{
     events_are_in_order, events_ask, events_write_the_packet, runs_are_writable, runs_join,
-    stops_are_refusals, stops_pass_their_holes,
+    stops_are_refusals, stops_keep_what_is_later, stops_pass_their_holes,
 };

@@ -1,5 +1,5 @@
 -- The table of open slots, and what it keeps of what was asked of each. (This profile's own.)
-use Rattle.std.specs.Prelude.{◌≡◌, ℕ, suc, ◌<◌, ◌≤◌, length, ℤ, Bool, true, false, not, ◌||◌, nat_eq, if◌then◌else◌, List, [], ◌∷◌, ◌++◌, filter, Option, Some, None, slice_get, is_some}
+use Rattle.std.specs.Prelude.{◌≡◌, ℕ, suc, ◌-◌, ◌<◌, ◌≤◌, length, ℤ, Bool, true, false, not, ◌||◌, nat_eq, if◌then◌else◌, List, [], ◌∷◌, ◌++◌, filter, Option, Some, None, slice_get, is_some, option_map}
 use Rattle.acn_bits.specs.Overwrite.{Gap}
 use Rattle.acn_num.specs.Ranges.{among}
 use Rattle.acn_grammar.specs.Asks.{Ask, Avoid}
@@ -28,6 +28,10 @@ place s (e ∷ es) = if nat_eq e.slot s then 0 else suc (place s es)
 abbrev pub spot_of : ℕ → List Spot → Option Spot
 spot_of s [] = None
 spot_of s (e ∷ es) = if nat_eq e.slot s then Some e else spot_of s es
+
+-- the slot that was begun last
+abbrev pub last_slot : List Spot → Option ℕ
+last_slot es = option_map (λ e. e.slot) (slice_get es (length es - 1))
 
 -- the table without the slot
 abbrev pub without : ℕ → List Spot → List Spot

@@ -6,7 +6,7 @@ ghost use Rattle.acn_grammar.specs.Asks.{Ask as Wanted, Equal, Avoid};
 ghost use Rattle.acn_grammar.specs.AsksOn.{LeastAnswer};
 ghost use Rattle.acn_grammar.specs.Faults.{ask_of};
 ghost use Rattle.acn_fill.specs.declared.spot.TheConstants.{MOST_AVOIDED};
-ghost use Rattle.acn_fill.specs.Table.{Keeps, OneMore, Refuses, SameAt, SameSpot, begun, gap_at, has_spot, place, purged, avoided_on, without, spot_of, frames, HasRoom, AllBegun, TooMany, AreFew, NoneTwice, is_fixed};
+ghost use Rattle.acn_fill.specs.Table.{last_slot, Keeps, OneMore, Refuses, SameAt, SameSpot, begun, gap_at, has_spot, place, purged, avoided_on, without, spot_of, frames, HasRoom, AllBegun, TooMany, AreFew, NoneTwice, is_fixed};
 
 pub use crate::spot::{MOST_AVOIDED, MOST_AVOIDED_IN_ALL};
 use crate::spot::{
@@ -72,7 +72,8 @@ impl<'p, const S: usize, const A: usize> Fills<'p, S, A> {
 
     /// The slot that was begun last of those that are begun, if any is.
     pub fn last_begun(&self) -> Option<u32>
-        ensures { MatchOption result ((slot : ℕ) → begun self.now slot ≡ false) (λ slot. begun self.now slot ≡ true) }
+        ensures begun { MatchOption result ((slot : ℕ) → begun self.now slot ≡ false) (λ slot. begun self.now slot ≡ true) }
+        ensures last { result ≡ last_slot self.now.spots }
     {
         let spots = self.spots.as_slice();
         let count = spots.len();

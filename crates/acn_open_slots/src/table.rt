@@ -25,7 +25,8 @@ pub trait SlotTable: Drop {
     fn note(&mut self, slot: u32, x: &i128) -> bool
         requires { at_slot (env self.old) slot ≡ None }
         ensures noted { result ≡ true → env self.new ≡ env self.old ++ (slot, x.now) ∷ [] }
-        ensures full { result ≡ false → length (env self.old) ≡ places };
+        ensures full { result ≡ false → length (env self.old) ≡ places }
+        ensures kept { result ≡ false → env self.new ≡ env self.old };
 
     /// Forgets the numbers of these slots.
     fn forget(&mut self, home: &[u32])

@@ -29,7 +29,8 @@ use Rattle.acn_grammar.specs.Walk.{Stand}
 use Rattle.acn_grammar.specs.declared.limits.TheConstants.{MOST_PACKET_BITS}
 use Rattle.acn_packet_laws.specs.Laws.{IsAccepted, AcceptedIsSound, EachNodeIsSound, EachPathHasItsNumber, FrontsExcludeFailures, HasNumber, NamesItsSlot, NoFaultWithoutAFirst, OneFront, OneRefusal, RefusalsAreAtNodes, RefusedIsNotSpelled, TellsSlots, ValuesLieWithinBounds, WrittenIsRead}
 use Rattle.acn_bounds.proofs.Lying.{short}
-use Rattle.acn_plain.specs.Encoded.{IsReadAgain, Refuses, OnlyRefusal, HasPaths, HasPathsAt, heard_till, unfit_in}
+use Rattle.acn_reads.specs.Answers.{IsReadAgain}
+use Rattle.acn_plain.specs.Encoded.{Refuses, OnlyRefusal, HasPaths, HasPathsAt, heard_till, unfit_in}
 use Rattle.acn_plain.specs.declared.encode.PlainFault.{PlainFault}
 use Rattle.acn_plain.specs.declared.encode.PlainFault.TheVariants.{Unfit, NoMemory}
 use Rattle.acn_plain.proofs.Deep.{few_steps}

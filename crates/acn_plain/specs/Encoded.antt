@@ -8,22 +8,17 @@ use Rattle.acn_asks.specs.declared.moments.Moment.{Moment}
 use Rattle.acn_asks.specs.declared.moments.Moment.TheVariants as moment
 use Rattle.acn_grammar.specs.Code.{Mode}
 use Rattle.acn_grammar.specs.Faults.{ask_of, unfit_of}
-use Rattle.acn_grammar.specs.Front.{Front, IsWritten}
+use Rattle.acn_grammar.specs.Front.{IsWritten}
 use Rattle.acn_grammar.specs.Grammar.{Grammar, Data}
 use Rattle.acn_grammar.specs.Meets as meets
 use Rattle.acn_grammar.specs.Refused.{Refused}
 use Rattle.acn_grammar.specs.Spell.{Spell}
-use Rattle.acn_reads.specs.Answers.{OnlyFront}
 use Rattle.acn_plain.specs.declared.encode.PlainFault.{PlainFault}
 use Rattle.acn_plain.specs.declared.encode.PlainFault.TheVariants.{Unfit, NoMemory}
 
 -- nothing else is written for the value
 abbrev pub OnlyWriting : Grammar → Data → List Bool → Type 0
 OnlyWriting root d bs = (other : List Bool) → IsWritten root d other → other ≡ bs
-
--- followed by any bits, these bits are the one front, and nothing fails
-abbrev pub IsReadAgain : Grammar → Data → List Bool → Type 0
-IsReadAgain root d bs = (more : List Bool) → Front root (bs ++ more) d (length bs) × OnlyFront root (bs ++ more) d (length bs)
 
 -- the value is refused for this; want of memory says nothing of it
 abbrev pub Refuses : Grammar → Data → PlainFault → Type 0

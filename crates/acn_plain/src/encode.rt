@@ -10,7 +10,8 @@ ghost use Rattle.acn_grammar.specs.Meets.{Meets};
 ghost use Rattle.acn_grammar.specs.Shaped.{Shaped};
 ghost use Rattle.acn_grammar.specs.View.{grammar_of, data_of};
 ghost use Rattle.acn_packet_laws.specs.Laws.{IsAccepted, TellsSlots};
-ghost use Rattle.acn_plain.specs.Encoded.{OnlyWriting, IsReadAgain, Refuses, OnlyRefusal};
+ghost use Rattle.acn_plain.specs.Encoded.{OnlyWriting, Refuses, OnlyRefusal};
+ghost use Rattle.acn_reads.specs.Answers.{IsReadAgain};
 
 use crate::refusal::halted;
 use acn_asks::{Heard, Moment, hear_all};

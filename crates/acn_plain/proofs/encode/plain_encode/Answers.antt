@@ -5,7 +5,8 @@ use Rattle.acn_grammar.specs.View.{data_of, grammar_of}
 use Rattle.acn_grammar.specs.declared.node.Node.{Node}
 use Rattle.acn_packet_laws.specs.Laws.{IsAccepted}
 use Rattle.acn_tree.specs.declared.tree.Tree.{Tree}
-use Rattle.acn_plain.specs.Encoded.{IsReadAgain, OnlyRefusal, OnlyWriting, Refuses}
+use Rattle.acn_reads.specs.Answers.{IsReadAgain}
+use Rattle.acn_plain.specs.Encoded.{OnlyRefusal, OnlyWriting, Refuses}
 use Rattle.acn_plain.proofs.Encoding.{all_err, all_ok, only_refusal, read_again}
 use Rattle.acn_plain.proofs.encode.plain_encode.Goals as goal
 

@@ -1,0 +1,4 @@
+mod Halting
+mod InFront
+mod Packings
+mod Wholes
