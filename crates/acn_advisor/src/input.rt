@@ -40,14 +40,19 @@ fn advise_on_lines(
     checked: &Checked,
     bytes: &[u8],
     page: &mut Page,
-) -> Result<(), Failed> {
+) -> Result<(), Failed>
+    requires { ItemsNamed (grammar_of checked.now.tree.root) }
+{
+    let Ok(plan) = compile(alloc, checked) else {
+        return Ok(());
+    };
     let Ok(copy) = Vec::from_slice(alloc, bytes) else {
         return Ok(());
     };
     let mut input = SureSource::new(copy, PIECE);
     let mut out = SureSink::new(Vec::new(alloc), PIECE);
     let limit = bytes.len() as u64;
-    match encode_all(alloc, checked, &mut input, &mut out, limit) {
+    match encode_all(alloc, checked, &plan, &mut input, &mut out, limit) {
         Err(StreamFault::BadLine { number, fault }) => {
             let line = line_at(bytes, number);
             put_bad_line(alloc, checked.tree(), line, &fault, page)

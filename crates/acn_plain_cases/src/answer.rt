@@ -2,10 +2,12 @@
 
 ghost use Rattle.std.specs.Prelude.{◌≤◌, length};
 ghost use Rattle.acn_grammar.specs.ItemsNamed.{ItemsNamed};
-ghost use Rattle.acn_grammar.specs.View.{grammar_of};
+ghost use Rattle.acn_grammar.specs.Shaped.{Shaped};
+ghost use Rattle.acn_grammar.specs.View.{grammar_of, data_of};
 ghost use Rattle.acn_reads.specs.declared.answers.TheConstants.{MOST_BYTES};
 
 use crate::drawn::drawn_told;
+use crate::packed::packed;
 use acn_case_lines::{bits_in_words, octets_of, small, wide, word};
 use acn_case_trees::{Built, Sheet, path_in_words, unfit_in_words, value_in_words, value_of};
 use acn_check::{Checked, check};
@@ -107,16 +109,32 @@ fn read(alloc: Global, checked: &Checked, octets: &[u8]) -> Result<String, NoMem
     Ok(format!(in alloc; "by the tree {tree}, by steps {steps}, skimmed {alone}")?)
 }
 
-// What is written for a value.
-fn written(alloc: Global, checked: &Checked, value: &Value) -> Result<String, NoMemory> {
-    if !shaped(checked.tree().root(), value) {
-        return Ok(format!(in alloc; "not shaped")?);
-    }
+// What a walk over the tree writes.
+fn written_by_tree(alloc: Global, checked: &Checked, value: &Value) -> Result<String, NoMemory>
+    requires { Shaped (grammar_of checked.now.tree.root) (data_of value.now) }
+{
     match plain_encode(alloc, checked, value) {
         Ok(bits) => bits_in_words(alloc, &bits),
         Err(PlainFault::Unfit(unfit)) => unfit_in_words(alloc, &unfit),
         Err(PlainFault::NoMemory) => Err(NoMemory),
     }
+}
+
+// What is written for a value: said once where both writers agree.
+fn written(alloc: Global, checked: &Checked, value: &Value) -> Result<String, NoMemory> {
+    if !shaped(checked.tree().root(), value) {
+        return Ok(format!(in alloc; "not shaped")?);
+    }
+    if !items_named(checked.tree()) {
+        return Ok(format!(in alloc; "not named")?);
+    }
+    let plan = compile(alloc, checked)?;
+    let tree = written_by_tree(alloc, checked, value)?;
+    let steps = packed(alloc, checked, &plan, value)?;
+    if tree.as_str() == steps.as_str() {
+        return Ok(tree);
+    }
+    Ok(format!(in alloc; "by the tree {tree}, by steps {steps}")?)
 }
 
 fn write(alloc: Global, checked: &Checked, words: &[&str]) -> Result<String, NoMemory> {

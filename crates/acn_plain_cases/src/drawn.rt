@@ -1,9 +1,14 @@
 //! Values that are drawn, written, and read again.
 
+ghost use Rattle.std.specs.Prelude.{◌≡◌};
+ghost use Rattle.acn_grammar.specs.Interval.{span};
 ghost use Rattle.acn_grammar.specs.ItemsNamed.{ItemsNamed};
 ghost use Rattle.acn_grammar.specs.View.{grammar_of};
+ghost use Rattle.acn_plan.specs.Steps.{steps_of};
 
-use acn_case_trees::value_in_words;
+use crate::packed::packed;
+use acn_case_lines::bits_in_words;
+use acn_case_trees::{unfit_in_words, value_in_words};
 use acn_check::Checked;
 use acn_num::{BitList, Boxed, NoMemory};
 use acn_plain::{PlainFault, plain_decode, plain_encode};
@@ -15,11 +20,11 @@ use std::alloc::Global;
 
 /// What became of a drawn value.
 enum Outcome {
-    /// It was written, and read again as itself, with as many bits.
+    /// It was written alike by both writers, and read again as itself, with as many bits.
     ReadAgain,
-    /// It is refused.
+    /// It is refused alike.
     Refused,
-    /// It was read as something else, or not at all.
+    /// It was read as something else, or not at all, or the writers differ.
     Lost,
 }
 
@@ -82,27 +87,53 @@ fn begin_with(
     is_read(alloc, unpack(alloc, plan, octets), value, length)
 }
 
+// What became of a value that is written as this list, and packed as these words say.
+fn outcome_of_written(
+    alloc: Global,
+    checked: &Checked,
+    plan: &Plan,
+    value: &Value,
+    list: &BitList,
+    packed: &str,
+) -> Result<Outcome, NoMemory>
+    requires { ItemsNamed (grammar_of checked.now.tree.root) }
+{
+    let words = bits_in_words(alloc, list)?;
+    if words.as_str() != packed {
+        return Ok(Outcome::Lost);
+    }
+    let octets = filled_octets(alloc, list)?;
+    if begin_with(alloc, checked, plan, octets.as_slice(), value, list.len())? {
+        Ok(Outcome::ReadAgain)
+    } else {
+        Ok(Outcome::Lost)
+    }
+}
+
 fn outcome_of(
     alloc: Global,
     checked: &Checked,
     plan: &Plan,
     value: &Value,
 ) -> Result<Outcome, NoMemory>
-    requires { ItemsNamed (grammar_of checked.now.tree.root) }
+    requires named { ItemsNamed (grammar_of checked.now.tree.root) }
+    requires planned { plan.now.steps ≡ steps_of (grammar_of checked.now.tree.root) }
+    requires bounds { plan.now.bounds ≡ span (grammar_of checked.now.tree.root) }
 {
     if !shaped(checked.tree().root(), value) {
         return Ok(Outcome::Lost);
     }
+    let words = packed(alloc, checked, plan, value)?;
     match plain_encode(alloc, checked, value) {
-        Ok(list) => {
-            let octets = filled_octets(alloc, &list)?;
-            if begin_with(alloc, checked, plan, octets.as_slice(), value, list.len())? {
-                Ok(Outcome::ReadAgain)
+        Ok(list) => outcome_of_written(alloc, checked, plan, value, &list, words.as_str()),
+        Err(PlainFault::Unfit(unfit)) => {
+            let wanted = unfit_in_words(alloc, &unfit)?;
+            if wanted.as_str() == words.as_str() {
+                Ok(Outcome::Refused)
             } else {
                 Ok(Outcome::Lost)
             }
         }
-        Err(PlainFault::Unfit(_)) => Ok(Outcome::Refused),
         Err(PlainFault::NoMemory) => Err(NoMemory),
     }
 }
@@ -113,7 +144,9 @@ fn next_outcome(
     plan: &Plan,
     draw: &mut Draw,
 ) -> Result<Outcome, NoMemory>
-    requires { ItemsNamed (grammar_of checked.now.tree.root) }
+    requires named { ItemsNamed (grammar_of checked.now.tree.root) }
+    requires planned { plan.now.steps ≡ steps_of (grammar_of checked.now.tree.root) }
+    requires bounds { plan.now.bounds ≡ span (grammar_of checked.now.tree.root) }
 {
     let value = Boxed::new(alloc, make(alloc, checked.tree(), draw)?)?;
     outcome_of(alloc, checked, plan, value.get())

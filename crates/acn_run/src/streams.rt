@@ -81,11 +81,15 @@ pub fn encode<S: Source, O: Sink, E: Sink>(
     out: &mut O,
     err: &mut E,
 ) -> Status
+    requires named { ItemsNamed (grammar_of checked.now.tree.root) }
     ensures { spec.EndsStream (EncodeEnds (grammar_of checked.now.tree.root) MOST_INPUT_BYTES) checked.now.tree (S.rest input.old) (S.rest input.new) (S.faults input.old) (S.faults input.new) (O.taken out.old, O.faults out.old) (O.taken out.new, O.faults out.new) (E.taken err.old, E.faults err.old) (E.taken err.new, E.faults err.new) result }
 {
     if bounds(checked).least == 0 {
         return empty_packet(checked.tree(), err);
     }
-    let ended = encode_all(alloc, checked, input, out, MOST_INPUT_BYTES);
+    let Ok(plan) = compile(alloc, checked) else {
+        return no_memory(err);
+    };
+    let ended = encode_all(alloc, checked, &plan, input, out, MOST_INPUT_BYTES);
     behind_stream(checked, ended, err)
 }

@@ -11,10 +11,11 @@ use Rattle.acn_stream.specs.declared.lines.LineFault.{LineFault}
 use Rattle.acn_stream.specs.declared.lines.LineFault.TheVariants.{Bad, Unfit, NoMemory}
 use Rattle.acn_stream.specs.declared.stream_fault.StreamFault.{StreamFault}
 use Rattle.acn_stream.specs.declared.stream_fault.StreamFault.TheVariants as stream
-use Rattle.acn_supply.specs.Cutting.{Gets, IsEnded, IsLast, ReadsLine}
+use Rattle.acn_supply.specs.Cutting.{Gets, IsEnded, IsJustAhead, IsLast, IsOneLine, ReadsLine}
 use Rattle.acn_supply.specs.Reading.{Supplied}
 use Rattle.acn_supply.specs.declared.lines.NoLine.{NoLine}
 use Rattle.acn_supply.specs.declared.lines.NoLine.TheVariants as no_line
+use Rattle.acn_supply.specs.declared.window.TheConstants.{MOST_IN_HAND}
 use Rattle.acn_supply.proofs.Moving.{takes_nothing, takes_more}
 use Rattle.acn_stream.proofs.Joining.{joined_on, joined_one, gains_nothing}
 
@@ -28,6 +29,14 @@ regrouped front hand given tail e = append_assoc front hand given ∙ ap (λ (t 
 
 fed : (line hand : List ℕ) → line ++ 10 ∷ hand ≡ (line ++ 10 ∷ []) ++ hand
 fed line hand = sym (append_assoc line (10 ∷ []) hand)
+
+-- behind a line stands no more than can be in hand
+ahead_of : (line behind : List ℕ) → IsOneLine line → length behind ≤ MOST_IN_HAND → IsJustAhead (line ++ behind)
+ahead_of line behind one near = record { front = line; behind = behind; whole = refl; one = one; near = near }
+
+-- nothing stands behind it
+alone : (line : List ℕ) → IsOneLine line → IsJustAhead line
+alone line one = record { front = line; behind = []; whole = sym (append-nil line); one = one; near = omega arith }
 
 module _ (g : Grammar) (limit : ℕ) (i i' : Option (List ℕ)) (before : Supplied) (tally : Tally) where
   -- what stands in front, with more behind it
@@ -63,6 +72,7 @@ module _ (g : Grammar) (limit : ℕ) (i i' : Option (List ℕ)) (before : Suppli
         are = subst (Packets g (e.values ++ a.values)) added (joined_on (IsWrittenPacket g) e.values a.values (text ++ old) a.packets e.are a.are);
         lines_are = omega (arith, e.lines_are, length-append e.ls (line ∷ []));
         packets_are = omega (arith, e.packets_are, a.counted, length-append e.values a.values);
+        near = omega (arith, r.near);
       }
 
   -- the last one came
@@ -103,6 +113,7 @@ module _ (g : Grammar) (limit : ℕ) (i i' : Option (List ℕ)) (before : Suppli
     few = few_on i'' after text r.given (line ++ 10 ∷ after.hand) e r.gets r.cut;
     fits = record { one = r.one; few = r.few };
     ends = refl;
+    near = omega (arith, r.near);
     counted = ap (λ (k : ℕ). k + 1) e.lines_are;
     fault = f;
     writes = record { packets = text; give = e.give; are = e.are; written = same };
@@ -123,20 +134,21 @@ module _ (g : Grammar) (limit : ℕ) (i i' : Option (List ℕ)) (before : Suppli
         few = few_on i'' after text r.given (line ++ []) e r.gets whole;
         fits = record { one = r.one; few = r.few };
         ends = r.used_up;
+        near = omega arith;
         counted = ap (λ (k : ℕ). k + 1) e.lines_are;
         fault = f;
         writes = record { packets = text; give = e.give; are = e.are; written = same };
       }
 
   -- memory ran out
-  ran_out : (i'' : Option (List ℕ)) (after : Supplied) (text new given tail : List ℕ) → Encoded g limit i i' before tally text → Gets before after i' i'' given → before.hand ++ given ≡ tail → text ≡ new → CameSome g limit i i'' (λ packets. packets ≡ new)
-  ran_out i'' after text new given tail e gets whole same = record {
+  ran_out : (i'' : Option (List ℕ)) (after : Supplied) (text new given tail : List ℕ) → Encoded g limit i i' before tally text → Gets before after i' i'' given → before.hand ++ given ≡ tail → IsJustAhead tail → text ≡ new → CameSome g limit i i'' (λ packets. packets ≡ new)
+  ran_out i'' after text new given tail e gets whole ahead same = record {
     given = e.front ++ tail;
     ls = e.ls;
     values = e.values;
     taken = taken_on i'' after text given tail e gets whole;
     few = omega (arith, few_on i'' after text given tail e gets whole);
-    came = with_feeds tail (begin_on i'' after text given tail e gets whole);
+    came = with_feeds tail (begin_on i'' after text given tail e gets whole) ahead;
     writes = record { packets = text; give = e.give; are = e.are; written = same };
   }
 
@@ -144,13 +156,13 @@ module _ (g : Grammar) (limit : ℕ) (i i' : Option (List ℕ)) (before : Suppli
       → Ends g limit i i'' (λ packets. packets ≡ text ++ new) (Err (fault_at (tally.lines + 1) fault))
   failed_ended i'' after text line old new (Bad bad) e r same f = at_fault_ended i'' after (text ++ old) line (text ++ new) (λ l. IsBad g l bad) e r (ap (λ (t : List ℕ). text ++ t) (sym same)) f
   failed_ended i'' after text line old new (Unfit unfit) e r same f = at_fault_ended i'' after (text ++ old) line (text ++ new) (λ l. IsUnfit g l unfit) e r (ap (λ (t : List ℕ). text ++ t) (sym same)) f
-  failed_ended i'' after text line old new NoMemory e r same f = ran_out i'' after (text ++ old) (text ++ new) r.given (line ++ 10 ∷ after.hand) e r.gets r.cut (ap (λ (t : List ℕ). text ++ t) (sym same))
+  failed_ended i'' after text line old new NoMemory e r same f = ran_out i'' after (text ++ old) (text ++ new) r.given (line ++ 10 ∷ after.hand) e r.gets r.cut (ahead_of line (10 ∷ after.hand) r.one (omega (arith, r.near))) (ap (λ (t : List ℕ). text ++ t) (sym same))
 
   pub failed_last : (i'' : Option (List ℕ)) (after : Supplied) (text line old new : List ℕ) (fault : LineFault) → Encoded g limit i i' before tally (text ++ old) → IsLast before after i' i'' line → new ≡ old → Fails g line fault
       → Ends g limit i i'' (λ packets. packets ≡ text ++ new) (Err (fault_at (tally.lines + 1) fault))
   failed_last i'' after text line old new (Bad bad) e r same f = at_fault_last i'' after (text ++ old) line (text ++ new) (λ l. IsBad g l bad) e r (ap (λ (t : List ℕ). text ++ t) (sym same)) f
   failed_last i'' after text line old new (Unfit unfit) e r same f = at_fault_last i'' after (text ++ old) line (text ++ new) (λ l. IsUnfit g l unfit) e r (ap (λ (t : List ℕ). text ++ t) (sym same)) f
-  failed_last i'' after text line old new NoMemory e r same f = ran_out i'' after (text ++ old) (text ++ new) r.given line e r.gets r.whole (ap (λ (t : List ℕ). text ++ t) (sym same))
+  failed_last i'' after text line old new NoMemory e r same f = ran_out i'' after (text ++ old) (text ++ new) r.given line e r.gets r.whole (alone line r.one) (ap (λ (t : List ℕ). text ++ t) (sym same))
 
   -- there is no line
   pub no_line_came : (i'' : Option (List ℕ)) (after : Supplied) (text bytes : List ℕ) (why : NoLine) → Encoded g limit i i' before tally text → ReadsLine before after i' i'' (Err why) bytes
@@ -166,6 +178,7 @@ module _ (g : Grammar) (limit : ℕ) (i i' : Option (List ℕ)) (before : Suppli
     few = few_on i'' after text r.given (r.front ++ r.back) e r.gets r.cut;
     one = r.one;
     many = r.many;
+    near = r.near;
     counted = ap (λ (k : ℕ). k + 1) e.lines_are;
     writes = record { packets = text; give = e.give; are = e.are; written = refl };
   }
@@ -195,7 +208,7 @@ module _ (g : Grammar) (limit : ℕ) (i i' : Option (List ℕ)) (before : Suppli
     inside = record { one = r.one; few = r.few };
     writes = record { packets = text; give = e.give; are = e.are; written = refl };
   }
-  no_line_came i'' after text bytes no_line.NoMemory e r = ran_out i'' after text text r.0 (before.hand ++ r.0) e r.1 refl refl
+  no_line_came i'' after text bytes no_line.NoMemory e r = ran_out i'' after text text r.given (before.hand ++ r.given) e r.gets refl r.ahead refl
 
 -- ---- what was written
 
@@ -207,7 +220,7 @@ module _ (g : Grammar) (limit : ℕ) (i i' : Option (List ℕ)) (W V : List ℕ 
   some_so w = record { given = w.given; ls = w.ls; values = w.values; taken = w.taken; few = w.few; came = came_so w.given w.ls w.came; writes = writes_so w.ls w.values w.writes }
     where
       came_so : (given : List ℕ) (ls : List (List ℕ)) → CameWhole g limit i i' W given ls → CameWhole g limit i i' V given ls
-      came_so given ls (with_feeds rest b) = with_feeds rest b
+      came_so given ls (with_feeds rest b ahead) = with_feeds rest b ahead
       came_so given ls (with_last lines used within) = with_last lines used within
 
   at_fault_so : (number : ℕ) (at_fault : List ℕ → Type 0) → IsAtFault g limit i i' W number at_fault → IsAtFault g limit i i' V number at_fault
@@ -222,6 +235,7 @@ module _ (g : Grammar) (limit : ℕ) (i i' : Option (List ℕ)) (W V : List ℕ 
     begin = w.begin;
     fits = w.fits;
     ends = w.ends;
+    near = w.near;
     counted = w.counted;
     fault = w.fault;
     writes = writes_so w.ls w.values w.writes;
@@ -229,7 +243,7 @@ module _ (g : Grammar) (limit : ℕ) (i i' : Option (List ℕ)) (W V : List ℕ 
 
   pub ends_so : (result : Result ℕ StreamFault) → Ends g limit i i' W result → Ends g limit i i' V result
   ends_so (Ok count) w = record { given = w.given; ls = w.ls; values = w.values; taken = w.taken; used_up = w.used_up; lines = w.lines; within = w.within; counted = w.counted; writes = writes_so w.ls w.values w.writes }
-  ends_so (Err (stream.LineTooLong number)) w = record { given = w.given; ls = w.ls; line = w.line; behind = w.behind; values = w.values; taken = w.taken; few = w.few; begin = w.begin; one = w.one; many = w.many; counted = w.counted; writes = writes_so w.ls w.values w.writes }
+  ends_so (Err (stream.LineTooLong number)) w = record { given = w.given; ls = w.ls; line = w.line; behind = w.behind; values = w.values; taken = w.taken; few = w.few; begin = w.begin; one = w.one; many = w.many; near = w.near; counted = w.counted; writes = writes_so w.ls w.values w.writes }
   ends_so (Err stream.InputTooLong) w = record { given = w.given; byte = w.byte; ls = w.ls; rest = w.rest; values = w.values; taken = w.taken; full = w.full; begin = w.begin; inside = w.inside; writes = writes_so w.ls w.values w.writes }
   ends_so (Err stream.EmptyPacket) w = absurd w
   ends_so (Err (stream.Packet number fault)) w = absurd w
@@ -242,21 +256,21 @@ module _ (g : Grammar) (limit : ℕ) (i i' : Option (List ℕ)) (W V : List ℕ 
   -- the lines that came whole, whatever the end
   pub some_came : (result : Result ℕ StreamFault) → Ends g limit i i' W result → CameSome g limit i i' V
   some_came (Ok count) w = record { given = w.given; ls = w.ls; values = w.values; taken = w.taken; few = omega (arith, w.within); came = with_last w.lines w.used_up w.within; writes = writes_so w.ls w.values w.writes }
-  some_came (Err (stream.LineTooLong number)) w = record { given = w.given; ls = w.ls; values = w.values; taken = w.taken; few = omega (arith, w.few); came = with_feeds (w.line ++ w.behind) w.begin; writes = writes_so w.ls w.values w.writes }
+  some_came (Err (stream.LineTooLong number)) w = record { given = w.given; ls = w.ls; values = w.values; taken = w.taken; few = omega (arith, w.few); came = with_feeds (w.line ++ w.behind) w.begin (ahead_of w.line w.behind w.one w.near); writes = writes_so w.ls w.values w.writes }
   some_came (Err stream.InputTooLong) w = record {
     given = w.given ++ w.byte ∷ [];
     ls = w.ls;
     values = w.values;
     taken = w.taken;
     few = omega (arith, w.full, length-append w.given (w.byte ∷ []));
-    came = with_feeds (w.rest ++ w.byte ∷ []) (record { front = w.begin.front; whole = ap (λ (t : List ℕ). t ++ w.byte ∷ []) w.begin.whole ∙ append_assoc w.begin.front w.rest (w.byte ∷ []); lines = w.begin.lines; within = w.begin.within });
+    came = with_feeds (w.rest ++ w.byte ∷ []) (record { front = w.begin.front; whole = ap (λ (t : List ℕ). t ++ w.byte ∷ []) w.begin.whole ∙ append_assoc w.begin.front w.rest (w.byte ∷ []); lines = w.begin.lines; within = w.begin.within }) (ahead_of w.rest (w.byte ∷ []) w.inside.one (omega arith));
     writes = writes_so w.ls w.values w.writes;
   }
   some_came (Err stream.EmptyPacket) w = absurd w
   some_came (Err (stream.Packet number fault)) w = absurd w
-  some_came (Err (stream.BadLine number fault)) w = record { given = w.given; ls = w.ls; values = w.values; taken = w.taken; few = omega (arith, w.few); came = with_feeds (w.line ++ w.behind) w.begin; writes = writes_so w.ls w.values w.writes }
-  some_came (Err (stream.Unfit number fault)) w = record { given = w.given; ls = w.ls; values = w.values; taken = w.taken; few = omega (arith, w.few); came = with_feeds (w.line ++ w.behind) w.begin; writes = writes_so w.ls w.values w.writes }
-  some_came (Err stream.InputFault) w = record { given = w.given; ls = w.ls; values = w.values; taken = w.taken; few = omega (arith, w.few); came = with_feeds w.rest w.begin; writes = writes_so w.ls w.values w.writes }
+  some_came (Err (stream.BadLine number fault)) w = record { given = w.given; ls = w.ls; values = w.values; taken = w.taken; few = omega (arith, w.few); came = with_feeds (w.line ++ w.behind) w.begin (ahead_of w.line w.behind w.fits.one w.near); writes = writes_so w.ls w.values w.writes }
+  some_came (Err (stream.Unfit number fault)) w = record { given = w.given; ls = w.ls; values = w.values; taken = w.taken; few = omega (arith, w.few); came = with_feeds (w.line ++ w.behind) w.begin (ahead_of w.line w.behind w.fits.one w.near); writes = writes_so w.ls w.values w.writes }
+  some_came (Err stream.InputFault) w = record { given = w.given; ls = w.ls; values = w.values; taken = w.taken; few = omega (arith, w.few); came = with_feeds w.rest w.begin (alone w.rest w.inside.one); writes = writes_so w.ls w.values w.writes }
   some_came (Err stream.OutputFault) w = absurd w
   some_came (Err stream.NoMemory) w = some_so w
 
@@ -269,7 +283,7 @@ module _ (g : Grammar) (limit : ℕ) (i i' : Option (List ℕ)) where
     values = e.values;
     taken = e.taken;
     few = omega (arith, e.left);
-    came = with_feeds s.hand (record { front = e.front; whole = refl; lines = e.lines; within = omega (arith, e.left, length-append e.front s.hand) });
+    came = with_feeds s.hand (record { front = e.front; whole = refl; lines = e.lines; within = omega (arith, e.left, length-append e.front s.hand) }) (ahead_of [] s.hand refl e.near);
     writes = record { packets = text; give = e.give; are = e.are; written = all text refl };
   }
   came V s tally text all (Some result) e = some_came g limit i i' (λ packets. packets ≡ text) V all result e
@@ -314,7 +328,7 @@ never_encoded g limit i o = record {
   values = [];
   taken = takes_nothing i;
   few = omega arith;
-  came = with_feeds [] (record { front = []; whole = refl; lines = refl; within = omega arith });
+  came = with_feeds [] (record { front = []; whole = refl; lines = refl; within = omega arith }) (alone [] refl);
   writes = record { packets = []; give = refl; are = refl; written = gains_nothing o };
 }
 

@@ -18,8 +18,9 @@ use Rattle.acn_outside.specs.Whole.{GainsFront}
 use Rattle.acn_stream.specs.Recording.{Joined}
 use Rattle.acn_stream.specs.declared.stream_fault.StreamFault.{StreamFault}
 use Rattle.acn_stream.specs.declared.stream_fault.StreamFault.TheVariants.{LineTooLong, InputTooLong, EmptyPacket, BadLine, Unfit, InputFault, OutputFault, NoMemory}
-use Rattle.acn_supply.specs.Cutting.{IsOneLine}
+use Rattle.acn_supply.specs.Cutting.{IsJustAhead, IsOneLine}
 use Rattle.acn_supply.specs.declared.lines.TheConstants.{MOST_LINE_BYTES}
+use Rattle.acn_supply.specs.declared.window.TheConstants.{MOST_IN_HAND}
 
 -- Packets.
 
@@ -128,6 +129,7 @@ module _ (g : Grammar) (limit : ℕ) (i i' : Option (List ℕ)) (wrote : List �
     pub begin : LinesBegin limit given ls (line ++ behind)
     pub fits : IsLine line
     pub ends : EndsLine i' behind
+    pub near : length behind ≤ MOST_IN_HAND
     pub counted : length ls + 1 ≡ number
     pub fault : at_fault line
     pub writes : Writes ls values
@@ -144,6 +146,7 @@ module _ (g : Grammar) (limit : ℕ) (i i' : Option (List ℕ)) (wrote : List �
     pub begin : LinesBegin limit given ls (line ++ behind)
     pub one : IsOneLine line
     pub many : length line ≡ MOST_LINE_BYTES + 1
+    pub near : length behind ≤ MOST_IN_HAND
     pub counted : length ls + 1 ≡ number
     pub writes : Writes ls values
 
@@ -174,7 +177,7 @@ module _ (g : Grammar) (limit : ℕ) (i i' : Option (List ℕ)) (wrote : List �
 
   -- the lines came whole: those with their line feed, or, where the input is used up, the last one without it too
   pub data CameWhole (given : List ℕ) (ls : List (List ℕ)) : Type 0 where
-    with_feeds : (rest : List ℕ) → LinesBegin limit given ls rest → CameWhole given ls
+    with_feeds : (rest : List ℕ) → LinesBegin limit given ls rest → IsJustAhead rest → CameWhole given ls
     with_last : AreLines ls (given ++ 10 ∷ []) → IsUsedUp i' → length given ≤ limit → CameWhole given ls
 
   -- Lines came, and their packets were written.

@@ -7,7 +7,12 @@ use Rattle.acn_grammar.specs.Meets as meets
 use Rattle.acn_grammar.specs.Refused.{Refused}
 use Rattle.acn_grammar.specs.Spell.{Spell}
 use Rattle.acn_outside.specs.Moves.{Takes}
+use Rattle.acn_grammar.specs.View.{grammar_of}
+use Rattle.acn_lines.specs.Order.{IsOrder}
+use Rattle.acn_plan.specs.Back.{root_of}
 use Rattle.acn_stream.specs.Encoding.{AreLines, Give, Packets, IsWrittenPacket, IsBad, IsUnfit, values_in, Ends}
+use Rattle.acn_stream.specs.Steps.{IsBounded}
+use Rattle.acn_stream.specs.declared.lines.Encoder.{Encoder}
 use Rattle.acn_stream.specs.declared.lines.LineFault.{LineFault}
 use Rattle.acn_stream.specs.declared.lines.LineFault.TheVariants as fault
 use Rattle.acn_stream.specs.declared.encode.Tally.{Tally}
@@ -16,6 +21,17 @@ use Rattle.acn_stream.specs.declared.stream_fault.StreamFault.TheVariants as str
 use Rattle.acn_supply.specs.Reading.{Supplied}
 use Rattle.acn_supply.specs.declared.lines.NoLine.{NoLine}
 use Rattle.acn_supply.specs.declared.lines.NoLine.TheVariants.{TooLong, PastLimit, Failed, NoMemory}
+use Rattle.acn_supply.specs.declared.window.TheConstants.{MOST_IN_HAND}
+
+-- the grammar of the lines and packets
+abbrev pub grammar_by : Encoder → Grammar
+grammar_by by = grammar_of by.checked.now.tree.root
+
+-- the plan and the order are those of the tree, of which each packet has a bit and none is too long
+pub record CanEncode (by : Encoder) : Type 0 where
+  pub planned : root_of by.plan.now.steps ≡ grammar_by by
+  pub bounded : IsBounded (grammar_by by)
+  pub ordered : IsOrder (grammar_by by) by.order.now.order
 
 -- the value isn't written for this reason; want of memory says nothing of it
 abbrev pub RefusesValue : Grammar → Data → LineFault → Type 0
@@ -23,9 +39,9 @@ RefusesValue g d (fault.Bad bad) = ⊥
 RefusesValue g d (fault.Unfit unfit) = Refused g d (unfit_of unfit) × ((other : meets.Unfit) → Refused g d other → other ≡ unfit_of unfit) × ((mode : Mode) (bs : List Bool) → Spell g mode g [] d 0 bs → ⊥)
 RefusesValue g d fault.NoMemory = Unit {0}
 
--- the packet of the value was added, or it is said why not
-abbrev pub PutsValue : Grammar → Data → (old new : List ℕ) → Result (Unit {0}) LineFault → Type 0
-PutsValue g d old new (Ok u) = (piece : List ℕ) × (new ≡ old ++ piece) × IsWrittenPacket g d piece
+-- the one packet of the value was added, or it is said why not
+abbrev pub PutsValue : Grammar → Data → (old new : List ℕ) → Result ℕ LineFault → Type 0
+PutsValue g d old new (Ok count) = (piece : List ℕ) × (new ≡ old ++ piece) × IsWrittenPacket g d piece × (count ≡ 1)
 PutsValue g d old new (Err why) = (new ≡ old) × RefusesValue g d why
 
 -- why the line gives no packet
@@ -62,6 +78,7 @@ pub record Encoded (g : Grammar) (limit : ℕ) (i i' : Option (List ℕ)) (s : S
   pub are : Packets g values text
   pub lines_are : length ls ≡ tally.lines
   pub packets_are : length values ≡ tally.packets
+  pub near : length s.hand ≤ MOST_IN_HAND
 
 -- the counts can be kept: each line has a byte, and no line has two packets
 pub record HasRoom (s : Supplied) (tally : Tally) : Type 0 where

@@ -3,20 +3,21 @@
 ghost use Rattle.std.specs.Prelude.{◌≡◌, ◌↔◌, ◌+◌, ◌^◌, ◌<◌, ◌≤◌, ◌++◌, ℕ, List, [], length, Option, None, Some, Err, IsErrOf};
 ghost use Rattle.acn_grammar.specs.Interval.{span};
 ghost use Rattle.acn_grammar.specs.View.{grammar_of};
-ghost use Rattle.acn_lines.specs.Order.{IsOrder};
 ghost use Rattle.acn_outside.specs.Counts.{Rose};
+ghost use Rattle.acn_plan.specs.Steps.{steps_of};
 ghost use Rattle.acn_stream.specs.Encoding.{EncodeEnds};
 ghost use Rattle.acn_stream.specs.Passing as spec;
-ghost use Rattle.acn_stream.specs.Steps.{IsBounded};
 ghost use Rattle.acn_stream.specs.declared.stream_fault.StreamFault.TheVariants as stream;
 ghost use Rattle.acn_supply.specs.declared.lines.NoLine.TheVariants as no_line;
 
-use crate::lines::{LineFault, put_line};
+use crate::lines::{Encoder, LineFault, Workspace, put_line};
 use crate::stream_fault::StreamFault;
 use acn_bounds::bounds;
 use acn_check::Checked;
 use acn_lines::{Lines, Room};
 use acn_outside::{Sink, Source, write_all};
+use acn_packing::PACKET_OCTETS;
+use acn_plan::{Plan, steps_say_their_root};
 use acn_supply::{Line, NoLine, Supply, read_line};
 use memchr::memchr;
 use std::alloc::Global;
@@ -56,26 +57,22 @@ fn fault_behind(lines: u64, why: NoLine) -> StreamFault
 // Reads a line and adds its packet. An answer says that encoding ended.
 fn take_line<S: Source>(
     alloc: Global,
-    checked: &Checked,
-    order: &Lines,
-    room: &mut Room,
+    by: &Encoder<'_>,
+    space: &mut Workspace,
     supply: &mut Supply,
     input: &mut S,
-    line: &mut Vec<u8>,
-    packets: &mut Vec<u8>,
     tally: &mut Tally,
 ) -> Option<Result<u64, StreamFault>>
-    requires bounded { IsBounded (grammar_of checked.now.tree.root) }
-    requires ordered { IsOrder (grammar_of checked.now.tree.root) order.now.order }
+    requires can { spec.CanEncode by.now }
     requires room { spec.HasRoom supply.old tally.old }
-    ensures goes { (limit : ℕ) (i : Option (List ℕ)) (text : List ℕ) → spec.Encoded (grammar_of checked.now.tree.root) limit i (S.rest input.old) supply.old tally.old (text ++ packets.old.items) → spec.Goes (grammar_of checked.now.tree.root) limit i (S.rest input.new) supply.new tally.new (text ++ packets.new.items) result }
+    ensures goes { (limit : ℕ) (i : Option (List ℕ)) (text : List ℕ) → spec.Encoded (spec.grammar_by by.now) limit i (S.rest input.old) supply.old tally.old (text ++ space.old.packets.items) → spec.Goes (spec.grammar_by by.now) limit i (S.rest input.new) supply.new tally.new (text ++ space.new.packets.items) result }
     ensures room { result ≡ None → spec.HasRoom supply.new tally.new }
     ensures falls { result ≡ None → spec.unread supply.new < spec.unread supply.old }
     ensures count { S.faults input.old ≤ S.faults input.new }
     ensures failed { result ≡ Some (Err stream.InputFault) → Rose (S.faults input.old) (S.faults input.new) }
 {
-    match read_line(supply, input, line) {
-        Ok(Line::Ended) => match put_line(alloc, checked, order, room, line, packets) {
+    match read_line(supply, input, &mut space.line) {
+        Ok(Line::Ended) => match put_line(alloc, by, space) {
             Ok(count) => {
                 tally.lines += 1;
                 tally.packets += count;
@@ -83,7 +80,7 @@ fn take_line<S: Source>(
             }
             Err(fault) => Some(Err(fault_at(tally.lines + 1, fault))),
         },
-        Ok(Line::Last) => match put_line(alloc, checked, order, room, line, packets) {
+        Ok(Line::Last) => match put_line(alloc, by, space) {
             Ok(count) => Some(Ok(tally.packets + count)),
             Err(fault) => Some(Err(fault_at(tally.lines + 1, fault))),
         },
@@ -94,32 +91,26 @@ fn take_line<S: Source>(
 // Takes lines until no more is in hand, or the packets fill a block. An answer says that encoding ended.
 fn take_lines<S: Source>(
     alloc: Global,
-    checked: &Checked,
-    order: &Lines,
-    room: &mut Room,
+    by: &Encoder<'_>,
+    space: &mut Workspace,
     supply: &mut Supply,
     input: &mut S,
-    line: &mut Vec<u8>,
-    packets: &mut Vec<u8>,
     tally: &mut Tally,
 ) -> Option<Result<u64, StreamFault>>
-    requires bounded { IsBounded (grammar_of checked.now.tree.root) }
-    requires ordered { IsOrder (grammar_of checked.now.tree.root) order.now.order }
+    requires can { spec.CanEncode by.now }
     requires room { spec.HasRoom supply.old tally.old }
-    ensures goes { (limit : ℕ) (i : Option (List ℕ)) (text : List ℕ) → spec.Encoded (grammar_of checked.now.tree.root) limit i (S.rest input.old) supply.old tally.old (text ++ packets.old.items) → spec.Goes (grammar_of checked.now.tree.root) limit i (S.rest input.new) supply.new tally.new (text ++ packets.new.items) result }
+    ensures goes { (limit : ℕ) (i : Option (List ℕ)) (text : List ℕ) → spec.Encoded (spec.grammar_by by.now) limit i (S.rest input.old) supply.old tally.old (text ++ space.old.packets.items) → spec.Goes (spec.grammar_by by.now) limit i (S.rest input.new) supply.new tally.new (text ++ space.new.packets.items) result }
     ensures room { result ≡ None → spec.HasRoom supply.new tally.new }
     ensures falls { result ≡ None → spec.unread supply.new < spec.unread supply.old }
     ensures count { S.faults input.old ≤ S.faults input.new }
     ensures failed { result ≡ Some (Err stream.InputFault) → Rose (S.faults input.old) (S.faults input.new) }
 {
     loop {
-        match take_line(
-            alloc, checked, order, room, supply, input, line, packets, tally,
-        ) {
+        match take_line(alloc, by, space, supply, input, tally) {
             None => {}
             Some(result) => return Some(result),
         }
-        if packets.len() >= BLOCK || memchr(b'\n', supply.hand()).is_none() {
+        if space.packets.len() >= BLOCK || memchr(b'\n', supply.hand()).is_none() {
             return None;
         }
     }
@@ -128,44 +119,35 @@ fn take_lines<S: Source>(
 // Encodes what is in hand and what the input gives.
 fn encode_supply<S: Source, O: Sink>(
     alloc: Global,
-    checked: &Checked,
-    order: &Lines,
+    by: &Encoder<'_>,
     supply: &mut Supply,
     input: &mut S,
     out: &mut O,
 ) -> Result<u64, StreamFault>
-    requires bounded { IsBounded (grammar_of checked.now.tree.root) }
-    requires ordered { IsOrder (grammar_of checked.now.tree.root) order.now.order }
+    requires can { spec.CanEncode by.now }
     requires begins { supply.old.hand ≡ [] }
     requires limit { supply.old.left < 2 ^ 64 }
-    ensures ends { EncodeEnds (grammar_of checked.now.tree.root) supply.old.left (S.rest input.old) (S.rest input.new) (O.taken out.old) (O.taken out.new) result }
+    ensures ends { EncodeEnds (spec.grammar_by by.now) supply.old.left (S.rest input.old) (S.rest input.new) (O.taken out.old) (O.taken out.new) result }
     ensures input { S.faults input.old ≤ S.faults input.new }
     ensures output { O.faults out.old ≤ O.faults out.new }
     ensures input_fault { IsErrOf result StreamFault.InputFault → Rose (S.faults input.old) (S.faults input.new) }
     ensures output_fault { IsErrOf result StreamFault.OutputFault → Rose (O.faults out.old) (O.faults out.new) }
     ensures some { IsErrOf result StreamFault.EmptyPacket → ⊥ }
 {
-    let mut room = Room::new(alloc);
-    let mut line = Vec::new(alloc);
-    let mut packets = Vec::new(alloc);
+    let mut space = Workspace {
+        room: Room::new(alloc),
+        line: Vec::new(alloc),
+        packets: Vec::new(alloc),
+        buffer: [0u8; PACKET_OCTETS],
+    };
     let mut tally = Tally {
         lines: 0,
         packets: 0,
     };
     loop {
-        packets.clear();
-        let answer = take_lines(
-            alloc,
-            checked,
-            order,
-            &mut room,
-            supply,
-            input,
-            &mut line,
-            &mut packets,
-            &mut tally,
-        );
-        match write_all(out, &packets) {
+        space.packets.clear();
+        let answer = take_lines(alloc, by, &mut space, supply, input, &mut tally);
+        match write_all(out, &space.packets) {
             Ok(()) => {}
             Err(_) => return Err(StreamFault::OutputFault),
         }
@@ -176,18 +158,16 @@ fn encode_supply<S: Source, O: Sink>(
     }
 }
 
-// Encodes lines, of which `order` holds what they need beside the tree.
+// Encodes lines.
 fn encode_in_order<S: Source, O: Sink>(
     alloc: Global,
-    checked: &Checked,
-    order: &Lines,
+    by: &Encoder<'_>,
     input: &mut S,
     out: &mut O,
     limit: u64,
 ) -> Result<u64, StreamFault>
-    requires bounded { IsBounded (grammar_of checked.now.tree.root) }
-    requires ordered { IsOrder (grammar_of checked.now.tree.root) order.now.order }
-    ensures ends { EncodeEnds (grammar_of checked.now.tree.root) limit (S.rest input.old) (S.rest input.new) (O.taken out.old) (O.taken out.new) result }
+    requires can { spec.CanEncode by.now }
+    ensures ends { EncodeEnds (spec.grammar_by by.now) limit (S.rest input.old) (S.rest input.new) (O.taken out.old) (O.taken out.new) result }
     ensures input { S.faults input.old ≤ S.faults input.new }
     ensures output { O.faults out.old ≤ O.faults out.new }
     ensures input_fault { IsErrOf result StreamFault.InputFault → Rose (S.faults input.old) (S.faults input.new) }
@@ -195,7 +175,7 @@ fn encode_in_order<S: Source, O: Sink>(
     ensures some { IsErrOf result StreamFault.EmptyPacket → ⊥ }
 {
     match Supply::new(alloc, limit) {
-        Ok(mut supply) => encode_supply(alloc, checked, order, &mut supply, input, out),
+        Ok(mut supply) => encode_supply(alloc, by, &mut supply, input, out),
         Err(_) => Err(StreamFault::NoMemory),
     }
 }
@@ -204,8 +184,9 @@ fn encode_in_order<S: Source, O: Sink>(
 /// packets there were. Lines end at a line feed, which the last may lack. A line of spaces, tabs and carriage returns alone is
 /// passed over; it has a number all the same. At most `limit` bytes are read, and one more to see whether the input ends there.
 ///
-/// What all lines of the tree need is made once, before anything is read. Packets are written in blocks, and before each read. The input
-/// is read only where no line feed is in hand.
+/// The plan is that of the tree, as `compile` of `acn_plan` makes it. What all lines of the tree need is made once, before anything is
+/// read. Packets are written in blocks, and before each read. The input is read only where no line feed is in hand. Writing a packet
+/// takes no memory but for the block that it is added to.
 ///
 /// `EmptyPacket` comes exactly where the least bound is 0; then nothing is read. `BadLine` names the first line that gives no value,
 /// with its first fault, and `Unfit` the first whose value is refused, with the one reason, whichever comes first.
@@ -216,10 +197,12 @@ fn encode_in_order<S: Source, O: Sink>(
 pub fn encode_all<S: Source, O: Sink>(
     alloc: Global,
     checked: &Checked,
+    plan: &Plan,
     input: &mut S,
     out: &mut O,
     limit: u64,
 ) -> Result<u64, StreamFault>
+    requires planned { steps_of (grammar_of checked.now.tree.root) ≡ plan.now.steps }
     ensures ends { EncodeEnds (grammar_of checked.now.tree.root) limit (S.rest input.old) (S.rest input.new) (O.taken out.old) (O.taken out.new) result }
     ensures empty { IsErrOf result StreamFault.EmptyPacket ↔ ((span (grammar_of checked.now.tree.root)).least ≡ 0) }
     ensures input_fault { IsErrOf result StreamFault.InputFault → Rose (S.faults input.old) (S.faults input.new) }
@@ -227,11 +210,19 @@ pub fn encode_all<S: Source, O: Sink>(
     ensures input { S.faults input.old ≤ S.faults input.new }
     ensures output { O.faults out.old ≤ O.faults out.new }
 {
+    steps_say_their_root();
     if bounds(checked).least == 0 {
         return Err(StreamFault::EmptyPacket);
     }
     match Lines::new(alloc, checked.tree()) {
-        Ok(order) => encode_in_order(alloc, checked, &order, input, out, limit),
+        Ok(order) => {
+            let by = Encoder {
+                checked,
+                plan,
+                order: &order,
+            };
+            encode_in_order(alloc, &by, input, out, limit)
+        }
         Err(_) => Err(StreamFault::NoMemory),
     }
 }

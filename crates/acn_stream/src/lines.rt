@@ -1,27 +1,43 @@
 //! The packet of a line.
 
-ghost use Rattle.std.specs.Prelude.{◌≡◌, ◌≤◌, ◌++◌, ℕ, List, length, false, OnOk, OnErr};
-ghost use Rattle.acn_num.specs.Bits.{bits as bits_of, filled};
+ghost use Rattle.std.specs.Prelude.{◌≡◌, ◌≤◌, ℕ, List, length, false};
 ghost use Rattle.acn_grammar.specs.Grammar.{Grammar};
 ghost use Rattle.acn_grammar.specs.Shaped.{Shaped};
-ghost use Rattle.acn_grammar.specs.View.{grammar_of, data_of};
-ghost use Rattle.acn_grammar.specs.declared.limits.TheConstants.{MOST_PACKET_BITS};
+ghost use Rattle.acn_grammar.specs.View.{data_of};
 ghost use Rattle.acn_json.specs.Answers.{IsFault};
 ghost use Rattle.acn_json.specs.Reads.{line_gives};
-ghost use Rattle.acn_lines.specs.Order.{IsOrder};
+ghost use Rattle.acn_plan.specs.Back.{root_of};
 ghost use Rattle.acn_stream.specs.Encoding as spec;
-ghost use Rattle.acn_stream.specs.Passing.{PutsLine, PutsValue, Fails};
+ghost use Rattle.acn_stream.specs.Passing.{CanEncode, PutsLine, PutsValue, Fails, grammar_by};
 ghost use Rattle.acn_stream.specs.Steps.{IsBounded};
 ghost use Rattle.acn_supply.specs.declared.lines.TheConstants.{MOST_LINE_BYTES};
 
+use crate::packets::octets_of;
 use acn_check::Checked;
 use acn_grammar::{Unfit, Value};
 use acn_json::JsonFault;
 use acn_lines::{Lines, Room};
-use acn_num::{BitList, NoMemory};
-use acn_octets::filled_octets;
-use acn_plain::{PlainFault, plain_encode};
+use acn_packing::{PACKET_OCTETS, pack};
+use acn_plan::Plan;
 use std::alloc::Global;
+
+/// What lines are encoded by: a tree, its plan, and the order of its members.
+#[derive(Clone, Copy)]
+pub struct Encoder<'a> {
+    pub checked: &'a Checked,
+    pub plan: &'a Plan,
+    pub order: &'a Lines,
+}
+
+/// What is used again from line to line: the room for its tokens, the line, the packets that aren't written yet, and the buffer in which
+/// a packet is made.
+#[derive(Drop)]
+pub struct Workspace {
+    pub room: Room,
+    pub line: Vec<u8>,
+    pub packets: Vec<u8>,
+    pub buffer: [u8; PACKET_OCTETS],
+}
 
 /// Why a line gives no packet.
 #[derive(Drop)]
@@ -42,35 +58,21 @@ fn is_blank(line: &[u8]) -> bool
         .all(|byte| *byte == b' ' || *byte == b'\t' || *byte == b'\r')
 }
 
-// Adds the bits in whole octets.
-fn put_bits(alloc: Global, bits: &BitList, packets: &mut Vec<u8>) -> Result<(), NoMemory>
-    requires { length bits.now ≤ MOST_PACKET_BITS }
-    ensures added { OnOk result ((piece : List ℕ) × (packets.new.items ≡ packets.old.items ++ piece) × (bits_of piece ≡ filled bits.now)) }
-    ensures kept { OnErr result (packets.new.items ≡ packets.old.items) }
+// Adds the one packet of a value.
+fn put_value(plan: &Plan, value: &Value, space: &mut Workspace) -> Result<u64, LineFault>
+    requires bounded { IsBounded (root_of plan.now.steps) }
+    requires shaped { Shaped (root_of plan.now.steps) (data_of value.now) }
+    ensures { PutsValue (root_of plan.now.steps) (data_of value.now) space.old.packets.items space.new.packets.items result }
 {
-    let packet = filled_octets(alloc, bits)?;
-    packets.extend_from_slice(&packet)?;
-    Ok(())
-}
-
-// Adds the packet of a value.
-fn put_value(
-    alloc: Global,
-    checked: &Checked,
-    value: &Value,
-    packets: &mut Vec<u8>,
-) -> Result<(), LineFault>
-    requires shaped { Shaped (grammar_of checked.now.tree.root) (data_of value.now) }
-    requires bounded { IsBounded (grammar_of checked.now.tree.root) }
-    ensures { PutsValue (grammar_of checked.now.tree.root) (data_of value.now) packets.old.items packets.new.items result }
-{
-    match plain_encode(alloc, checked, value) {
-        Ok(bits) => match put_bits(alloc, &bits, packets) {
-            Ok(()) => Ok(()),
-            Err(_) => Err(LineFault::NoMemory),
-        },
-        Err(PlainFault::Unfit(unfit)) => Err(LineFault::Unfit(unfit)),
-        Err(PlainFault::NoMemory) => Err(LineFault::NoMemory),
+    match pack(plan, value, &mut space.buffer) {
+        Ok(bits) => {
+            let size = octets_of(bits);
+            match space.packets.extend_from_slice(&space.buffer[..size]) {
+                Ok(()) => Ok(1),
+                Err(_) => Err(LineFault::NoMemory),
+            }
+        }
+        Err(unfit) => Err(LineFault::Unfit(unfit)),
     }
 }
 
@@ -88,28 +90,20 @@ fn bad(fault: JsonFault) -> LineFault
     }
 }
 
-/// Adds the packet of a line, and answers how many these are: none of a blank line, else one.
-pub fn put_line(
-    alloc: Global,
-    checked: &Checked,
-    order: &Lines,
-    room: &mut Room,
-    line: &[u8],
-    packets: &mut Vec<u8>,
-) -> Result<u64, LineFault>
-    requires bounded { IsBounded (grammar_of checked.now.tree.root) }
-    requires ordered { IsOrder (grammar_of checked.now.tree.root) order.now.order }
-    requires few { length line.now ≤ MOST_LINE_BYTES }
-    ensures { PutsLine (grammar_of checked.now.tree.root) line.now packets.old.items packets.new.items result }
+/// Adds the packet of the line, and answers how many these are: none of a blank line, else one.
+pub fn put_line(alloc: Global, by: &Encoder<'_>, space: &mut Workspace) -> Result<u64, LineFault>
+    requires can { CanEncode by.now }
+    requires few { length space.old.line.items ≤ MOST_LINE_BYTES }
+    ensures { PutsLine (grammar_by by.now) space.old.line.items space.old.packets.items space.new.packets.items result }
 {
-    if is_blank(line) {
+    if is_blank(&space.line) {
         return Ok(0);
     }
-    match order.take(alloc, checked.tree(), room, line) {
-        Ok(value) => match put_value(alloc, checked, &value, packets) {
-            Ok(()) => Ok(1),
-            Err(fault) => Err(fault),
-        },
+    match by
+        .order
+        .take(alloc, by.checked.tree(), &mut space.room, &space.line)
+    {
+        Ok(value) => put_value(by.plan, &value, space),
         Err(fault) => Err(bad(fault)),
     }
 }

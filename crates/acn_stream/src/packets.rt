@@ -35,8 +35,8 @@ pub enum Pause {
     NoMemory,
 }
 
-// The least count of octets that holds the bits.
-fn octets_of(bits: u64) -> usize
+/// The least count of octets that holds the bits.
+pub fn octets_of(bits: u64) -> usize
     requires { bits ≤ 8 * MOST_IN_HAND }
     ensures { result ≡ octets bits }
 {

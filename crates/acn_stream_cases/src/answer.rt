@@ -81,7 +81,10 @@ fn encode(
     if !items_named(checked.tree()) {
         return Err(StreamFault::NoMemory);
     }
-    encode_all(alloc, checked, input, out, setting.limit)
+    match compile(alloc, checked) {
+        Ok(plan) => encode_all(alloc, checked, &plan, input, out, setting.limit),
+        Err(_) => Err(StreamFault::NoMemory),
+    }
 }
 
 fn explain(

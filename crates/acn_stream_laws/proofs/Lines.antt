@@ -79,7 +79,7 @@ module _ (g : Grammar) where
     begun given before rest t b = let on = others_of given before rest (left_of bytes given i' t) b in record { others = on.others; whole = on.whole }
 
     came_whole : (V : List ℕ → Type 0) (given : List ℕ) (before : List (List ℕ)) → Takes (Some bytes) i' given → CameWhole g limit (Some bytes) i' V given before → IsFront before ls
-    came_whole V given before t (with_feeds rest b) = begun given before rest t b
+    came_whole V given before t (with_feeds rest b ahead) = begun given before rest t b
     came_whole V given before t (with_last h used few) = record { others = []; whole = sym (append-nil before ∙ all_lines given before t used h) }
 
     module _ (give : Give g ls values) (writings : AllByRecursion (HasWriting g) values) where

@@ -11,6 +11,7 @@ use Rattle.acn_supply.proofs.Moving.{takes_nothing, takes_more}
 use Rattle.acn_supply.specs.declared.lines.NoLine.{NoLine}
 use Rattle.acn_supply.specs.declared.lines.NoLine.TheVariants.{TooLong, PastLimit, Failed, NoMemory}
 use Rattle.acn_supply.specs.declared.lines.TheConstants.{MOST_LINE_BYTES}
+use Rattle.acn_supply.specs.declared.window.TheConstants.{MOST_IN_HAND}
 
 -- ---- line feeds
 
@@ -80,8 +81,8 @@ grows_on before mid after i i' i'' line s m = record {
   few = s.few;
 }
 
-pub too_long : (before now mid : Supplied) (i i' : Option (List ℕ)) (line : List ℕ) → SoFar before now i i' line → FindsTooMuch now.hand line → mid.left ≡ now.left → IsTooLong before mid i i'
-too_long before now mid i i' line s f left = record {
+pub too_long : (before now mid : Supplied) (i i' : Option (List ℕ)) (line : List ℕ) → SoFar before now i i' line → FindsTooMuch now.hand line → mid.left ≡ now.left → length now.hand ≤ MOST_IN_HAND → IsTooLong before mid i i'
+too_long before now mid i i' line s f left near = record {
   given = s.given;
   front = line ++ f.front;
   back = f.back;
@@ -89,10 +90,15 @@ too_long before now mid i i' line s f left = record {
   cut = s.whole ∙ ap (λ (t : List ℕ). line ++ t) f.cut ∙ sym (append_assoc line f.front f.back);
   one = one_append line f.front s.one f.one;
   many = f.many;
+  near = omega (arith, near, ap length f.cut, length-append f.front f.back);
 }
 
-pub gets_some : (before now mid : Supplied) (i i' : Option (List ℕ)) (line : List ℕ) → SoFar before now i i' line → mid.left ≡ now.left → GetsSome before mid i i'
-gets_some before now mid i i' line s left = (s.given, record { taken = s.taken; counted = omega (arith, s.counted, left) })
+pub gets_some : (before now mid : Supplied) (i i' : Option (List ℕ)) (line : List ℕ) → SoFar before now i i' line → mid.left ≡ now.left → length now.hand ≤ MOST_IN_HAND → GetsSome before mid i i'
+gets_some before now mid i i' line s left near = record {
+  given = s.given;
+  gets = record { taken = s.taken; counted = omega (arith, s.counted, left) };
+  ahead = record { front = line; behind = now.hand; whole = s.whole; one = s.one; near = near };
+}
 
 -- ---- a step through what is in hand
 
@@ -114,8 +120,8 @@ append_stops hand left piece tail old new NoMemory a whole one few = tt
 append_stops hand left piece tail old new PastLimit a whole one few = absurd a
 append_stops hand left piece tail old new Failed a whole one few = absurd a
 
-pub stopped : (before now mid : Supplied) (i i' : Option (List ℕ)) (line new : List ℕ) (f : NoLine) → SoFar before now i i' line → StepsOn (Err f) now.hand mid.hand line new → mid.left ≡ now.left → ReadsLine before mid i i' (Err f) new
-stopped before now mid i i' line new TooLong s f left = too_long before now mid i i' line s f left
-stopped before now mid i i' line new NoMemory s f left = gets_some before now mid i i' line s left
-stopped before now mid i i' line new PastLimit s f left = absurd f
-stopped before now mid i i' line new Failed s f left = absurd f
+pub stopped : (before now mid : Supplied) (i i' : Option (List ℕ)) (line new : List ℕ) (f : NoLine) → SoFar before now i i' line → StepsOn (Err f) now.hand mid.hand line new → mid.left ≡ now.left → length now.hand ≤ MOST_IN_HAND → ReadsLine before mid i i' (Err f) new
+stopped before now mid i i' line new TooLong s f left near = too_long before now mid i i' line s f left near
+stopped before now mid i i' line new NoMemory s f left near = gets_some before now mid i i' line s left near
+stopped before now mid i i' line new PastLimit s f left near = absurd f
+stopped before now mid i i' line new Failed s f left near = absurd f

@@ -8,10 +8,19 @@ use Rattle.acn_supply.specs.declared.lines.Line.TheVariants as line
 use Rattle.acn_supply.specs.declared.lines.NoLine.{NoLine}
 use Rattle.acn_supply.specs.declared.lines.NoLine.TheVariants.{TooLong, PastLimit, Failed, NoMemory}
 use Rattle.acn_supply.specs.declared.lines.TheConstants.{MOST_LINE_BYTES}
+use Rattle.acn_supply.specs.declared.window.TheConstants.{MOST_IN_HAND}
 
 -- no line feed is among the bytes
 abbrev pub IsOneLine : List ℕ → Type 0
 IsOneLine bytes = IsTrue (list_all (λ b. not (b == 10)) bytes)
+
+-- no more than can be in hand stands behind a front of one line
+pub record IsJustAhead (bytes : List ℕ) : Type 0 where
+  pub front : List ℕ
+  pub behind : List ℕ
+  pub whole : bytes ≡ front ++ behind
+  pub one : IsOneLine front
+  pub near : length behind ≤ MOST_IN_HAND
 
 -- What a step to the next line did: `before` was in hand and `after` is, and of the input `given` was taken.
 module _ (before after : Supplied) (i i' : Option (List ℕ)) where
@@ -27,6 +36,7 @@ module _ (before after : Supplied) (i i' : Option (List ℕ)) where
     pub cut : before.hand ++ given ≡ bytes ++ 10 ∷ after.hand
     pub one : IsOneLine bytes
     pub few : length bytes ≤ MOST_LINE_BYTES
+    pub near : length after.hand < MOST_IN_HAND
 
   -- the input ends with these bytes, which may be none
   pub record IsLast (bytes : List ℕ) : Type 0 where
@@ -47,6 +57,7 @@ module _ (before after : Supplied) (i i' : Option (List ℕ)) where
     pub cut : before.hand ++ given ≡ front ++ back
     pub one : IsOneLine front
     pub many : length front ≡ MOST_LINE_BYTES + 1
+    pub near : length back ≤ MOST_IN_HAND
 
   -- the bytes up to the limit end inside a line, or at its end, and one byte more came
   pub record IsPast : Type 0 where
@@ -64,9 +75,11 @@ module _ (before after : Supplied) (i i' : Option (List ℕ)) where
     pub one : IsOneLine (before.hand ++ given)
     pub few : length (before.hand ++ given) ≤ MOST_LINE_BYTES
 
-  -- these bytes were taken
-  abbrev pub GetsSome : Type 0
-  GetsSome = (given : List ℕ) × Gets given
+  -- some bytes were taken
+  pub record GetsSome : Type 0 where
+    pub given : List ℕ
+    pub gets : Gets given
+    pub ahead : IsJustAhead (before.hand ++ given)
 
   abbrev pub ReadsLine : Result Line NoLine → (bytes : List ℕ) → Type 0
   ReadsLine (Ok line.Ended) bytes = IsEnded bytes

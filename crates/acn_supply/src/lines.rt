@@ -4,6 +4,7 @@ ghost use Rattle.std.specs.Prelude.{◌≡◌, ◌+◌, ◌<◌, ◌≤◌, ◌+
 ghost use Rattle.acn_outside.specs.Counts.{Rose};
 ghost use Rattle.acn_supply.specs.Cutting as spec;
 ghost use Rattle.acn_supply.specs.declared.lines.TheConstants.{MOST_LINE_BYTES};
+ghost use Rattle.acn_supply.specs.declared.window.TheConstants.{MOST_IN_HAND};
 
 use crate::supply::{More, Supply};
 use acn_outside::Source;
@@ -59,6 +60,7 @@ fn step(supply: &mut Supply, line: &mut Vec<u8>) -> Result<bool, NoLine>
     requires { length line.old.items ≤ MOST_LINE_BYTES }
     ensures moved { spec.StepsOn result supply.old.hand supply.new.hand line.old.items line.new.items }
     ensures left { supply.new.left ≡ supply.old.left }
+    ensures near { length supply.old.hand ≤ MOST_IN_HAND }
 {
     let hand = supply.hand();
     match feed_in(hand) {

@@ -5,33 +5,13 @@ use Rattle.acn_grammar.specs.Grammar.{Grammar, Data}
 use Rattle.acn_grammar.specs.Meets.{Unfit}
 use Rattle.acn_grammar.specs.Refused.{Refused}
 use Rattle.acn_grammar.specs.declared.limits.TheConstants.{MOST_PACKET_BITS}
-use Rattle.acn_plain.specs.Encoded.{IsReadAgain}
-use Rattle.acn_plan.specs.Steps.{steps_of}
-use Rattle.acn_plan.specs.declared.step.Step.{Step}
 use Rattle.acn_work.specs.declared.summary.Summary.{Summary}
 use Rattle.acn_work.specs.declared.trying.Outcome.{Outcome}
 use Rattle.acn_work.specs.declared.trying.Outcome.TheVariants as outcome
 
--- what is written has no more bits than a packet may have
-abbrev pub WritesShort : Grammar → Type 0
-WritesShort g = (d : Data) (bs : List Bool) → IsWritten g d bs → length bs ≤ MOST_PACKET_BITS
-
 -- a value is at the front of the bits
 abbrev pub HasFront : Grammar → (input : List Bool) → Type 0
 HasFront g input = (d : Data) × (n : ℕ) × Front g input d n
-
--- by the grammar of these steps a value is at the front of the bits
-pub record HasFrontBy (steps : List Step) (input : List Bool) : Type 0 where
-  pub root : Grammar
-  pub planned : steps_of root ≡ steps
-  pub there : HasFront root input
-
--- by the grammar of these steps the bits are what is written for a value, and are read again as it
-pub record IsReadAgainBy (steps : List Step) (bs : List Bool) : Type 0 where
-  pub root : Grammar
-  pub planned : steps_of root ≡ steps
-  pub value : Data
-  pub again : IsReadAgain root value bs
 
 -- what came of the value
 abbrev pub CameOf : Grammar → Data → Outcome → Type 0

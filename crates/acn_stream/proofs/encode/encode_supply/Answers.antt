@@ -5,35 +5,35 @@ use Rattle.acn_stream.proofs.encode.encode_supply.Goals as goal
 
 pub returns-in-Err-clause-ends : goal.returns-in-Err-clause-ends
 returns-in-Err-clause-ends g c =
-    let so = c.loop-packets.invariant.so_far in
+    let so = c.loop-space.invariant.so_far in
     let goes = c.take_lines-answer.ensures.goes _ _ so.0 (collected _ _ _ _ _ _ _ _ so.2 c.clear.ensures.items) in
     cut_short _ _ _ _ _ _ _ _ _ _ _ _ so.1 (rw c.deref.ensures.value at c.in-Err.ensures.front) goes
 
-pub loop-packets-preserved : goal.loop-packets-preserved
-loop-packets-preserved g c =
-    let so = c.loop-packets.invariant.so_far in
+pub loop-space-preserved : goal.loop-space-preserved
+loop-space-preserved g c =
+    let so = c.loop-space.invariant.so_far in
     let goes = c.take_lines-answer.ensures.goes _ _ so.0 (collected _ _ _ _ _ _ _ _ so.2 c.clear.ensures.items) in
     record {
-      so_far = (so.0 ++ c.take_lines-answer.new.packets.items, gains_more _ _ _ _ _ so.1 (rw c.deref.ensures.value at c.in-Ok.ensures.written), rw c.in-None.is at goes);
+      so_far = (so.0 ++ c.take_lines-answer.new.space.packets.items, gains_more _ _ _ _ _ so.1 (rw c.deref.ensures.value at c.in-Ok.ensures.written), rw c.in-None.is at goes);
       room = c.take_lines-answer.ensures.room c.in-None.is;
-      input = omega (arith, c.loop-packets.invariant.input, c.take_lines-answer.ensures.count);
-      output = omega (arith, c.loop-packets.invariant.output, c.in-Ok.ensures.count);
+      input = omega (arith, c.loop-space.invariant.input, c.take_lines-answer.ensures.count);
+      output = omega (arith, c.loop-space.invariant.output, c.in-Ok.ensures.count);
     }
 
 pub returns-in-Some-clause-ends : goal.returns-in-Some-clause-ends
 returns-in-Some-clause-ends g c =
-    let so = c.loop-packets.invariant.so_far in
+    let so = c.loop-space.invariant.so_far in
     let goes = c.take_lines-answer.ensures.goes _ _ so.0 (collected _ _ _ _ _ _ _ _ so.2 c.clear.ensures.items) in
     all_ends _ _ _ _ _ _ _ _ (gains_more _ _ _ _ _ so.1 (rw c.deref.ensures.value at c.in-Ok.ensures.written)) (rw c.in-Some.is at goes)
 
 pub returns-in-Some-clause-output_fault : goal.returns-in-Some-clause-output_fault
 returns-in-Some-clause-output_fault g c h =
-    let so = c.loop-packets.invariant.so_far in
+    let so = c.loop-space.invariant.so_far in
     let goes = c.take_lines-answer.ensures.goes _ _ so.0 (collected _ _ _ _ _ _ _ _ so.2 c.clear.ensures.items) in
     absurd (no_output_fault _ _ _ _ _ _ (rw c.in-Some.is at goes) h)
 
 pub returns-in-Some-clause-some : goal.returns-in-Some-clause-some
 returns-in-Some-clause-some g c h =
-    let so = c.loop-packets.invariant.so_far in
+    let so = c.loop-space.invariant.so_far in
     let goes = c.take_lines-answer.ensures.goes _ _ so.0 (collected _ _ _ _ _ _ _ _ so.2 c.clear.ensures.items) in
     no_empty_packet _ _ _ _ _ _ (rw c.in-Some.is at goes) h

@@ -1,11 +1,10 @@
 use Rattle.std.proofs.Common.{◌≤◌, ◌++◌, ℕ, List, Option}
-use Rattle.acn_grammar.specs.View.{grammar_of}
-use Rattle.acn_stream.specs.Passing.{Encoded, HasRoom, unread}
+use Rattle.acn_stream.specs.Passing.{Encoded, HasRoom, grammar_by, unread}
 use Rattle.acn_stream.proofs.encode.take_lines.Given as goal
 
 abbrev pub invariant-loop-result : goal.invariant-loop-result
 invariant-loop-result g l = record {
-  goes : (limit : ℕ) (i : Option (List ℕ)) (text : List ℕ) → Encoded (grammar_of l.checked.tree.root) limit i (g.S.Source.rest l.fn.input) l.fn.supply l.fn.tally (text ++ l.fn.packets.items) → Encoded (grammar_of l.checked.tree.root) limit i (g.S.Source.rest l.input) l.supply l.tally (text ++ l.packets.items);
+  goes : (limit : ℕ) (i : Option (List ℕ)) (text : List ℕ) → Encoded (grammar_by l.by) limit i (g.S.Source.rest l.fn.input) l.fn.supply l.fn.tally (text ++ l.fn.space.packets.items) → Encoded (grammar_by l.by) limit i (g.S.Source.rest l.input) l.supply l.tally (text ++ l.space.packets.items);
   room : HasRoom l.supply l.tally;
   falls : unread l.supply ≤ unread l.fn.supply;
   count : g.S.Source.faults l.fn.input ≤ g.S.Source.faults l.input;

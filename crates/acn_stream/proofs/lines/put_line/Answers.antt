@@ -1,13 +1,14 @@
-use Rattle.std.proofs.Common.{◌∙◌, sym, subst}
-use Rattle.acn_grammar.specs.View.{grammar_of, data_of}
-use Rattle.acn_lines.specs.Order.{IsOrder}
-use Rattle.acn_stream.proofs.LinesGiving.{adds_one}
-use Rattle.acn_tree.specs.declared.tree.Tree.{Tree}
+use Rattle.std.proofs.Common.{◌∙◌, sym}
+use Rattle.acn_grammar.specs.View.{data_of}
+use Rattle.acn_plan.specs.Back.{root_of}
+use Rattle.acn_stream.specs.Passing.{PutsValue, grammar_by}
+use Rattle.acn_stream.proofs.LinesGiving.{puts_line}
 use Rattle.acn_stream.proofs.lines.put_line.Goals as goal
 
-pub take-requires-clause-order : goal.take-requires-clause-order
-take-requires-clause-order c = subst (λ (t : Tree). IsOrder (grammar_of t.root) c.args.order.now.order) (sym c.tree.ensures.same) c.requires.ordered
-
-pub returns-in-Ok-put_value : goal.returns-in-Ok-put_value
-returns-in-Ok-put_value c =
-    adds_one (grammar_of c.args.checked.now.tree.root) c.args.line.now (data_of c.in-Ok.value) _ _ (sym c.is_blank.ensures ∙ c.if-is_blank.false) (rw c.tree.ensures.same at c.in-Ok.ensures.gives) c.in-Ok-put_value.ensures
+pub returns-in-Ok : goal.returns-in-Ok
+returns-in-Ok c =
+    let old = c.args.space.now.packets.items in
+    let puts : PutsValue (root_of c.args.by.now.plan.now.steps) (data_of c.in-Ok.value) old c.put_value.new.space.packets.items c.put_value.result = c.put_value.ensures in
+    let gives = rw (c.tree.ensures.same, c.deref-2.ensures.value) at c.in-Ok.ensures.gives in
+    let blank = rw c.deref.ensures.value at (sym c.is_blank.ensures ∙ c.if-is_blank.false) in
+    puts_line (grammar_by c.args.by.now) c.args.space.now.line.items (data_of c.in-Ok.value) old _ c.put_value.result blank gives (rw c.requires.can.planned at puts)

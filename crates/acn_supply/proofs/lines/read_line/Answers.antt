@@ -10,7 +10,7 @@ loop-no_line-init g c = record {
 
 pub returns-in-Err-clause-read : goal.returns-in-Err-clause-read
 returns-in-Err-clause-read g c =
-    stopped c.args.supply.now c.loop-no_line.supply c.step.new.supply _ _ c.loop-no_line.line.items c.step.new.line.items c.in-Err.no_line c.loop-no_line.invariant.so_far c.in-Err.ensures.moved c.in-Err.ensures.left
+    stopped c.args.supply.now c.loop-no_line.supply c.step.new.supply _ _ c.loop-no_line.line.items c.step.new.line.items c.in-Err.no_line c.loop-no_line.invariant.so_far c.in-Err.ensures.moved c.in-Err.ensures.left c.step.ensures.near
 
 pub loop-no_line-preserved : goal.loop-no_line-preserved
 loop-no_line-preserved g c =

@@ -1,8 +1,9 @@
-use Rattle.std.proofs.Common.{◌-◌, ◌+◌, sym, subst, arith}
+use Rattle.std.proofs.Common.{◌≡◌, ◌-◌, ◌+◌, List, sym, subst, arith}
 use Rattle.acn_grammar.specs.View.{grammar_of}
+use Rattle.acn_plan.specs.Back.{root_of}
+use Rattle.acn_plan.specs.declared.step.Step.{Step}
 use Rattle.acn_work.specs.Summaries.{values_made}
 use Rattle.acn_work.specs.declared.summary.Summary.{Summary}
-use Rattle.acn_work.proofs.Reading.{writes_short}
 use Rattle.acn_work.proofs.Tallies.{Adds, grows, turn, end}
 use Rattle.acn_work.proofs.working.work.Goals as goal
 
@@ -31,5 +32,10 @@ returns c =
       tallied = end g (values_made g c.args.start c.args.count) l.summary c.args.count l.counter l.draw c.loop-test.false l.invariant.adds;
     }
 
-pub next_outcome-requires-clause-writes : goal.next_outcome-requires-clause-writes
-next_outcome-requires-clause-writes c = writes_short (grammar_of c.args.checked.now.tree.root) c.bounds-bounds.result c.bounds-bounds.ensures.between c.bounds-bounds.ensures.short
+pub next_outcome-requires-clause-fits : goal.next_outcome-requires-clause-fits
+next_outcome-requires-clause-fits c = rw c.bounds-bounds.ensures.exact at c.bounds-bounds.ensures.short
+
+pub next_outcome-requires-clause-planned : goal.next_outcome-requires-clause-planned
+next_outcome-requires-clause-planned c =
+    let g = grammar_of c.args.checked.now.tree.root in
+    subst (λ (steps : List Step). root_of steps ≡ g) c.requires.planned (c.steps_say_their_root.ensures g)

@@ -1,6 +1,0 @@
-//! Bits as whole octets.
-#![tactic(auto)]
-
-mod octets;
-
-pub use octets::filled_octets;
