@@ -3,15 +3,15 @@ use Rattle.std.proofs.Common.{◌≡◌, ℕ, zero, suc, ◌-◌, ◌*◌, ◌<�
 use Rattle.std.proofs.lemmas.Bool.{and_parts, and_from}
 use Rattle.std.proofs.lemmas.Bool.Decides.{nat_tests}
 use Rattle.std.proofs.lemmas.Int.{ints}
-use Rattle.std.specs.Prelude.{◌≤ℤ◌, ◌%◌, ◌/◌, replicate, slice_get, position}
+use Rattle.std.specs.Prelude.{◌≤ℤ◌, ◌%◌, ◌/◌, is_none, if◌then◌else◌, replicate, slice_get, position}
 use Rattle.std.specs.List.{position_or_len}
 use Rattle.acn_num.specs.Bits.{number}
 use Rattle.acn_num.specs.Ranges.{In, Ranges, has}
 use Rattle.acn_grammar.specs.Code.{in_octets}
 use Rattle.acn_grammar.specs.Grammar.{Grammar, Form, Fields, Alternatives, Data, Places, Elements, node, num, octets, bits, text, seq, list, choice, contained, no_fields, component, inserted, no_alternatives, alternative, octet_string, bit_string, characters, record_of, list_of, alt, no_places, empty, filled, no_elements, element, element_count}
 use Rattle.acn_grammar.specs.Leaves.{set_fine, is_range, items_fine, text_fine, end_fine}
-use Rattle.acn_grammar.specs.Length.{number_of, ending}
-use Rattle.acn_grammar.specs.Meets.{Unfit, Why, unless, out_of_range, size_out_of_range, size_breach, end_breach, text_breach, at_path, run_breaches, breaches, form_breaches, field_breaches, alternative_breaches, Meets}
+use Rattle.acn_grammar.specs.Length.{number_of, ending, least}
+use Rattle.acn_grammar.specs.Meets.{Unfit, Why, first_end, unless, out_of_range, size_out_of_range, size_breach, end_breach, text_breach, at_path, run_breaches, breaches, form_breaches, field_breaches, alternative_breaches, Meets}
 use Rattle.acn_grammar.specs.Scoped.{Known, with_slot, with_own, after, choose_known}
 use Rattle.acn_grammar.specs.Shaped.{may_be_absent, num_fits, are_octets, each_element, fits, form_fits, fields_fit, alternative_fits}
 use Rattle.acn_grammar.specs.Sound.{Sound, FormSound, FieldsSound, AlternativesSound}
@@ -30,14 +30,14 @@ use Rattle.acn_grammar.proofs.FineLeaves.{rules_of}
 use Rattle.acn_grammar.proofs.HasImage.{range_within}
 use Rattle.acn_grammar.proofs.Octets.{octets_whole}
 use Rattle.acn_grammar.proofs.TextRules.{text_rules, end_rules}
-use Rattle.acn_extreme_laws.specs.Best.{number_data, character_by, character_of}
+use Rattle.acn_extreme_laws.specs.Best.{number_data, can_stand, other_by, character_by, character_of}
 use Rattle.acn_extreme_laws.specs.Codes.{number_at}
 use Rattle.acn_extreme_laws.specs.Reach.{natural, can_be_away}
 use Rattle.acn_extreme_laws.specs.declared.side.Side.{Side}
 use Rattle.acn_extreme_laws.proofs.BestLength.{leaf_back}
 use Rattle.acn_extreme_laws.proofs.Chosen.{RunBest, ListBest, IsBest, FormBest, FieldsBest, CaseBest}
 use Rattle.acn_extreme_laws.proofs.Codes.{number_permitted}
-use Rattle.acn_extreme_laws.proofs.Parts.{repeated_texts_have_no_end}
+use Rattle.acn_extreme_laws.proofs.Parts.{repeated_texts_have_no_end, one_repeats}
 use Rattle.acn_extreme_laws.proofs.Ready.{TextReady, Ready, FormReady, FieldsReady, CasesReady, least_character}
 use Rattle.acn_extreme_laws.proofs.Sizes.{lies_within}
 use Rattle.acn_extreme_laws.proofs.Tuples.{first_two, second_three, third_four, fourth_five, last_two, last_three, last_four, last_five}
@@ -91,22 +91,37 @@ octet_there end [] e l = absurd (none (ap (λ (z : List (List Bool)). length (ma
     none q = omega (arith, l)
 octet_there end (o ∷ os) e l = (o, map number os, ap (λ (z : List (List Bool)). slice_get z 0) e, ap (λ (z : List (List Bool)). map number z) e)
 
-ends_fit : (leaf : TextLeaf) → text_fine leaf ≡ true → (o : Option (List Bool)) → leaf.ended ≡ o → TextReady o leaf → (n : ℕ) → end_breach o (replicate n (character_by o leaf.alphabet)) ≡ []
-ends_fit leaf fine None is h n = refl
-ends_fit leaf fine (Some end) is h n =
+-- a text of the character that is taken has no end inside, and the character is of the alphabet
+record CanRepeat (leaf : TextLeaf) (o : Option (List Bool)) (c : ℕ) : Type 0 where
+  ends_late : (n : ℕ) → end_breach o (replicate n c) ≡ []
+  permitted : In leaf.alphabet (pos c)
+
+other_repeats : (leaf : TextLeaf) → text_fine leaf ≡ true → (end : List Bool) → leaf.ended ≡ Some end → TextReady (Some end) leaf → CanRepeat leaf (Some end) (other_by end leaf.alphabet)
+other_repeats leaf fine end is h =
     let r = end_rules leaf end (ap (λ o. end_fine o leaf) (sym is) ∙ (text_rules leaf fine).end) in
     let whole = octets_whole end (rest (length end) (length end / 8) r.octets) in
     let some = r.some in
     let eight = r.octets in
     let t = octet_there end (in_octets end) refl (omega arith) in
-    rw (t.3, repeated_texts_have_no_end (character_by (Some end) leaf.alphabet) (number t.0) n t.1 (h.1 t.0 t.2)) refl
+    record { ends_late = λ n. rw (t.3, repeated_texts_have_no_end (other_by end leaf.alphabet) (number t.0) n t.1 (h.1 t.0 t.2)) refl; permitted = h.0 }
   where
     rest : (l q : ℕ) → l ≡ 8 * q → l % 8 ≡ 0
     rest l q e = omega arith
 
-character_in : (leaf : TextLeaf) → text_fine leaf ≡ true → (o : Option (List Bool)) → TextReady o leaf → In leaf.alphabet (pos (character_by o leaf.alphabet))
-character_in leaf fine None h = least_character leaf fine
-character_in leaf fine (Some end) h = h.0
+can_repeat : (leaf : TextLeaf) → text_fine leaf ≡ true → (o : Option (List Bool)) → leaf.ended ≡ o → TextReady o leaf → CanRepeat leaf o (character_by o leaf.alphabet)
+can_repeat leaf fine None is h = record { ends_late = λ n. refl; permitted = least_character leaf fine }
+can_repeat leaf fine (Some end) is h = by (can_stand end (natural (least leaf.alphabet))) refl
+  where
+    none : {A : Type 0} (o : Option A) → is_none o ≡ true → o ≡ None
+    none None e = refl
+    none (Some x) e = cc
+
+    by : (b : Bool) → can_stand end (natural (least leaf.alphabet)) ≡ b → CanRepeat leaf (Some end) (if b then natural (least leaf.alphabet) else other_by end leaf.alphabet)
+    by true e = record {
+      ends_late = λ n. rw (one_repeats (natural (least leaf.alphabet)) n (octet_numbers end) (none (first_end (octet_numbers end) (natural (least leaf.alphabet) ∷ [])) e)) refl;
+      permitted = least_character leaf fine;
+    }
+    by false e = other_repeats leaf fine end is h
 
 small : (leaf : TextLeaf) → text_fine leaf ≡ true → (c : ℕ) → In leaf.alphabet (pos c) → c < 256
 small leaf fine c h = (let w = lies_within (pos 0) (pos 127) leaf.alphabet (pos c) (text_rules leaf fine).small h in let high = w.1 in omega (arith, ints))
@@ -122,10 +137,11 @@ not_false false h = cc
 text_meets : (leaf : TextLeaf) → text_fine leaf ≡ true → TextReady leaf.ended leaf → (n : ℕ) → has leaf.sized.sizes (pos n) ≡ true → text_breach leaf (replicate n (character_of leaf)) ≡ []
 text_meets leaf fine h n size =
     let c = character_of leaf in
-    let inn = character_in leaf fine leaf.ended h in
+    let repeats = can_repeat leaf fine leaf.ended refl h in
+    let inn = repeats.permitted in
     let one = unless_true (has leaf.sized.sizes (pos (length (replicate n c)))) (size_out_of_range (length (replicate n c))) (ap (λ m. has leaf.sized.sizes (pos m)) (long n c) ∙ size) in
     let two = no_position (λ x. not (has leaf.alphabet (pos x))) c (not_false (has leaf.alphabet (pos c)) inn) n in
-    let three = ends_fit leaf fine leaf.ended refl h n in
+    let three = repeats.ends_late n in
     rw (one, two, three) refl
 
 no_append : {A : Type 0} (xs ys : List A) → xs ≡ [] → ys ≡ [] → xs ++ ys ≡ []
@@ -159,7 +175,7 @@ module _ (root : Grammar) (side : Side) where
     form_fit (num l) k around ks sound h at d e r = ap (num_fits l.kind (length l.items.items)) r.0 ∙ number_fits l.kind l.coding l.items l.table l.set (number_at side l) (rules_of l sound).set (number_permitted l sound side)
     form_fit (octets z) k around ks sound h at (octet_string os) e r = ap are_octets r.2 ∙ zeros_fit r.0 0 (omega arith)
     form_fit (bits z) k around ks sound h at (bit_string bs) e r = refl
-    form_fit (text l) k around ks sound h at (characters cs) e r = ap are_octets r.2 ∙ zeros_fit r.0 (character_of l) (small l (first_two sound) (character_of l) (character_in l (first_two sound) l.ended h))
+    form_fit (text l) k around ks sound h at (characters cs) e r = ap are_octets r.2 ∙ zeros_fit r.0 (character_of l) (small l (first_two sound) (character_of l) (can_repeat l (first_two sound) l.ended refl h).permitted)
     form_fit (seq fs home) k around ks sound h at (record_of ps) e r = fields_fits fs (suc k) (home ++ around) ks (last_two sound) h _ ps e r
     form_fit (list z g) k around ks sound h at (list_of es) e r =
         let t = list_run (ending z.rule) z.rule (IsBest root side g) at es e r.1 in

@@ -1,5 +1,5 @@
 -- The ends of the best values are those of the reach.
-use Rattle.std.proofs.Common.{◌≡◌, ℕ, zero, suc, ◌+◌, ◌*◌, ◌^◌, ◌≤◌, ◌<◌, max, ℤ, Bool, true, false, ◌||◌, List, length, Option, Some, None, refl, ap, ◌∙◌, arith, inl, inr, ◌⊎◌, nat_eq, nat_lt, subst}
+use Rattle.std.proofs.Common.{◌≡◌, ℕ, zero, suc, ◌+◌, ◌*◌, ◌^◌, ◌≤◌, ◌<◌, max, ℤ, Bool, true, false, ◌&&◌, ◌||◌, List, length, Option, Some, None, refl, sym, ap, ◌∙◌, arith, inl, inr, ◌⊎◌, nat_eq, nat_lt, subst}
 use Rattle.std.proofs.lemmas.Bool.{eqb-true, and_parts}
 use Rattle.std.proofs.lemmas.Bool.Decides.{nat_tests}
 use Rattle.std.specs.Prelude.{if◌then◌else◌}
@@ -18,11 +18,12 @@ use Rattle.acn_grammar.specs.declared.node.ChoiceRule.{ChoiceRule}
 use Rattle.acn_grammar.specs.declared.node.SizeRule.{SizeRule}
 use Rattle.acn_grammar.specs.declared.node.Sizing.{Sizing}
 use Rattle.acn_grammar.proofs.WholeTests.{either}
-use Rattle.acn_extreme_laws.specs.Best.{Way, side_of, Agree, behind, size_by, parts_way, better, put_way, where_way, there_way, alternative_way, with_place, past, record_way, element_way, with_element, run_way, or_none, run_by_ends, list_way, elements_way, octets_way, best, form_best, fields_best, cases_best}
+use Rattle.acn_extreme_laws.specs.Best.{Way, side_of, Agree, behind, size_by, side_by, parts_way, better, put_way, where_way, there_way, alternative_way, with_place, past, record_way, element_way, with_element, is_enough, adds_nothing, run_way, or_none, run_by_ends, list_way, elements_way, octets_way, best, form_best, fields_best, cases_best}
 use Rattle.acn_extreme_laws.specs.Codes.{ahead}
 use Rattle.acn_extreme_laws.specs.Reach.{from_to, later, padded, and_then, or_else, where_can, parts_by, natural, behind as behind_it, earliest, furthest, latest, up_to, run_by, list_reach, presence_count, sizes_can, can_be_there, can_be_away, can_be_chosen, reach, form_reach, fields_reach, cases_reach}
 use Rattle.acn_extreme_laws.specs.declared.side.Side.{Side}
 use Rattle.acn_extreme_laws.specs.declared.side.Side.TheVariants.{Shortest, Longest}
+use Rattle.acn_extreme_laws.proofs.Ready.{true_or_false}
 use Rattle.acn_extreme_laws.proofs.Sizes.{low_high, sizes_ordered}
 use Rattle.acn_extreme_laws.proofs.Tuples.{first_three, first_five, second_three, third_four, fourth_five, last_two, last_three, last_four, last_five}
 
@@ -266,6 +267,18 @@ agree_parts side unit value None b at e = tt
 agree_parts Shortest unit value (Some t) b at e = omega arith
 agree_parts Longest unit value (Some t) b at e = omega arith
 
+no_width : (side : Side) (value : ℕ → Data) (t : ℤ × ℤ) (b : Bounds) (at : ℕ) → at ≡ held (side_of side b) → Agree side (parts_by (Some t) 0 b) (parts_way 0 value at (size_by Shortest (Some t)))
+no_width Shortest value t b at e = omega arith
+no_width Longest value t b at e = omega arith
+
+agree_texts : (side : Side) (unit : ℕ) (value : ℕ → Data) (o : Option (ℤ × ℤ)) (b : Bounds) (at : ℕ) → at ≡ held (side_of side b) → Agree side (parts_by o unit b) (parts_way unit value at (size_by (side_by unit side) o))
+agree_texts side unit value None b at e = tt
+agree_texts side unit value (Some t) b at e = by (nat_eq unit 0) refl
+  where
+    by : (zero_wide : Bool) → nat_eq unit 0 ≡ zero_wide → Agree side (parts_by (Some t) unit b) (parts_way unit value at (size_by (if zero_wide then Shortest else side) (Some t)))
+    by true is = rw (eqb-true unit 0 is) (no_width side value t b at e)
+    by false is = agree_parts side unit value (Some t) b at e
+
 agree_octets : (side : Side) (width : ℕ) (o : Option Bounds) (w : Option (Way Data)) (b : Bounds) (at : ℕ) → at ≡ held (side_of side b) → Agree side o w
     → Agree side (and_then o (λ c. Some (from_to (b.least + (width + 8 * octets_for c.least)) (b.greatest + (width + 8 * octets_for c.greatest))))) (octets_way at width w)
 agree_octets side width None None b at e h = tt
@@ -289,44 +302,76 @@ low_element d None (Some w) h = absurd h
 low_element d (Some n) None h = absurd h
 
 -- so many elements, whose end is this far
-record LongRun (each : ℕ → Option (Way Data)) (n at end : ℕ) : Type 0 where
+record LongRun (sizes : Ranges) (each : ℕ → Option (Way Data)) (n k at end : ℕ) : Type 0 where
   way : Way Elements
-  is : run_way each n at ≡ Some way
+  is : run_way (is_enough Longest sizes) each n k at ≡ Some way
   ends_there : way.0 ≡ held end
   later_on : at ≤ way.0
 
 module _ (reaches : Bounds → Option Bounds) (same : (b b' : Bounds) → Same (reaches b) (reaches b')) where
-  run_short : (each : ℕ → Option (Way Data)) → ((b : Bounds) (at : ℕ) → at ≡ held b.least → Agree Shortest (reaches b) (each at))
-      → (n : ℕ) (b : Bounds) (at : ℕ) → at ≡ held b.least → LowAgree (earliest reaches n b) (run_way each n at)
-  run_short each h zero b at e = e
-  run_short each h (suc n) b at e = by (reaches b) (each at) (h b at e) (λ c m q. run_short each h n c m q)
+  run_short : (sizes : Ranges) (each : ℕ → Option (Way Data)) → ((b : Bounds) (at : ℕ) → at ≡ held b.least → Agree Shortest (reaches b) (each at))
+      → (n k : ℕ) (b : Bounds) (at : ℕ) → at ≡ held b.least → LowAgree (earliest reaches n b) (run_way (is_enough Shortest sizes) each n k at)
+  run_short sizes each h zero k b at e = e
+  run_short sizes each h (suc n) k b at e = none_early (adds_nothing (each at) at) (by (reaches b) (each at) (h b at e) (λ c m q. run_short sizes each h n (suc k) c m q))
     where
-      by : (o : Option Bounds) (w : Option (Way Data)) → Agree Shortest o w → ((c : Bounds) (m : ℕ) → m ≡ held c.least → LowAgree (earliest reaches n c) (run_way each n m)) → LowAgree (behind_it o (λ c. earliest reaches n c)) (with_element w (run_way each n))
-      by None None k again = tt
-      by (Some c) (Some w) k again = low_element w.1 (earliest reaches n c) (run_way each n w.0) (again c w.0 k)
-      by None (Some w) k again = absurd k
-      by (Some c) None k again = absurd k
+      enough : ℕ → Bool
+      enough = is_enough Shortest sizes
 
-  run_long : (each : ℕ → Option (Way Data)) → ((b : Bounds) (at : ℕ) → at ≡ held b.greatest → Agree Longest (reaches b) (each at)) → ((at : ℕ) (w : Way Data) → at ≡ held at → each at ≡ Some w → at ≤ w.0)
-      → (some : (b : Bounds) → reaches b ≡ None → ⊥) → (n : ℕ) (b : Bounds) (at : ℕ) → at ≡ held b.greatest → LongRun each n at (latest reaches n b)
-  run_long each h grows some zero b at e = record { way = (at, no_elements); is = refl; ends_there = e; later_on = omega arith }
-  run_long each h grows some (suc n) b at e = by (reaches b) (each at) refl refl (h b at e) (λ c m q. run_long each h grows some n c m q)
-    where
-      by : (o : Option Bounds) (w : Option (Way Data)) → reaches b ≡ o → each at ≡ w → Agree Longest o w → ((c : Bounds) (m : ℕ) → m ≡ held c.greatest → LongRun each n m (latest reaches n c)) → LongRun each (suc n) at (latest reaches (suc n) b)
-      by None w p q k again = absurd (some b p)
-      by (Some c) None p q k again = absurd k
-      by (Some c) (Some w) p q k again =
-          let rest = again c w.0 k in
-          let one = grows at w (omega arith) q in
-          let two = rest.later_on in
-          let three = rest.ends_there in
-          let four : latest reaches (suc n) b ≡ max b.greatest (latest reaches n c) = ap (λ o. furthest b.greatest o (λ c. latest reaches n c)) p in
-          record {
-            way = ((rest.way).0, element w.1 (rest.way).1);
-            is = ap (λ o. with_element o (run_way each n)) q ∙ ap (element_way w.1) rest.is;
-            ends_there = omega arith;
-            later_on = omega arith;
-          }
+      by : (o : Option Bounds) (w : Option (Way Data)) → Agree Shortest o w → ((c : Bounds) (m : ℕ) → m ≡ held c.least → LowAgree (earliest reaches n c) (run_way enough each n (suc k) m)) → LowAgree (behind_it o (λ c. earliest reaches n c)) (with_element w (run_way enough each n (suc k)))
+      by None None p again = tt
+      by (Some c) (Some w) p again = low_element w.1 (earliest reaches n c) (run_way enough each n (suc k) w.0) (again c w.0 p)
+      by None (Some w) p again = absurd p
+      by (Some c) None p again = absurd p
+
+      none_early : (t : Bool) → LowAgree (earliest reaches (suc n) b) (with_element (each at) (run_way enough each n (suc k))) → LowAgree (earliest reaches (suc n) b) (if t && false then Some (at, no_elements) else with_element (each at) (run_way enough each n (suc k)))
+      none_early true p = p
+      none_early false p = p
+
+  module _ (each : ℕ → Option (Way Data)) (h : (b : Bounds) (at : ℕ) → at ≡ held b.greatest → Agree Longest (reaches b) (each at)) (some : (b : Bounds) → reaches b ≡ None → ⊥) where
+    -- where one element has no bits, no more of them have
+    stays : (at : ℕ) (w : Way Data) → each at ≡ Some w → w.0 ≡ at → (n : ℕ) (b : Bounds) → at ≡ held b.greatest → held (latest reaches n b) ≡ at
+    stays at w q same zero b e = sym e
+    stays at w q same (suc n) b e = by (reaches b) (subst (Agree Longest (reaches b)) q (h b at e)) (λ c f. stays at w q same n c f)
+      where
+        by : (o : Option Bounds) → Agree Longest o (Some w) → ((c : Bounds) → at ≡ held c.greatest → held (latest reaches n c) ≡ at) → held (furthest b.greatest o (λ c. latest reaches n c)) ≡ at
+        by None agrees again = absurd agrees
+        by (Some c) agrees again = (let rest = again c (sym same ∙ agrees) in omega (arith, e, rest))
+
+    run_long : (sizes : Ranges) → ((at : ℕ) (w : Way Data) → at ≡ held at → each at ≡ Some w → at ≤ w.0) → (n k : ℕ) (b : Bounds) (at : ℕ) → at ≡ held b.greatest → LongRun sizes each n k at (latest reaches n b)
+    run_long sizes grows zero k b at e = record { way = (at, no_elements); is = refl; ends_there = e; later_on = omega arith }
+    run_long sizes grows (suc n) k b at e = by (reaches b) (each at) refl refl (h b at e) (λ c m q. run_long sizes grows n (suc k) c m q)
+      where
+        enough : ℕ → Bool
+        enough = is_enough Longest sizes
+
+        stopped : (w : Way Data) → each at ≡ Some w → (nat_eq w.0 at && enough k) ≡ true → LongRun sizes each (suc n) k at (latest reaches (suc n) b)
+        stopped w q t =
+            let same = eqb-true w.0 at (and_parts (nat_eq w.0 at) (enough k) t).0 in
+            record {
+              way = (at, no_elements);
+              is = rw (q, t) refl;
+              ends_there = sym (stays at w q same (suc n) b e);
+              later_on = omega arith;
+            }
+
+        goes_on : (c : Bounds) (w : Way Data) → reaches b ≡ Some c → each at ≡ Some w → (nat_eq w.0 at && enough k) ≡ false → LongRun sizes each n (suc k) w.0 (latest reaches n c) → LongRun sizes each (suc n) k at (latest reaches (suc n) b)
+        goes_on c w p q t rest =
+            let one = grows at w (omega arith) q in
+            let two = rest.later_on in
+            let three = rest.ends_there in
+            let four : latest reaches (suc n) b ≡ max b.greatest (latest reaches n c) = ap (λ o. furthest b.greatest o (λ c. latest reaches n c)) p in
+            record {
+              way = ((rest.way).0, element w.1 (rest.way).1);
+              is = rw (q, t) (ap (element_way w.1) rest.is);
+              ends_there = omega arith;
+              later_on = omega arith;
+            }
+
+        by : (o : Option Bounds) (w : Option (Way Data)) → reaches b ≡ o → each at ≡ w → Agree Longest o w → ((c : Bounds) (m : ℕ) → m ≡ held c.greatest → LongRun sizes each n (suc k) m (latest reaches n c)) → LongRun sizes each (suc n) k at (latest reaches (suc n) b)
+        by None w p q agrees again = absurd (some b p)
+        by (Some c) None p q agrees again = absurd agrees
+        by (Some c) (Some w) p q agrees again =
+            true_or_false {F = LongRun sizes each (suc n) k at (latest reaches (suc n) b)} (nat_eq w.0 at && enough k) (λ t. stopped w q t) (λ t. goes_on c w p q t (again c w.0 agrees))
 
   all_some : (b : Bounds) (c : Bounds) → reaches b ≡ Some c → (b' : Bounds) → reaches b' ≡ None → ⊥
   all_some b c e b' n = by (reaches b) (reaches b') e n (same b b')
@@ -350,10 +395,10 @@ module _ (reaches : Bounds → Option Bounds) (same : (b b' : Bounds) → Same (
       by None e again = absurd (some b e)
       by (Some c) e again = again c
 
-  run_agrees : (side : Side) (each : ℕ → Option (Way Data)) → ((b : Bounds) (at : ℕ) → at ≡ held (side_of side b) → Agree side (reaches b) (each at)) → ((at : ℕ) (w : Way Data) → at ≡ held at → each at ≡ Some w → at ≤ w.0)
-      → (o : Option (ℤ × ℤ)) → ((e : ℤ × ℤ) → o ≡ Some e → natural e.0 ≤ natural e.1) → (b : Bounds) (at : ℕ) → at ≡ held (side_of side b) → Agree side (run_by reaches o b) (run_by_ends side each at o)
-  run_agrees side each h grows None le b at e = tt
-  run_agrees Shortest each h grows (Some t) le b at e = by (natural t.0)
+  run_agrees : (side : Side) (sizes : Ranges) (each : ℕ → Option (Way Data)) → ((b : Bounds) (at : ℕ) → at ≡ held (side_of side b) → Agree side (reaches b) (each at)) → ((at : ℕ) (w : Way Data) → at ≡ held at → each at ≡ Some w → at ≤ w.0)
+      → (o : Option (ℤ × ℤ)) → ((e : ℤ × ℤ) → o ≡ Some e → natural e.0 ≤ natural e.1) → (b : Bounds) (at : ℕ) → at ≡ held (side_of side b) → Agree side (run_by reaches o b) (run_by_ends side sizes each at o)
+  run_agrees side sizes each h grows None le b at e = tt
+  run_agrees Shortest sizes each h grows (Some t) le b at e = by (natural t.0)
     where
       other : (m : ℕ) (o : Option ℕ) (w : Option (Way Elements)) → LowAgree o w → Agree Shortest (up_to o (latest reaches (natural t.1) b)) (or_none w (suc m) at)
       other m None None k = tt
@@ -361,12 +406,12 @@ module _ (reaches : Bounds → Option Bounds) (same : (b b' : Bounds) → Same (
       other m None (Some w) k = absurd k
       other m (Some n) None k = absurd k
 
-      by : (n : ℕ) → Agree Shortest (up_to (earliest reaches n b) (latest reaches (natural t.1) b)) (or_none (run_way each n at) n at)
+      by : (n : ℕ) → Agree Shortest (up_to (earliest reaches n b) (latest reaches (natural t.1) b)) (or_none (run_way (is_enough Shortest sizes) each n 0 at) n at)
       by zero = e
-      by (suc m) = other m (earliest reaches (suc m) b) (run_way each (suc m) at) (run_short each h (suc m) b at e)
-  run_agrees Longest each h grows (Some t) le b at e = by (reaches b) refl
+      by (suc m) = other m (earliest reaches (suc m) b) (run_way (is_enough Shortest sizes) each (suc m) 0 at) (run_short sizes each h (suc m) 0 b at e)
+  run_agrees Longest sizes each h grows (Some t) le b at e = by (reaches b) refl
     where
-      none : (low high : ℕ) → low ≤ high → reaches b ≡ None → each at ≡ None → Agree Longest (up_to (earliest reaches low b) (latest reaches high b)) (or_none (run_way each high at) low at)
+      none : (low high : ℕ) → low ≤ high → reaches b ≡ None → each at ≡ None → Agree Longest (up_to (earliest reaches low b) (latest reaches high b)) (or_none (run_way (is_enough Longest sizes) each high 0 at) low at)
       none zero zero l p q = e
       none (suc m) zero l p q = absurd (omega arith)
       none zero (suc n) l p q = rw (p, q) e
@@ -376,12 +421,12 @@ module _ (reaches : Bounds → Option Bounds) (same : (b b' : Bounds) → Same (
       none_each None k = refl
       none_each (Some w) k = absurd k
 
-      by : (o : Option Bounds) → reaches b ≡ o → Agree Longest (up_to (earliest reaches (natural t.0) b) (latest reaches (natural t.1) b)) (or_none (run_way each (natural t.1) at) (natural t.0) at)
+      by : (o : Option Bounds) → reaches b ≡ o → Agree Longest (up_to (earliest reaches (natural t.0) b) (latest reaches (natural t.1) b)) (or_none (run_way (is_enough Longest sizes) each (natural t.1) 0 at) (natural t.0) at)
       by None p = none (natural t.0) (natural t.1) (le t refl) p (none_each (each at) (subst (λ (o : Option Bounds). Agree Longest o (each at)) p (h b at e)))
       by (Some c) p =
           let some = all_some b c p in
           let low = some_earliest some (natural t.0) b in
-          let run = run_long each h grows some (natural t.1) b at e in
+          let run = run_long each h some sizes grows (natural t.1) 0 b at e in
           rw (low.1, run.is) run.ends_there
 
 agree_list : (side : Side) (n : ℕ) (o : Option Bounds) (w : Option (Way Elements)) → Agree side o w → Agree side (and_then o (λ c. Some (later n c))) (list_way n w)
@@ -403,13 +448,13 @@ module _ (root : Grammar) (side : Side) (grows : (k : ℕ) (around : List ℕ) (
       → (o : Option (List Bool)) (b : Bounds) (at : ℕ) → at ≡ held (side_of side b) → Agree side (list_reach o z.rule (reach root g) (sizes_can root z) b) (elements_way side o z.rule (best root side g) (sizes_can root z) at)
   list_agrees z g fine h later_on o b at e = by o
     where
-      run : (b : Bounds) (at : ℕ) → at ≡ held (side_of side b) → Agree side (run_by (reach root g) (ends (sizes_can root z)) b) (run_by_ends side (best root side g) at (ends (sizes_can root z)))
-      run b at e = run_agrees (reach root g) (same_node root g) side (best root side g) h later_on (ends (sizes_can root z)) (low_high (sizes_can root z) (sizes_ordered root z fine)) b at e
+      run : (b : Bounds) (at : ℕ) → at ≡ held (side_of side b) → Agree side (run_by (reach root g) (ends (sizes_can root z)) b) (run_by_ends side (sizes_can root z) (best root side g) at (ends (sizes_can root z)))
+      run b at e = run_agrees (reach root g) (same_node root g) side (sizes_can root z) (best root side g) h later_on (ends (sizes_can root z)) (low_high (sizes_can root z) (sizes_ordered root z fine)) b at e
 
       by : (o : Option (List Bool)) → Agree side (list_reach o z.rule (reach root g) (sizes_can root z) b) (elements_way side o z.rule (best root side g) (sizes_can root z) at)
-      by None = agree_as_it_is side (run_by (reach root g) (ends (sizes_can root z)) (later (rule_width z.rule) b)) (run_by_ends side (best root side g) (behind at (rule_width z.rule)) (ends (sizes_can root z)))
+      by None = agree_as_it_is side (run_by (reach root g) (ends (sizes_can root z)) (later (rule_width z.rule) b)) (run_by_ends side (sizes_can root z) (best root side g) (behind at (rule_width z.rule)) (ends (sizes_can root z)))
           (run (later (rule_width z.rule) b) (behind at (rule_width z.rule)) (held_later side (rule_width z.rule) b at e))
-      by (Some p) = agree_list side (length p) (run_by (reach root g) (ends (sizes_can root z)) b) (run_by_ends side (best root side g) at (ends (sizes_can root z))) (run b at e)
+      by (Some p) = agree_list side (length p) (run_by (reach root g) (ends (sizes_can root z)) b) (run_by_ends side (sizes_can root z) (best root side g) at (ends (sizes_can root z))) (run b at e)
 
   mutual
     pub node_agrees : (g : Grammar) (k : ℕ) (around : List ℕ) (ks : Known) → Sound root k around ks g → (b : Bounds) (at : ℕ) → at ≡ held (side_of side b) → Agree side (reach root g b) (best root side g at)
@@ -423,7 +468,7 @@ module _ (root : Grammar) (side : Side) (grows : (k : ℕ) (around : List ℕ) (
         by Longest e = omega arith
     form_agrees (octets z) k around ks sound b at e = agree_parts side 8 _ (ends (sizes_can root z)) (later (rule_width z.rule) b) (behind at (rule_width z.rule)) (held_later side (rule_width z.rule) b at e)
     form_agrees (bits z) k around ks sound b at e = agree_parts side 1 _ (ends (sizes_can root z)) (later (rule_width z.rule) b) (behind at (rule_width z.rule)) (held_later side (rule_width z.rule) b at e)
-    form_agrees (text l) k around ks sound b at e = agree_parts side l.width _ (ends (sizes_can root l.sized)) _ _ (held_later side _ b at e)
+    form_agrees (text l) k around ks sound b at e = agree_texts side l.width _ (ends (sizes_can root l.sized)) _ _ (held_later side _ b at e)
     form_agrees (seq fs home) k around ks sound b at e =
         agree_record side (fields_reach root fs (later (presence_count fs) b)) (fields_best root side fs (behind at (presence_count fs)))
         (fields_agree fs (suc k) _ ks (last_two sound) (later (presence_count fs) b) (behind at (presence_count fs)) (held_later side (presence_count fs) b at e))

@@ -1,5 +1,5 @@
 -- How a best value is made, by its form.
-use Rattle.std.proofs.Common.{◌≡◌, ℕ, zero, suc, ◌+◌, ◌*◌, ℤ, Bool, true, false, List, length, Option, Some, None, refl, sym, ap, ◌∙◌, arith, inl, inr, ◌⊎◌, subst}
+use Rattle.std.proofs.Common.{◌≡◌, ℕ, zero, suc, ◌+◌, ◌*◌, ℤ, Bool, true, false, ◌&&◌, List, length, Option, Some, None, refl, sym, ap, ◌∙◌, arith, inl, inr, ◌⊎◌, subst}
 use Rattle.std.proofs.lemmas.Bool.{and_parts}
 use Rattle.std.specs.Prelude.{if◌then◌else◌, replicate}
 use Rattle.acn_num.specs.Bits.{octets as octets_for}
@@ -14,11 +14,11 @@ use Rattle.acn_grammar.specs.declared.node.Sizing.{Sizing}
 use Rattle.acn_grammar.specs.declared.node.SizeRule.{SizeRule}
 use Rattle.acn_grammar.specs.declared.node.Test.{Test}
 use Rattle.acn_grammar.proofs.TextRules.{text_rules}
-use Rattle.acn_extreme_laws.specs.Best.{Way, behind, end_of, size_by, parts_way, character_of, better, put, put_way, where_way, there_way, alternative_way, with_place, past, record_way, element_way, with_element, run_way, or_none, run_by_ends, list_way, elements_way, octets_way, number_data, best, form_best, fields_best, cases_best}
+use Rattle.acn_extreme_laws.specs.Best.{Way, behind, end_of, size_by, side_by, parts_way, character_of, better, put, put_way, where_way, there_way, alternative_way, with_place, past, record_way, element_way, with_element, is_enough, adds_nothing, run_way, or_none, run_by_ends, list_way, elements_way, octets_way, number_data, best, form_best, fields_best, cases_best}
 use Rattle.acn_extreme_laws.specs.Codes.{ahead, number_at}
 use Rattle.acn_extreme_laws.specs.Reach.{natural, text_around, presence_count, sizes_can, can_be_there, can_be_away, can_be_chosen}
 use Rattle.acn_extreme_laws.specs.declared.side.Side.{Side}
-use Rattle.acn_extreme_laws.proofs.Sizes.{IsSize, chosen_size, least_size}
+use Rattle.acn_extreme_laws.proofs.Sizes.{IsSize, chosen_size, enough_size, least_size}
 use Rattle.acn_extreme_laws.proofs.Tuples.{first_two, first_five, second_three, third_four, fourth_five, last_two, last_three, last_four, last_five}
 
 -- elements one behind another
@@ -84,35 +84,51 @@ parts_made root side sizing fine unit at value w q = by (ends (sizes_can root si
 
 -- Elements.
 
-run_made : (each : ℕ → Option (Way Data)) (made : ℕ → Data → ℕ → Type 0) → ((at : ℕ) (w : Way Data) → each at ≡ Some w → made at w.1 w.0) → (n at : ℕ) (w : Way Elements) → run_way each n at ≡ Some w → (element_count w.1 ≡ n) × RunBest made at w.1 w.0
-run_made each made h zero at w q = subst (λ (v : Way Elements). (element_count v.1 ≡ 0) × RunBest made at v.1 v.0) (some_is (at, no_elements) w q) (refl, refl)
-run_made each made h (suc n) at w q = by (each at) refl q (λ m u p. run_made each made h n m u p)
+run_made : (enough : ℕ → Bool) (each : ℕ → Option (Way Data)) (made : ℕ → Data → ℕ → Type 0) → ((at : ℕ) (w : Way Data) → each at ≡ Some w → made at w.1 w.0) → (size : ℕ → Type 0) → ((k : ℕ) → enough k ≡ true → size k)
+    → (n k at : ℕ) (w : Way Elements) → size (k + n) → run_way enough each n k at ≡ Some w → size (k + element_count w.1) × RunBest made at w.1 w.0
+run_made enough each made h size may zero k at w full q = subst (λ (v : Way Elements). size (k + element_count v.1) × RunBest made at v.1 v.0) (some_is (at, no_elements) w q) (full, refl)
+run_made enough each made h size may (suc n) k at w full q = by (adds_nothing (each at) at && enough k) refl q (λ m u p. run_made enough each made h size may n (suc k) m u (subst size (sym (one_more k n)) full) p)
   where
-    by : (o : Option (Way Data)) → each at ≡ o → with_element o (run_way each n) ≡ Some w → ((m : ℕ) (u : Way Elements) → run_way each n m ≡ Some u → (element_count u.1 ≡ n) × RunBest made m u.1 u.0) → (element_count w.1 ≡ suc n) × RunBest made at w.1 w.0
-    by None e k again = nothing w k
-    by (Some v) e k again = rest (run_way each n v.0) refl k
+    none_yet : (k : ℕ) → k ≡ k + 0
+    none_yet k = omega arith
+
+    one_more : (k n : ℕ) → suc k + n ≡ k + suc n
+    one_more k n = omega arith
+
+    next : (o : Option (Way Data)) → each at ≡ o → with_element o (run_way enough each n (suc k)) ≡ Some w → ((m : ℕ) (u : Way Elements) → run_way enough each n (suc k) m ≡ Some u → size (suc k + element_count u.1) × RunBest made m u.1 u.0) → size (k + element_count w.1) × RunBest made at w.1 w.0
+    next None e l again = nothing w l
+    next (Some v) e l again = rest (run_way enough each n (suc k) v.0) refl l
       where
-        rest : (o : Option (Way Elements)) → run_way each n v.0 ≡ o → element_way v.1 o ≡ Some w → (element_count w.1 ≡ suc n) × RunBest made at w.1 w.0
+        rest : (o : Option (Way Elements)) → run_way enough each n (suc k) v.0 ≡ o → element_way v.1 o ≡ Some w → size (k + element_count w.1) × RunBest made at w.1 w.0
         rest None p l = nothing w l
         rest (Some u) p l =
             let more = again v.0 u p in
-            subst (λ (z : Way Elements). (element_count z.1 ≡ suc n) × RunBest made at z.1 z.0) (some_is (u.0, element v.1 u.1) w l) (ap suc more.0, (v.0, h at v e, more.1))
+            subst (λ (z : Way Elements). size (k + element_count z.1) × RunBest made at z.1 z.0) (some_is (u.0, element v.1 u.1) w l) (subst size (one_more k (element_count u.1)) more.0, (v.0, h at v e, more.1))
+
+    by : (b : Bool) → (adds_nothing (each at) at && enough k) ≡ b → (if b then Some (at, no_elements) else with_element (each at) (run_way enough each n (suc k))) ≡ Some w
+        → ((m : ℕ) (u : Way Elements) → run_way enough each n (suc k) m ≡ Some u → size (suc k + element_count u.1) × RunBest made m u.1 u.0) → size (k + element_count w.1) × RunBest made at w.1 w.0
+    by true e l again =
+        subst (λ (z : Way Elements). size (k + element_count z.1) × RunBest made at z.1 z.0) (some_is (at, no_elements) w l) (subst size (none_yet k) (may k (and_parts (adds_nothing (each at) at) (enough k) e).1), refl)
+    by false e l again = next (each at) refl l again
 
 abbrev Counted : (ℕ → Data → ℕ → Type 0) → (ℕ → Type 0) → ℕ → Way Elements → Type 0
 Counted made size at w = size (element_count w.1) × RunBest made at w.1 w.0
 
 ends_made : (root : Grammar) (side : Side) (sizing : Sizing) → sizes_fine sizing.sizes ≡ true → (each : ℕ → Option (Way Data)) (made : ℕ → Data → ℕ → Type 0) → ((at : ℕ) (w : Way Data) → each at ≡ Some w → made at w.1 w.0)
-    → (at : ℕ) (w : Way Elements) → run_by_ends side each at (ends (sizes_can root sizing)) ≡ Some w → Counted made (IsSize root sizing) at w
+    → (at : ℕ) (w : Way Elements) → run_by_ends side (sizes_can root sizing) each at (ends (sizes_can root sizing)) ≡ Some w → Counted made (IsSize root sizing) at w
 ends_made root side sizing fine each made h at w q = by (ends (sizes_can root sizing)) refl q
   where
-    by : (o : Option (ℤ × ℤ)) → ends (sizes_can root sizing) ≡ o → run_by_ends side each at o ≡ Some w → Counted made (IsSize root sizing) at w
+    from_zero : (j : ℕ) → j ≡ 0 + j
+    from_zero j = omega arith
+
+    by : (o : Option (ℤ × ℤ)) → ends (sizes_can root sizing) ≡ o → run_by_ends side (sizes_can root sizing) each at o ≡ Some w → Counted made (IsSize root sizing) at w
     by None e k = nothing w k
-    by (Some t) e k = rest (run_way each (natural (end_of side t)) at) (natural t.0) refl refl k
+    by (Some t) e k = rest (run_way (is_enough side (sizes_can root sizing)) each (natural (end_of side t)) 0 at) (natural t.0) refl refl k
       where
-        rest : (o : Option (Way Elements)) (f : ℕ) → run_way each (natural (end_of side t)) at ≡ o → natural t.0 ≡ f → or_none o f at ≡ Some w → Counted made (IsSize root sizing) at w
+        rest : (o : Option (Way Elements)) (f : ℕ) → run_way (is_enough side (sizes_can root sizing)) each (natural (end_of side t)) 0 at ≡ o → natural t.0 ≡ f → or_none o f at ≡ Some w → Counted made (IsSize root sizing) at w
         rest (Some v) f p is l =
-            let made' = run_made each made h (natural (end_of side t)) at v p in
-            subst (λ (z : Way Elements). Counted made (IsSize root sizing) at z) (some_is v w l) (subst (IsSize root sizing) (sym made'.0) (chosen_size root side sizing t fine e), made'.1)
+            let made' = run_made (is_enough side (sizes_can root sizing)) each made h (IsSize root sizing) (enough_size root side sizing fine) (natural (end_of side t)) 0 at v (subst (IsSize root sizing) (from_zero (natural (end_of side t))) (chosen_size root side sizing t fine e)) p in
+            subst (λ (z : Way Elements). Counted made (IsSize root sizing) at z) (some_is v w l) (subst (IsSize root sizing) (sym (from_zero (element_count v.1))) made'.0, made'.1)
         rest None zero p is l = subst (λ (z : Way Elements). Counted made (IsSize root sizing) at z) (some_is (at, no_elements) w l) (subst (IsSize root sizing) is (least_size root sizing t fine e), refl)
         rest None (suc f) p is l = nothing w l
 
@@ -122,16 +138,16 @@ ListMade root sizing o made at _ end = ⊥
 
 list_made : (root : Grammar) (side : Side) (sizing : Sizing) → sizes_fine sizing.sizes ≡ true → (o : Option (List Bool)) (each : ℕ → Option (Way Data)) (made : ℕ → Data → ℕ → Type 0) → ((at : ℕ) (w : Way Data) → each at ≡ Some w → made at w.1 w.0)
     → (at : ℕ) (w : Way Data) → elements_way side o sizing.rule each (sizes_can root sizing) at ≡ Some w → ListMade root sizing o made at w.1 w.0
-list_made root side sizing fine None each made h at w q = by (run_by_ends side each (behind at (rule_width sizing.rule)) (ends (sizes_can root sizing))) refl q
+list_made root side sizing fine None each made h at w q = by (run_by_ends side (sizes_can root sizing) each (behind at (rule_width sizing.rule)) (ends (sizes_can root sizing))) refl q
   where
-    by : (o : Option (Way Elements)) → run_by_ends side each (behind at (rule_width sizing.rule)) (ends (sizes_can root sizing)) ≡ o → list_way 0 o ≡ Some w → ListMade root sizing None made at w.1 w.0
+    by : (o : Option (Way Elements)) → run_by_ends side (sizes_can root sizing) each (behind at (rule_width sizing.rule)) (ends (sizes_can root sizing)) ≡ o → list_way 0 o ≡ Some w → ListMade root sizing None made at w.1 w.0
     by None e k = nothing w k
     by (Some u) e k =
         let m = ends_made root side sizing fine each made h (behind at (rule_width sizing.rule)) u e in
         subst (λ (z : Way Data). ListMade root sizing None made at z.1 z.0) (some_is (behind u.0 0, list_of u.1) w k) (m.0, (u.0, m.1, refl))
-list_made root side sizing fine (Some p) each made h at w q = by (run_by_ends side each at (ends (sizes_can root sizing))) refl q
+list_made root side sizing fine (Some p) each made h at w q = by (run_by_ends side (sizes_can root sizing) each at (ends (sizes_can root sizing))) refl q
   where
-    by : (o : Option (Way Elements)) → run_by_ends side each at (ends (sizes_can root sizing)) ≡ o → list_way (length p) o ≡ Some w → ListMade root sizing (Some p) made at w.1 w.0
+    by : (o : Option (Way Elements)) → run_by_ends side (sizes_can root sizing) each at (ends (sizes_can root sizing)) ≡ o → list_way (length p) o ≡ Some w → ListMade root sizing (Some p) made at w.1 w.0
     by None e k = nothing w k
     by (Some u) e k =
         let m = ends_made root side sizing fine each made h at u e in
@@ -215,7 +231,7 @@ module _ (root : Grammar) (side : Side) where
         let m = parts_made root side z (and_parts (sizes_fine z.sizes) (rule_fine z.sizes z.rule) (first_two sound)).0 1 (behind at (rule_width z.rule)) (λ n. bit_string (replicate n false)) w q in
         subst (λ (v : Way Data). FormBest root side (bits z) at v.1 v.0) (sym m.is) (m.size, m.fits_it, refl, refl)
     form_made (text l) k around ks sound at w q =
-        let m = parts_made root side l.sized (text_rules l (first_two sound)).sizes l.width (behind at (text_around l.ended l)) (λ n. characters (replicate n (character_of l))) w q in
+        let m = parts_made root (side_by l.width side) l.sized (text_rules l (first_two sound)).sizes l.width (behind at (text_around l.ended l)) (λ n. characters (replicate n (character_of l))) w q in
         subst (λ (v : Way Data). FormBest root side (text l) at v.1 v.0) (sym m.is) (m.size, m.fits_it, refl, refl)
     form_made (seq fs home) k around ks sound at w q =
         let r = record_from (fields_best root side fs (behind at (presence_count fs))) w q in

@@ -33,7 +33,7 @@ use Rattle.acn_grammar.proofs.TextRules.{text_rules}
 use Rattle.acn_grammar.proofs.TreeRules.{stand_fine}
 use Rattle.acn_grammar.proofs.WholeTests.{either, le_fact, lt_fact, gt_fact, eq_fact, le_test, lt_test}
 use Rattle.acn_grammar.proofs.Within.{between}
-use Rattle.acn_extreme_laws.specs.Best.{other_than, character_by}
+use Rattle.acn_extreme_laws.specs.Best.{other_than, other_by}
 use Rattle.acn_extreme_laws.specs.Facts.{Tag, Facts, plain, says, of_component, facts, form_facts, field_facts, case_facts, facts_of, uses_of, all_uses, used_twice, covers, slot_covers, counts_covered, begins_with, other_there, form_bars, is_there, shows, first_path, or_first, first_by, first_among}
 use Rattle.acn_extreme_laws.specs.Laws.{FirstUnsingleIsFound}
 use Rattle.acn_extreme_laws.specs.Single.{count_of_slot, tested, role_uses, choice_use, uses_at, uses_among, CountsPermitted, SlotPermits, OtherThanEnd, HasOther, own_slot, barred_at, rank, Shows, Single, FirstUnsingle}
@@ -262,7 +262,7 @@ module _ (root : Grammar) (tree : IsTree root) where
 other_true : (o : Option (List Bool)) (leaf : TextLeaf) → other_there o leaf.alphabet ≡ true → OtherThanEnd o leaf
 other_true None leaf h = tt
 other_true (Some end) leaf h =
-    let c = character_by (Some end) leaf.alphabet in
+    let c = other_by end leaf.alphabet in
     let f = and_parts (has leaf.alphabet (pos c)) (not (begins_with (slice_get (in_octets end) 0) c)) h in
     (c, f.0, λ octet e same. differs (nat_eq c (number octet)) (same_true c (number octet) same) (sym (ap (λ o. not (begins_with o c)) e) ∙ f.1))
   where

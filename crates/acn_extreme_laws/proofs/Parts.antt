@@ -1,5 +1,5 @@
 -- Parts that can be chosen: conditions that can hold, texts without an end inside, the ends of ranges.
-use Rattle.std.proofs.Common.{◌≡◌, ℕ, zero, suc, ◌+◌, ◌<◌, ◌≤◌, ℤ, Bool, true, false, not, ◌&&◌, ◌||◌, List, [], ◌∷◌, ◌++◌, length, take, drop, None, refl, sym, ap, ◌∙◌, arith, inl, inr, ◌⊎◌, nat_eq, subst}
+use Rattle.std.proofs.Common.{◌≡◌, ℕ, zero, suc, ◌+◌, ◌<◌, ◌≤◌, ℤ, Bool, true, false, not, ◌&&◌, ◌||◌, List, [], ◌∷◌, ◌++◌, length, take, drop, Option, Some, None, refl, sym, ap, ◌∙◌, arith, inl, inr, ◌⊎◌, nat_eq, subst}
 use Rattle.std.proofs.lemmas.Bool.{and_parts, or_left, or_right, eqb-true}
 use Rattle.std.proofs.lemmas.Bool.Decides.{nat_tests}
 use Rattle.std.proofs.lemmas.Int.{ints}
@@ -11,9 +11,11 @@ use Rattle.acn_num.specs.Ranges.{In, Ranges, has}
 use Rattle.acn_grammar.specs.Asks.{Ask, Equal, same_name}
 use Rattle.acn_grammar.specs.AsksOn.{Meetable, MeetsAsk, on, test_ask_on}
 use Rattle.acn_grammar.specs.Images.{ends_from}
+use Rattle.acn_grammar.specs.Meets.{first_end}
 use Rattle.acn_grammar.specs.Slots.{domain_of}
 use Rattle.acn_grammar.specs.declared.node.Test.{Test}
 use Rattle.acn_grammar.specs.declared.node.Test.TheVariants.{Flag, Equals}
+use Rattle.acn_grammar.proofs.Characters.{same_name-is, same_name-refl}
 use Rattle.acn_grammar.proofs.WholeTests.{eq_fact, le_self, le_test}
 use Rattle.acn_extreme_laws.specs.Laws.{TestsCanBeMet, RepeatedTextsHaveNoEnd, EndsAreMembers, Ordered}
 use Rattle.acn_extreme_laws.specs.Reach.{tested_slot, tested_number, agrees, tests_can}
@@ -100,6 +102,51 @@ repeated_texts_have_no_end c first n end differ =
 
     here : (i : ℕ) → i < n → same_name (take (length (first ∷ end)) (drop i (replicate n c ++ (first ∷ end)))) (first ∷ end) ≡ false
     here i l = (let b = begins c n i (first ∷ end) l in rw (b.1, other (nat_eq c first) refl) refl)
+
+-- a front of a repeated character and a text that is the text is that character alone
+repeated_before : (c m : ℕ) (e : List ℕ) → replicate m c ++ c ∷ e ≡ c ∷ (replicate m c ++ e)
+repeated_before c zero e = refl
+repeated_before c (suc m) e = ap (λ xs. c ∷ xs) (repeated_before c m e)
+
+heads : (x y : ℕ) (xs ys : List ℕ) → x ∷ xs ≡ y ∷ ys → x ≡ y
+heads x y xs ys e = cc
+
+tails : (x y : ℕ) (xs ys : List ℕ) → x ∷ xs ≡ y ∷ ys → xs ≡ ys
+tails x y xs ys e = cc
+
+spread : (c m : ℕ) (e : List ℕ) → take (length e) (replicate (suc m) c ++ e) ≡ e → e ≡ replicate (length e) c
+spread c m [] h = refl
+spread c m (x ∷ e) h =
+    let is = heads c x (take (length e) (replicate m c ++ x ∷ e)) e h in
+    let more = tails c x (take (length e) (replicate m c ++ x ∷ e)) e h in
+    let front : replicate m c ++ x ∷ e ≡ replicate (suc m) c ++ e = ap (λ y. replicate m c ++ y ∷ e) (sym is) ∙ repeated_before c m e in
+    rw (← is) (ap (λ xs. c ∷ xs) (spread c m e (ap (take (length e)) (sym front) ∙ more)))
+
+alone : (c n : ℕ) → take n (c ∷ replicate n c) ≡ replicate n c
+alone c zero = refl
+alone c (suc n) = ap (λ xs. c ∷ xs) (alone c n)
+
+repeats : (c n i : ℕ) (end : List ℕ) → i < n → (m : ℕ) × (drop i (replicate n c ++ end) ≡ replicate (suc m) c ++ end)
+repeats c zero i end l = absurd (omega arith)
+repeats c (suc n) zero end l = (n, refl)
+repeats c (suc n) (suc i) end l = repeats c n i end (omega arith)
+
+-- where one such character can stand, more of them can
+pub one_repeats : (c n : ℕ) (end : List ℕ) → first_end end (c ∷ []) ≡ None → first_end end (replicate n c) ≡ None
+one_repeats c n end none =
+    find_none (λ i. same_name (take (length end) (drop i (replicate n c ++ end))) end) 0 (length (replicate n c)) (λ i l m. by i (omega (arith, m, long n c)) (same_name (take (length end) (drop i (replicate n c ++ end))) end) refl)
+  where
+    found : (b : Bool) → b ≡ true → if◌then◌else◌ {A = Option ℕ} b (Some 0) None ≡ None → ⊥
+    found true e q = cc
+    found false e q = cc
+
+    by : (i : ℕ) → i < n → (b : Bool) → same_name (take (length end) (drop i (replicate n c ++ end))) end ≡ b → b ≡ false
+    by i l false e = refl
+    by i l true e =
+        let r = repeats c n i end l in
+        let all = spread c r.0 end (ap (take (length end)) (sym r.1) ∙ same_name-is (take (length end) (drop i (replicate n c ++ end))) end e) in
+        let one : take (length end) (c ∷ end) ≡ end = ap (λ xs. take (length end) (c ∷ xs)) all ∙ (alone c (length end) ∙ sym all) in
+        absurd (found (same_name (take (length end) (c ∷ end)) end) (ap (λ xs. same_name xs end) one ∙ same_name-refl end) none)
 
 -- Ranges.
 

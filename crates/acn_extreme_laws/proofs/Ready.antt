@@ -42,7 +42,7 @@ use Rattle.acn_grammar.proofs.TreeRules.{tree_fine}
 use Rattle.acn_grammar.proofs.WholeTests.{either, le_fact, eq_fact, eq_self, lt_fact, ge_fact}
 use Rattle.acn_grammar.proofs.Within.{between}
 use Rattle.acn_packet_laws.specs.Laws.{IsAccepted, UsesFitTheirSlots, ValuesLieWithinBounds}
-use Rattle.acn_extreme_laws.specs.Best.{other_than, other_than_octet, character_by}
+use Rattle.acn_extreme_laws.specs.Best.{other_than, other_than_octet, other_by}
 use Rattle.acn_extreme_laws.specs.Reach.{natural}
 use Rattle.acn_extreme_laws.specs.Single.{CountsPermitted, SlotPermits, OtherThanEnd, Single}
 use Rattle.acn_extreme_laws.specs.declared.why.Why.TheVariants.{CountNotPermitted, TerminatorAlone, OfAComponent}
@@ -125,7 +125,7 @@ Differs end c = (octet : List Bool) → slice_get (in_octets end) 0 ≡ Some oct
 
 abbrev pub TextReady : Option (List Bool) → TextLeaf → Type 0
 TextReady None leaf = Unit {0}
-TextReady (Some end) leaf = In leaf.alphabet (pos (character_by (Some end) leaf.alphabet)) × Differs end (character_by (Some end) leaf.alphabet)
+TextReady (Some end) leaf = In leaf.alphabet (pos (other_by end leaf.alphabet)) × Differs end (other_by end leaf.alphabet)
 
 -- the count of octets of a content is permitted, and one that the slot says
 abbrev pub ContentReady : Grammar → Sizing → Grammar → Type 0

@@ -19,7 +19,7 @@ use Rattle.acn_grammar.proofs.WholeTests.{either, le_fact}
 use Rattle.acn_grammar.proofs.Within.{ends-has, between}
 use Rattle.acn_extreme_laws.specs.Laws.{Ordered}
 use Rattle.acn_extreme_laws.specs.Reach.{natural, sizes_by, sizes_can}
-use Rattle.acn_extreme_laws.specs.Best.{end_of}
+use Rattle.acn_extreme_laws.specs.Best.{end_of, is_enough}
 use Rattle.acn_extreme_laws.specs.declared.side.Side.{Side}
 use Rattle.acn_extreme_laws.specs.declared.side.Side.TheVariants.{Shortest, Longest}
 use Rattle.acn_extreme_laws.proofs.Parts.{ends_are_members}
@@ -125,3 +125,7 @@ chosen_size root side sizing e fine is = size_of_member root sizing (end_of side
 
 pub least_size : (root : Grammar) (sizing : Sizing) (e : ℤ × ℤ) → sizes_fine sizing.sizes ≡ true → ends (sizes_can root sizing) ≡ Some e → IsSize root sizing (natural e.0)
 least_size root sizing e fine is = chosen_size root Shortest sizing e fine is
+
+pub enough_size : (root : Grammar) (side : Side) (sizing : Sizing) → sizes_fine sizing.sizes ≡ true → (k : ℕ) → is_enough side (sizes_can root sizing) k ≡ true → IsSize root sizing k
+enough_size root Shortest sizing fine k h = cc
+enough_size root Longest sizing fine k h = size_of_member root sizing (pos k) fine h

@@ -1,14 +1,16 @@
 -- A value of a node with a shortest packet, and one with a longest, put together part by part: the walk, as plain data. Places are
 -- held down to 2^40. (For proofs: what is promised of these values speaks of spellings.)
-use Rattle.std.specs.Prelude.{◌≡◌, ℕ, zero, suc, ◌+◌, ◌*◌, ℤ, pos, ◌+ℤ◌, int_lt, Bool, true, false, List, [], ◌∷◌, length, Option, Some, None, if◌then◌else◌, replicate, slice_get}
+use Rattle.std.specs.Prelude.{◌≡◌, ℕ, zero, suc, ◌+◌, ◌*◌, ℤ, pos, ◌+ℤ◌, int_lt, nat_eq, Bool, true, false, ◌&&◌, List, [], ◌∷◌, length, Option, Some, None, is_none, if◌then◌else◌, replicate, slice_get}
 use Rattle.std.specs.Ordering.{int_eq}
 use Rattle.acn_num.specs.Bits.{octets as octets_for, number}
-use Rattle.acn_num.specs.Ranges.{Ranges}
+use Rattle.acn_num.specs.Ranges.{Ranges, has}
 use Rattle.acn_grammar.specs.Code.{in_octets}
 use Rattle.acn_grammar.specs.Grammar.{Grammar, Form, Fields, Alternatives, Data, Places, Elements, node, num, octets, bits, text, seq, list, choice, contained, no_fields, component, inserted, no_alternatives, alternative, int, boolean, item, null, octet_string, bit_string, characters, record_of, list_of, alt, no_places, empty, filled, no_elements, element}
 use Rattle.acn_grammar.specs.Images.{ends}
 use Rattle.acn_grammar.specs.Interval.{held}
 use Rattle.acn_grammar.specs.Length.{padding, num_length, rule_width, index_width, ending, least}
+use Rattle.acn_grammar.specs.Meets.{first_end}
+use Rattle.acn_grammar.specs.Spell.{octet_numbers}
 use Rattle.acn_grammar.specs.declared.bounds.Bounds.{Bounds}
 use Rattle.acn_grammar.specs.declared.node.ChoiceRule.{ChoiceRule}
 use Rattle.acn_grammar.specs.declared.node.NumKind.{NumKind}
@@ -37,6 +39,10 @@ abbrev pub size_by : Side → Option (ℤ × ℤ) → Option ℕ
 size_by side None = None
 size_by side (Some e) = Some (natural (end_of side e))
 
+-- where parts have no bits the least size serves on both sides
+abbrev pub side_by : (unit : ℕ) → Side → Side
+side_by unit side = if nat_eq unit 0 then Shortest else side
+
 abbrev pub parts_way : (unit : ℕ) → (ℕ → Data) → (at : ℕ) → Option ℕ → Option (Way Data)
 parts_way unit value at None = None
 parts_way unit value at (Some n) = Some (behind at (unit * n), value n)
@@ -50,10 +56,18 @@ abbrev pub other_than_octet : Option (List Bool) → Ranges → ℕ
 other_than_octet None rs = natural (least rs)
 other_than_octet (Some octet) rs = other_than (pos (number octet)) rs
 
--- a character that the terminator doesn't begin with
+-- the least character that the terminator doesn't begin with
+abbrev pub other_by : (end : List Bool) → Ranges → ℕ
+other_by end rs = other_than_octet (slice_get (in_octets end) 0) rs
+
+-- whether one such character in front of the terminator doesn't end the text too early
+abbrev pub can_stand : (end : List Bool) → ℕ → Bool
+can_stand end c = is_none (first_end (octet_numbers end) (c ∷ []))
+
+-- the least character of which texts can be made: one that the terminator begins with may be such a character
 abbrev pub character_by : Option (List Bool) → Ranges → ℕ
 character_by None rs = natural (least rs)
-character_by (Some end) rs = other_than_octet (slice_get (in_octets end) 0) rs
+character_by (Some end) rs = if can_stand end (natural (least rs)) then natural (least rs) else other_by end rs
 
 abbrev pub character_of : TextLeaf → ℕ
 character_of leaf = character_by leaf.ended leaf.alphabet
@@ -116,10 +130,19 @@ abbrev pub with_element : Option (Way Data) → (ℕ → Option (Way Elements)) 
 with_element None next = None
 with_element (Some w) next = element_way w.1 (next w.0)
 
--- so many elements
-abbrev pub run_way : (ℕ → Option (Way Data)) → ℕ → (at : ℕ) → Option (Way Elements)
-run_way each zero at = Some (at, no_elements)
-run_way each (suc n) at = with_element (each at) (run_way each n)
+-- whether a list of so many is as long as any, where no element behind them has bits
+abbrev pub is_enough : Side → Ranges → ℕ → Bool
+is_enough Shortest sizes k = false
+is_enough Longest sizes k = has sizes (pos k)
+
+abbrev pub adds_nothing : Option (Way Data) → (at : ℕ) → Bool
+adds_nothing None at = false
+adds_nothing (Some w) at = nat_eq w.0 at
+
+-- so many elements behind k others, or fewer: where the next one has no bits, those before it serve if they are enough
+abbrev pub run_way : (enough : ℕ → Bool) → (ℕ → Option (Way Data)) → ℕ → (k at : ℕ) → Option (Way Elements)
+run_way enough each zero k at = Some (at, no_elements)
+run_way enough each (suc n) k at = if adds_nothing (each at) at && enough k then Some (at, no_elements) else with_element (each at) (run_way enough each n (suc k))
 
 -- or none, where there can be none
 abbrev pub or_none : Option (Way Elements) → (fewest at : ℕ) → Option (Way Elements)
@@ -127,9 +150,9 @@ or_none (Some w) n at = Some w
 or_none None zero at = Some (at, no_elements)
 or_none None (suc n) at = None
 
-abbrev pub run_by_ends : Side → (ℕ → Option (Way Data)) → (at : ℕ) → Option (ℤ × ℤ) → Option (Way Elements)
-run_by_ends side each at None = None
-run_by_ends side each at (Some e) = or_none (run_way each (natural (end_of side e)) at) (natural e.0) at
+abbrev pub run_by_ends : Side → Ranges → (ℕ → Option (Way Data)) → (at : ℕ) → Option (ℤ × ℤ) → Option (Way Elements)
+run_by_ends side sizes each at None = None
+run_by_ends side sizes each at (Some e) = or_none (run_way (is_enough side sizes) each (natural (end_of side e)) 0 at) (natural e.0) at
 
 abbrev pub list_way : (n : ℕ) → Option (Way Elements) → Option (Way Data)
 list_way n None = None
@@ -137,8 +160,8 @@ list_way n (Some w) = Some (behind w.0 n, list_of w.1)
 
 -- a size in front of the elements, or a pattern behind them
 abbrev pub elements_way : Side → Option (List Bool) → SizeRule → (ℕ → Option (Way Data)) → Ranges → (at : ℕ) → Option (Way Data)
-elements_way side None rule each sizes at = list_way 0 (run_by_ends side each (behind at (rule_width rule)) (ends sizes))
-elements_way side (Some p) rule each sizes at = list_way (length p) (run_by_ends side each at (ends sizes))
+elements_way side None rule each sizes at = list_way 0 (run_by_ends side sizes each (behind at (rule_width rule)) (ends sizes))
+elements_way side (Some p) rule each sizes at = list_way (length p) (run_by_ends side sizes each at (ends sizes))
 
 -- whole octets round contents
 abbrev pub octets_way : (at width : ℕ) → Option (Way Data) → Option (Way Data)
@@ -154,7 +177,7 @@ module _ (root : Grammar) (side : Side) where
     form_best (num leaf) at = Some (behind at (num_length leaf (number_at side leaf)), number_data leaf.kind (number_at side leaf))
     form_best (octets sizing) at = parts_way 8 (λ n. octet_string (replicate n 0)) (behind at (rule_width sizing.rule)) (size_by side (ends (sizes_can root sizing)))
     form_best (bits sizing) at = parts_way 1 (λ n. bit_string (replicate n false)) (behind at (rule_width sizing.rule)) (size_by side (ends (sizes_can root sizing)))
-    form_best (text leaf) at = parts_way leaf.width (λ n. characters (replicate n (character_of leaf))) (behind at (text_around leaf.ended leaf)) (size_by side (ends (sizes_can root leaf.sized)))
+    form_best (text leaf) at = parts_way leaf.width (λ n. characters (replicate n (character_of leaf))) (behind at (text_around leaf.ended leaf)) (size_by (side_by leaf.width side) (ends (sizes_can root leaf.sized)))
     form_best (seq fields home) at = record_way (fields_best fields (behind at (presence_count fields)))
     form_best (list sizing g) at = elements_way side (ending sizing.rule) sizing.rule (best g) (sizes_can root sizing) at
     form_best (choice cases rule) at = cases_best rule cases 0 (behind at (index_width rule)) None

@@ -12,7 +12,7 @@ use Rattle.acn_grammar.specs.declared.node.SizeRule.{SizeRule}
 use Rattle.acn_grammar.specs.declared.node.SizeRule.TheVariants.{Prefix, Slot, Ended}
 use Rattle.acn_grammar.specs.declared.node.Sizing.{Sizing}
 use Rattle.acn_grammar.specs.declared.node.Test.{Test}
-use Rattle.acn_extreme_laws.specs.Best.{character_by}
+use Rattle.acn_extreme_laws.specs.Best.{other_by}
 use Rattle.acn_extreme_laws.specs.Single.{tested, count_of_slot, choice_use}
 use Rattle.acn_extreme_laws.specs.declared.why.Why.{Why}
 use Rattle.acn_extreme_laws.specs.declared.why.Why.TheVariants.{TwoUses, ThroughAList, CountNotPermitted, TerminatorAlone, OfAComponent}
@@ -93,7 +93,7 @@ begins_with (Some octet) c = nat_eq c (number octet)
 
 abbrev pub other_there : Option (List Bool) → Ranges → Bool
 other_there None alphabet = true
-other_there (Some end) alphabet = has alphabet (pos (character_by (Some end) alphabet)) && not (begins_with (slice_get (in_octets end) 0) (character_by (Some end) alphabet))
+other_there (Some end) alphabet = has alphabet (pos (other_by end alphabet)) && not (begins_with (slice_get (in_octets end) 0) (other_by end alphabet))
 
 abbrev pub form_bars : Grammar → Why → Form → Bool
 form_bars root CountNotPermitted (contained sizing g) = not (counts_covered root sizing (octets_for (span g).least) (octets_for (span g).greatest))

@@ -4,45 +4,17 @@ use Rattle.std.proofs.lemmas.Bool.{or_left, or_right, and_parts}
 use Rattle.std.proofs.lemmas.Int.{ints}
 use Rattle.std.specs.Prelude.{◌≤ℤ◌, ◌<ℤ◌, ◌+ℤ◌, int_le, int_lt}
 use Rattle.std.specs.Int.{int_max, int_min}
-use Rattle.acn_num.specs.Ranges.{Ranges, has, Above, AreRanges, least, greatest, all_within, IsMeet}
+use Rattle.acn_num.specs.Ranges.{Ranges, has, Above, least, greatest, IsMeet}
 use Rattle.acn_grammar.specs.Images.{ends, ends_from}
-use Rattle.acn_extreme_laws.specs.Laws.{Ordered}
-use Rattle.acn_extremes.specs.Picked.{AreParts}
+use Rattle.acn_single.proofs.Ordered.{in_range, self}
 use Rattle.acn_num.specs.declared.limits.TheConstants.{MOST_SIZE}
 use Rattle.acn_grammar.specs.Leaves.{sizes_fine}
 use Rattle.acn_extremes.specs.Ways.{AreSizes}
 use Rattle.acn_grammar.proofs.RangeEnds.{lies_within}
 use Rattle.acn_grammar.proofs.TextRules.{size_rules}
-use Rattle.acn_grammar.proofs.WholeTests.{le_test, lt_fact}
-
-pub ordered : (b : ℤ) (rs : Ranges) → Above b rs → Ordered rs
-ordered b [] h = tt
-ordered b (r ∷ rs) h = (h.1, ordered (r.1 +ℤ pos 1) rs h.3)
-
-in_range : (a b x : ℤ) → a ≤ℤ x → x ≤ℤ b → (int_le a x && int_le x b) ≡ true
-in_range a b x h k = rw (le_test a x h, le_test x b k) refl
-
-self : (x : ℤ) → x ≤ℤ x
-self x = omega (arith, ints)
-
--- each range of a set is one of its parts
-parts_of : (set rs : Ranges) → Ordered rs → ((x : ℤ) → has rs x ≡ true → has set x ≡ true) → AreParts set rs
-parts_of set [] o h = tt
-parts_of set (r ∷ rs) o h = (
-  record { order = o.0; within = λ x a b. h x (or_left (int_le r.0 x && int_le x r.1) (has rs x) (in_range r.0 r.1 x a b)) },
-  parts_of set rs o.1 (λ x q. h x (or_right (int_le r.0 x && int_le x r.1) (has rs x) q)),
-)
-
-pub are_parts : (set : Ranges) → AreRanges set → AreParts set set
-are_parts set h = parts_of set set (ordered _ set h) (λ x q. q)
+use Rattle.acn_grammar.proofs.WholeTests.{lt_fact}
 
 -- the ends
-pub least_in : (b : ℤ) (rs : Ranges) (z : ℤ) → Above b rs → least rs ≡ Some z → has rs z ≡ true
-least_in b [] z h e = cc
-least_in b (r ∷ rs) z h e =
-    let is : r.0 ≡ z = cc in
-    rw (← is) (or_left (int_le r.0 r.0 && int_le r.0 r.1) (has rs r.0) (in_range r.0 r.1 r.0 (self r.0) h.1))
-
 pub greatest_in : (b : ℤ) (rs : Ranges) (z : ℤ) → Above b rs → greatest rs ≡ Some z → has rs z ≡ true
 greatest_in b [] z h e = cc
 greatest_in b (r ∷ []) z h e =
@@ -98,9 +70,6 @@ some_greatest r (q ∷ rs) e = some_greatest q rs e
 pub both_or_none : (rs : Ranges) (x : ℤ) → least rs ≡ Some x → greatest rs ≡ None → ⊥
 both_or_none [] x e g = cc
 both_or_none (r ∷ rs) x e g = some_greatest r rs g
-
-pub least_within : (b : ℤ) (rs : Ranges) (low high x : ℤ) → Above b rs → all_within low high rs ≡ true → least rs ≡ Some x → (low ≤ℤ x) × (x ≤ℤ high)
-least_within b rs low high x above h e = lies_within rs low high x h (least_in b rs x above e)
 
 -- Sizes.
 

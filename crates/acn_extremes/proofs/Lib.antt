@@ -1,14 +1,6 @@
-mod Counting
 mod Endings
-mod Listing
-mod Octets
-mod Picking
 mod Placing
 mod Rules
 mod Runs
-mod Seeing
-mod Stepping
 mod Told
-mod Tuples
 mod Views
-mod Here

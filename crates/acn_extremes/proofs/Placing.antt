@@ -1,21 +1,19 @@
--- Places of components that are made one after another, as a list, and the alternatives one after another.
-use Rattle.std.proofs.Common.{◌≡◌, ℕ, suc, ◌+◌, ◌<◌, List, [], ◌∷◌, ◌++◌, length, get_or, drop, Option, Some, None, refl, sym, ap, ◌∙◌, subst, arith, append_assoc}
+-- Places of components that are made one after another, as a list.
+use Rattle.std.proofs.Common.{◌≡◌, ℕ, ◌+◌, ◌<◌, List, [], ◌∷◌, ◌++◌, length, get_or, drop, Option, Some, None, refl, sym, ap, ◌∙◌, append_assoc}
 use Rattle.std.specs.Prelude.{option_map}
 use Rattle.std.proofs.lemmas.List.{drop_more, append-nil}
-use Rattle.acn_grammar.specs.Grammar.{Grammar, Fields, Data, Places, no_fields, component, inserted, alternative}
-use Rattle.acn_grammar.specs.View.{OneField, a_component, an_inserted, with_field, field_of, fields_view, places_of, alternatives_view, alternative_of}
-use Rattle.acn_grammar.specs.declared.node.Alternative.{Alternative}
-use Rattle.acn_grammar.specs.declared.node.ChoiceRule.{ChoiceRule}
+use Rattle.acn_grammar.specs.Grammar.{Grammar, Fields, Data, Places, no_fields, component, inserted}
+use Rattle.acn_grammar.specs.View.{OneField, a_component, with_field, field_of, fields_view, places_of}
 use Rattle.acn_grammar.specs.declared.node.Field.{Field}
 use Rattle.acn_grammar.specs.declared.node.Presence.{Presence}
-use Rattle.acn_extreme_laws.specs.Best.{Way, put_way, with_place, past, better, best, fields_best, cases_best}
+use Rattle.acn_extreme_laws.specs.Best.{Way, put_way, with_place, past, best, fields_best}
 use Rattle.acn_extreme_laws.specs.declared.side.Side.{Side}
-use Rattle.acn_extremes.specs.Ways.{component_way, place_first, pass_first, places_left, added, left_behind, case_way, CanMake, FieldCanMake, FieldsCanMake, AlternativesCanMake}
+use Rattle.acn_extremes.specs.Ways.{component_way, place_first, pass_first, places_left, added, left_behind}
 
 -- Fields.
 
 -- the fields from i on are that field and those behind it
-pub fields_from : (fs : List Field) (i : ℕ) (f : Field) → i < length fs → f ≡ get_or fs i f → fields_view (drop i fs) ≡ with_field (field_of f) (fields_view (drop (i + 1) fs))
+fields_from : (fs : List Field) (i : ℕ) (f : Field) → i < length fs → f ≡ get_or fs i f → fields_view (drop i fs) ≡ with_field (field_of f) (fields_view (drop (i + 1) fs))
 fields_from fs i f h e = rw (drop_more fs i f h, ← e) refl
 
 abbrev pub as_places : Way (List (Option Data)) → Way Places
@@ -76,35 +74,3 @@ module _ (root : Grammar) (side : Side) where
       by : (o : Option (Way (List (Option Data)))) → added (old ++ w.1 ∷ []) o ≡ added old (option_map (λ v. (v.0, w.1 ∷ v.1)) o)
       by None = refl
       by (Some v) = ap (λ ds. Some (v.0, ds)) (append_assoc old (w.1 ∷ []) v.1)
-
--- What the walk takes, field by field.
-
-pub field_can : (f : OneField) (left rest : Fields) → left ≡ with_field f rest → FieldsCanMake left → FieldCanMake f × FieldsCanMake rest
-field_can f left rest e h = parts f rest (subst FieldsCanMake e h)
-  where
-    parts : (f : OneField) (rest : Fields) → FieldsCanMake (with_field f rest) → FieldCanMake f × FieldsCanMake rest
-    parts (a_component n g p def own) rest h = h
-    parts (an_inserted n g slot) rest h = h
-
--- Alternatives.
-
-pub cases_from : (as' : List Alternative) (i : ℕ) (a : Alternative) → i < length as' → a ≡ get_or as' i a
-    → alternatives_view (drop i as') ≡ alternative (alternative_of a).name (alternative_of a).grammar (alternative_of a).tests (alternatives_view (drop (i + 1) as'))
-cases_from as' i a h e = rw (drop_more as' i a h, ← e) refl
-
-pub case_can : (as' : List Alternative) (i : ℕ) (a : Alternative) → i < length as' → a ≡ get_or as' i a → AlternativesCanMake (alternatives_view (drop i as')) → CanMake (alternative_of a).grammar × AlternativesCanMake (alternatives_view (drop (i + 1) as'))
-case_can as' i a h e can = subst AlternativesCanMake (cases_from as' i a h e) can
-
-module _ (root : Grammar) (side : Side) where
-  -- an alternative more
-  pub case_turn : (as' : List Alternative) (i k at : ℕ) (a : Alternative) (rule : ChoiceRule) (o next o' : Option (Way Data)) (whole : Option (Way Data)) → i < length as' → a ≡ get_or as' i a
-      → next ≡ case_way root side rule (alternative_of a) k at → o' ≡ better side o next
-      → cases_best root side rule (alternatives_view (drop i as')) k at o ≡ whole → cases_best root side rule (alternatives_view (drop (i + 1) as')) (k + 1) at o' ≡ whole
-  case_turn as' i k at a rule o next o' whole h e f g same =
-      let turn : cases_best root side rule (alternatives_view (drop i as')) k at o ≡ cases_best root side rule (alternatives_view (drop (i + 1) as')) (suc k) at (better side o (case_way root side rule (alternative_of a) k at)) =
-      ap (λ x. cases_best root side rule x k at o) (cases_from as' i a h e) in
-      let here : o' ≡ better side o (case_way root side rule (alternative_of a) k at) = g ∙ ap (better side o) f in
-      ap (λ x. cases_best root side rule (alternatives_view (drop (i + 1) as')) (k + 1) at x) here ∙ (ap (λ n. cases_best root side rule (alternatives_view (drop (i + 1) as')) n at (better side o (case_way root side rule (alternative_of a) k at))) (one k) ∙ (sym turn ∙ same))
-    where
-      one : (k : ℕ) → k + 1 ≡ suc k
-      one k = omega arith

@@ -3,7 +3,7 @@ use Rattle.std.specs.Prelude.{◌≡◌, ℕ, ◌<◌, ◌^◌, ℤ, pos, ◌≤
 use Rattle.acn_num.specs.Ranges.{Ranges, has}
 use Rattle.acn_num.specs.declared.limits.TheConstants.{MOST_SIZE}
 use Rattle.acn_grammar.specs.Fails.{count_of}
-use Rattle.acn_grammar.specs.Grammar.{Grammar, Form, Fields, Alternatives, Data, Places, Elements, node, num, octets, bits, text, seq, list, choice, contained, no_fields, component, inserted, no_alternatives, alternative}
+use Rattle.acn_grammar.specs.Grammar.{Grammar, Form, Fields, Alternatives, Data, Places, Elements, node, num, octets, bits, text, seq, list, choice, contained, no_fields, component, inserted, no_alternatives, alternative, alt}
 use Rattle.acn_grammar.specs.Leaves.{num_fine, sizes_fine, text_fine}
 use Rattle.acn_grammar.specs.Length.{rule_width}
 use Rattle.acn_grammar.specs.View.{OneAlternative, OneField, a_component, an_inserted, data_of, places_view, elements_view}
@@ -14,11 +14,15 @@ use Rattle.acn_grammar.specs.declared.value.Value.{Value}
 use Rattle.acn_extreme_laws.specs.Best.{Way as SpecWay, behind, better, where_way, there_way, alternative_way, best}
 use Rattle.acn_extreme_laws.specs.Reach.{can_be_there, can_be_away, can_be_chosen}
 use Rattle.acn_extreme_laws.specs.declared.side.Side.{Side}
+use Rattle.acn_extremes.specs.declared.ways.Chosen.{Chosen}
 use Rattle.acn_extremes.specs.declared.ways.SizeEnds.{SizeEnds}
 use Rattle.acn_extremes.specs.declared.ways.Way.{Way}
 
 abbrev pub value_way : Way Value → SpecWay Data
 value_way w = (w.end, data_of w.made)
+
+abbrev pub chosen_way : Chosen → SpecWay Data
+chosen_way c = (c.end, alt c.index (data_of c.value))
 
 abbrev pub place_way : Way (Option Value) → SpecWay (Option Data)
 place_way w = (w.end, option_map data_of w.made)

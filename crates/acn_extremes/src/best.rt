@@ -1,6 +1,6 @@
 //! The walk that makes a value of a node with a shortest packet, or with a longest, part by part.
 
-ghost use Rattle.std.specs.Prelude.{◌≡◌, ◌<◌, ◌^◌, [], ℕ, IfOk, IsTrue, Option, List, Some, None, option_map, map, length};
+ghost use Rattle.std.specs.Prelude.{◌≡◌, ◌<◌, ◌^◌, ◌&&◌, nat_eq, [], ℕ, IfOk, IsTrue, Option, List, Some, None, option_map, map, length};
 ghost use Rattle.acn_grammar.specs.Grammar.{Fields, Data};
 ghost use Rattle.acn_grammar.specs.Images.{ends};
 ghost use Rattle.acn_grammar.specs.Leaves.{sizes_fine};
@@ -8,16 +8,17 @@ ghost use Rattle.acn_grammar.specs.Length.{rule_width, ending};
 ghost use Rattle.acn_grammar.specs.View.{grammar_of, form_of, data_of, field_of, alternative_of, fields_view, with_field, alternatives_view};
 ghost use Rattle.acn_extreme_laws.specs.Best as best;
 ghost use Rattle.acn_extreme_laws.specs.Reach as reach;
-ghost use Rattle.acn_extremes.specs.Ways.{value_way, place_way, places_way, elements_way, component_way, places_left, added, left_behind, CanMake, FormCanMake, FieldCanMake, FieldsCanMake, AlternativesCanMake, case_way};
+ghost use Rattle.acn_extremes.specs.Ways.{value_way, chosen_way, place_way, places_way, elements_way, component_way, places_left, added, left_behind, CanMake, FormCanMake, FieldCanMake, FieldsCanMake, AlternativesCanMake, case_way};
 
 use crate::parts::{
     best_bits, best_number, best_octets, best_text, elements_start, end_of, index_bits, listed,
-    presence_count, size_bits, size_ends,
+    presence_count, set_ends, size_bits, sizes_can,
 };
-use crate::slots::{Slots, can_be_away, can_be_chosen, can_be_there};
-use crate::ways::{Way, behind, behind_octets, better_place, better_value, padded};
+use crate::slots::{can_be_away, can_be_chosen, can_be_there};
+use crate::ways::{Chosen, Way, behind, behind_octets, better_case, better_place, padded};
 use acn_extreme_laws::Side;
-use acn_num::{Boxed, NoMemory, Row};
+use acn_num::{Boxed, NoMemory, RangeSet, Row};
+use acn_single::Slots;
 use acn_tree::{Alternative, Body, ChoiceRule, Field, Node, Presence, Sizing, Value};
 use std::alloc::Global;
 
@@ -241,37 +242,65 @@ fn best_run(
 ) -> Result<Option<Way<Row<Value>>>, NoMemory>
     requires sizes { IsTrue (sizes_fine sizing.now.sizes) }
     requires element { CanMake (grammar_of element.now) }
-    ensures { IfOk result (λ w. option_map elements_way w ≡ best.run_by_ends side (best.best (grammar_of slots.now.root.now) side (grammar_of element.now)) at (ends (reach.sizes_can (grammar_of slots.now.root.now) sizing.now))) }
+    ensures { IfOk result (λ w. option_map elements_way w ≡ best.run_by_ends side (reach.sizes_can (grammar_of slots.now.root.now) sizing.now) (best.best (grammar_of slots.now.root.now) side (grammar_of element.now)) at (ends (reach.sizes_can (grammar_of slots.now.root.now) sizing.now))) }
 {
-    match size_ends(alloc, sizing, slots)? {
+    let sizes = sizes_can(alloc, sizing, slots)?;
+    match set_ends(&sizes) {
         None => Ok(None),
-        Some(ends) => match best_elements(alloc, element, end_of(side, ends), slots, side, at)? {
-            Some(elements) => Ok(Some(elements)),
-            None => Ok(no_elements(alloc, ends.low, at)),
-        },
+        Some(ends) => {
+            let n = end_of(side, ends);
+            match best_elements(alloc, element, n, &sizes, slots, side, at)? {
+                Some(elements) => Ok(Some(elements)),
+                None => Ok(no_elements(alloc, ends.low, at)),
+            }
+        }
     }
 }
 
-// So many elements.
+// Whether a list of so many elements is as long as any, where no element behind them has bits.
+fn is_enough(side: Side, sizes: &RangeSet, k: u64) -> bool
+    ensures { result ≡ best.is_enough side sizes.now k }
+{
+    match side {
+        Side::Shortest => false,
+        Side::Longest => sizes.holds_natural(k),
+    }
+}
+
+// Whether a list of so many elements serves: it is enough, and the next element ends where it begins.
+fn is_last(side: Side, sizes: &RangeSet, k: u64, end: u64, next: u64) -> bool
+    ensures { result ≡ (nat_eq next end && best.is_enough side sizes.now k) }
+{
+    next == end && is_enough(side, sizes, k)
+}
+
+// So many elements, or fewer: where the next one has no bits, those before it serve if they are enough.
 #[cycle(best)]
 fn best_elements(
     alloc: Global,
     element: &Node,
     n: u64,
+    sizes: &RangeSet,
     slots: &Slots<'_>,
     side: Side,
     at: u64,
 ) -> Result<Option<Way<Row<Value>>>, NoMemory>
     requires { CanMake (grammar_of element.now) }
-    ensures { IfOk result (λ w. option_map elements_way w ≡ best.run_way (best.best (grammar_of slots.now.root.now) side (grammar_of element.now)) n at) }
+    ensures { IfOk result (λ w. option_map elements_way w ≡ best.run_way (best.is_enough side sizes.now) (best.best (grammar_of slots.now.root.now) side (grammar_of element.now)) n 0 at) }
 {
     let mut elements = Row::new(alloc);
     let mut end = at;
-    for _ in 0..n {
+    for k in 0..n {
         let next = best_node(alloc, element, slots, side, end)?;
         match next {
             None => return Ok(None),
             Some(way) => {
+                if is_last(side, sizes, k, end, way.end) {
+                    return Ok(Some(Way {
+                        end,
+                        made: elements,
+                    }));
+                }
                 end = way.end;
                 elements.push(way.made)?;
             }
@@ -281,6 +310,19 @@ fn best_elements(
         end,
         made: elements,
     }))
+}
+
+// The value of the alternative that is chosen.
+fn chosen_value(alloc: Global, chosen: Option<Chosen>) -> Result<Option<Way<Value>>, NoMemory>
+    ensures { IfOk result (λ w. option_map value_way w ≡ option_map chosen_way chosen) }
+{
+    match chosen {
+        None => Ok(None),
+        Some(one) => Ok(Some(Way {
+            end: one.end,
+            made: Value::Alt(one.index, Boxed::new(alloc, one.value)?),
+        })),
+    }
 }
 
 #[cycle(best)]
@@ -300,10 +342,10 @@ fn best_case(
     let mut index = 0u32;
     for alternative in alternatives {
         let next = best_alternative(alloc, alternative, rule, slots, side, at, index)?;
-        best = better_value(side, best, next);
+        best = better_case(side, best, next);
         index += 1;
     }
-    Ok(best)
+    chosen_value(alloc, best)
 }
 
 #[cycle(best)]
@@ -315,9 +357,9 @@ fn best_alternative(
     side: Side,
     at: u64,
     index: u32,
-) -> Result<Option<Way<Value>>, NoMemory>
+) -> Result<Option<Chosen>, NoMemory>
     requires { CanMake (alternative_of alternative.now).grammar }
-    ensures { IfOk result (λ w. option_map value_way w ≡ case_way (grammar_of slots.now.root.now) side rule (alternative_of alternative.now) index at) }
+    ensures { IfOk result (λ w. option_map chosen_way w ≡ case_way (grammar_of slots.now.root.now) side rule (alternative_of alternative.now) index at) }
 {
     if !can_be_chosen(
         slots,
@@ -329,9 +371,10 @@ fn best_alternative(
     }
     match best_node(alloc, &alternative.node, slots, side, at)? {
         None => Ok(None),
-        Some(way) => Ok(Some(Way {
+        Some(way) => Ok(Some(Chosen {
+            index,
             end: way.end,
-            made: Value::Alt(index, Boxed::new(alloc, way.made)?),
+            value: way.made,
         })),
     }
 }

@@ -4,13 +4,9 @@
 mod answer;
 mod best;
 mod characters;
-mod lines;
-mod numbers;
 mod parts;
 mod reached;
-mod single;
 mod slots;
-mod uses;
 mod ways;
 
 pub use acn_extreme_laws::Why;

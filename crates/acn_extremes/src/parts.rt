@@ -12,12 +12,13 @@ ghost use Rattle.acn_extreme_laws.specs.Reach as reach;
 ghost use Rattle.acn_extremes.specs.Ways.{AreSizes, ends_of as ends_told, value_way, elements_way, list_start, list_ending};
 
 use crate::characters::character_by;
-use crate::numbers::number_at;
-use crate::slots::{Slots, met_with};
+use crate::slots::met_with;
 use crate::ways::{SizeEnds, Way, behind, behind_parts};
 use acn_extreme_laws::Side;
+use acn_extreme_numbers::number_at;
 use acn_ints::code_length;
 use acn_num::{NoMemory, RangeSet, Row};
+use acn_single::Slots;
 use acn_tree::{
     ChoiceRule, Field, NumKind, NumLeaf, Pattern, Presence, SizeRule, Sizing, TextLeaf, Value,
 };
@@ -84,8 +85,8 @@ pub fn best_number(
     })
 }
 
-// The least and the greatest number of a set.
-fn set_ends(set: &RangeSet) -> Option<SizeEnds>
+/// The least and the greatest number of a set.
+pub fn set_ends(set: &RangeSet) -> Option<SizeEnds>
     requires { AreSizes set.now }
     ensures { option_map ends_told result ≡ ends set.now }
 {
@@ -102,22 +103,19 @@ fn set_ends(set: &RangeSet) -> Option<SizeEnds>
     }
 }
 
-/// The least and the greatest size of those that the slot permits too.
-pub fn size_ends(
-    alloc: Global,
-    sizing: &Sizing,
-    slots: &Slots<'_>,
-) -> Result<Option<SizeEnds>, NoMemory>
+/// The sizes that the slot permits too.
+pub fn sizes_can(alloc: Global, sizing: &Sizing, slots: &Slots<'_>) -> Result<RangeSet, NoMemory>
     requires { IsTrue (sizes_fine sizing.now.sizes) }
-    ensures { IfOk result (λ e. option_map ends_told e ≡ ends (reach.sizes_can (grammar_of slots.now.root.now) sizing.now)) }
+    ensures sizes { IfOk result (λ both. both ≡ reach.sizes_can (grammar_of slots.now.root.now) sizing.now) }
+    ensures small { IfOk result (λ both. AreSizes both) }
 {
     match &sizing.rule {
         SizeRule::Slot(slot) => {
             let both = met_with(alloc, slots, *slot, &sizing.sizes)?;
-            Ok(set_ends(&both))
+            Ok(both)
         }
-        SizeRule::Prefix { .. } => Ok(set_ends(&sizing.sizes)),
-        SizeRule::Ended(_) => Ok(set_ends(&sizing.sizes)),
+        SizeRule::Prefix { .. } => Ok(sizing.sizes.copy(alloc)?),
+        SizeRule::Ended(_) => Ok(sizing.sizes.copy(alloc)?),
     }
 }
 
@@ -141,7 +139,8 @@ fn best_size(
     requires { IsTrue (sizes_fine sizing.now.sizes) }
     ensures { IfOk result (λ n. n ≡ best.size_by side (ends (reach.sizes_can (grammar_of slots.now.root.now) sizing.now))) }
 {
-    match size_ends(alloc, sizing, slots)? {
+    let sizes = sizes_can(alloc, sizing, slots)?;
+    match set_ends(&sizes) {
         None => Ok(None),
         Some(ends) => Ok(Some(end_of(side, ends))),
     }
@@ -303,6 +302,13 @@ fn text_around(leaf: &TextLeaf) -> u64
     }
 }
 
+// Where characters have no bits the least size serves on both sides.
+fn side_by(width: u64, side: Side) -> Side
+    ensures { result ≡ best.side_by width side }
+{
+    if width == 0 { Side::Shortest } else { side }
+}
+
 /// A text of one character.
 pub fn best_text(
     alloc: Global,
@@ -315,10 +321,11 @@ pub fn best_text(
     ensures { IfOk result (λ w. option_map value_way w ≡ best.form_best (grammar_of slots.now.root.now) side (text_form leaf.now) at) }
 {
     let character = character_by(&leaf.ended, &leaf.alphabet);
-    match best_size(alloc, &leaf.sized, slots, side)? {
+    let width = u64::from(leaf.width);
+    match best_size(alloc, &leaf.sized, slots, side_by(width, side))? {
         None => Ok(None),
         Some(n) => Ok(Some(Way {
-            end: behind_parts(behind(at, text_around(leaf)), u64::from(leaf.width), n),
+            end: behind_parts(behind(at, text_around(leaf)), width, n),
             made: Value::Text(repeated(alloc, character, n)?),
         })),
     }

@@ -1,43 +1,50 @@
 //! The shortest and the longest packet.
 
-ghost use Rattle.std.specs.Prelude.{IfOk, IfErr, MatchOption};
+ghost use Rattle.std.specs.Prelude.{IfOk, IfErr, MatchOption, option_map};
 ghost use Rattle.acn_extreme_laws.specs.Single.{Single};
 ghost use Rattle.acn_extremes.specs.Extreme.{AreEnds, EachIsRefused, IsWhyNot};
-ghost use Rattle.acn_extremes.specs.Told.{BestEnds};
-ghost use Rattle.acn_extremes.specs.Ways.{CanMake};
+ghost use Rattle.acn_extremes.specs.Told.{AreBoth, BestEnds};
+ghost use Rattle.acn_extremes.specs.Ways.{value_way, CanMake};
 ghost use Rattle.acn_grammar.specs.View.{grammar_of};
 ghost use Rattle.acn_packet_laws.specs.Laws.{IsAccepted};
 
 use crate::answer::{Ends, ExtremesFault};
 use crate::best::best_node;
-use crate::single::first_unsingle;
-use crate::slots::Slots;
+use crate::ways::Way;
 use acn_check::Checked;
-use acn_extreme_laws::{
-    Side, best_is_extreme, best_is_written, first_unsingle_is_found, no_best_is_refused,
-};
+use acn_extreme_laws::{Side, best_is_extreme, best_is_written, no_best_is_refused};
 use acn_num::NoMemory;
 use acn_packet_laws::accepted_is_sound;
-use acn_tree::Node;
+use acn_single::{Slots, first_unsingle};
+use acn_tree::{Node, Value};
 use std::alloc::Global;
+
+// Both values, where there are both.
+fn both_ends(shortest: Option<Way<Value>>, longest: Option<Way<Value>>) -> Option<Ends>
+    ensures { AreBoth (option_map value_way shortest) (option_map value_way longest) result }
+{
+    match shortest {
+        None => None,
+        Some(least) => match longest {
+            None => None,
+            Some(greatest) => Some(Ends {
+                least: least.end,
+                least_value: least.made,
+                greatest: greatest.end,
+                greatest_value: greatest.made,
+            }),
+        },
+    }
+}
 
 // The best values on both sides.
 fn best_ends(alloc: Global, slots: &Slots<'_>) -> Result<Option<Ends>, NoMemory>
     requires { CanMake (grammar_of slots.now.root.now) }
     ensures { IfOk result (BestEnds (grammar_of slots.now.root.now)) }
 {
-    match best_node(alloc, slots.root, slots, Side::Shortest, 0)? {
-        None => Ok(None),
-        Some(shortest) => match best_node(alloc, slots.root, slots, Side::Longest, 0)? {
-            None => Ok(None),
-            Some(longest) => Ok(Some(Ends {
-                least: shortest.end,
-                least_value: shortest.made,
-                greatest: longest.end,
-                greatest_value: longest.made,
-            })),
-        },
-    }
+    let shortest = best_node(alloc, slots.root, slots, Side::Shortest, 0)?;
+    let longest = best_node(alloc, slots.root, slots, Side::Longest, 0)?;
+    Ok(both_ends(shortest, longest))
 }
 
 // The same of a root.
@@ -50,15 +57,13 @@ fn root_extremes(alloc: Global, root: &Node) -> Result<Option<Ends>, ExtremesFau
     accepted_is_sound();
     best_is_extreme();
     best_is_written();
-    first_unsingle_is_found();
     no_best_is_refused();
-    let slots = Slots { root };
-    match first_unsingle(alloc, &slots)? {
+    match first_unsingle(alloc, root)? {
         Some(reason) => Err(ExtremesFault::NotSingle {
             at: reason.at,
             why: reason.why,
         }),
-        None => Ok(best_ends(alloc, &slots)?),
+        None => Ok(best_ends(alloc, &Slots { root })?),
     }
 }
 

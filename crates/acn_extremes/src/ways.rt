@@ -4,8 +4,8 @@ ghost use Rattle.std.specs.Prelude.{◌≡◌, ◌+◌, ◌*◌, ◌≤◌, ◌<
 ghost use Rattle.acn_num.specs.Bits.{octets as octets_for};
 ghost use Rattle.acn_extreme_laws.specs.Best as best;
 ghost use Rattle.acn_extreme_laws.specs.Codes as codes;
-ghost use Rattle.acn_extremes.specs.Ways.{value_way, place_way};
-ghost use Rattle.acn_grammar.specs.Length.{padding};
+ghost use Rattle.acn_extremes.specs.Ways.{chosen_way, place_way};
+ghost use Rattle.acn_grammar.specs.Length.{padding as spec_padding};
 
 use acn_extreme_laws::Side;
 use acn_tree::Value;
@@ -19,6 +19,14 @@ const MOST_BITS: u64 = 1 << 40;
 pub struct Way<T> {
     pub end: u64,
     pub made: T,
+}
+
+/// An alternative that is chosen, the value that is made for it, and the place behind it.
+#[derive(Drop)]
+pub struct Chosen {
+    pub index: u32,
+    pub end: u64,
+    pub value: Value,
 }
 
 /// The least and the greatest size of a string or list.
@@ -36,13 +44,24 @@ pub fn behind(at: u64, n: u64) -> u64
     at.saturating_add(n).min(MOST_BITS)
 }
 
+// The bits of padding.
+fn padding(align: u64, at: u64) -> u64
+    requires { 0 < align }
+    ensures { result ≡ spec_padding align at }
+{
+    if align == 1 {
+        0
+    } else {
+        (align - at % align) % align
+    }
+}
+
 /// The place behind the padding.
 pub fn padded(align: u32, at: u64) -> u64
     requires { 0 < align }
-    ensures { result ≡ best.behind at (padding align at) }
+    ensures { result ≡ best.behind at (spec_padding align at) }
 {
-    let align = u64::from(align);
-    behind(at, (align - at % align) % align)
+    behind(at, padding(u64::from(align), at))
 }
 
 /// The place behind so many parts of a width.
@@ -76,13 +95,9 @@ fn is_ahead(side: Side, a: u64, b: u64) -> bool
     }
 }
 
-/// The first of two values, unless the second ends nearer to the side.
-pub fn better_value(
-    side: Side,
-    first: Option<Way<Value>>,
-    second: Option<Way<Value>>,
-) -> Option<Way<Value>>
-    ensures { option_map value_way result ≡ best.better side (option_map value_way first) (option_map value_way second) }
+/// The first of two alternatives, unless the second ends nearer to the side.
+pub fn better_case(side: Side, first: Option<Chosen>, second: Option<Chosen>) -> Option<Chosen>
+    ensures { option_map chosen_way result ≡ best.better side (option_map chosen_way first) (option_map chosen_way second) }
 {
     match first {
         None => second,

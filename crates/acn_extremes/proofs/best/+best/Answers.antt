@@ -4,10 +4,10 @@ use Rattle.std.specs.Prelude.{option_map}
 use Rattle.acn_grammar.specs.View.{grammar_of, data_of, field_of, fields_view}
 use Rattle.acn_grammar.specs.declared.node.Node.{the_lemmas}
 use Rattle.acn_grammar.proofs.Views.{view_component}
-use Rattle.acn_extreme_laws.specs.Best.{best}
+use Rattle.acn_extreme_laws.specs.Best.{is_enough, best}
 use Rattle.acn_extremes.specs.Ways.{value_way, place_way, left_behind}
 use Rattle.acn_extremes.proofs.Placing.{field_turn, fields_end, fields_told, fields_stop, component_added}
-use Rattle.acn_extremes.proofs.Runs.{run_left, with_run, run_turn, run_stops, run_done, run_told, run_stop}
+use Rattle.acn_extremes.proofs.Runs.{run_left, with_run, run_turn, run_enough, run_stops, run_done, run_told, run_stop}
 use Rattle.acn_extremes.proofs.Views.{choice_can}
 use Rattle.acn_extremes.proofs.best.+best.Goals as goal
 
@@ -19,20 +19,31 @@ best_body-best_case-requires t c =
 pub best_elements-returns-in-None : goal.best_elements-returns-in-None
 best_elements-returns-in-None t c =
     let each = best (grammar_of c.args.slots.now.root.now) c.args.side (grammar_of c.args.element.now) in
-    run_stop each c.args.n c.args.at (run_stops each c.args.n c.loop.counter c.loop.end (map data_of c.loop.elements) _ c.loop-test.true (ap (option_map value_way) (sym c.in-None.is) ∙ c.in_ok-next.ensures) c.loop.invariant)
+    let enough = is_enough c.args.side c.args.sizes.now in
+    run_stop enough each c.args.n c.args.at (run_stops enough each c.args.n c.loop-k.k c.loop-k.end (map data_of c.loop-k.elements) _ c.loop-k-test.true (ap (option_map value_way) (sym c.in-None.is) ∙ c.in_ok-next.ensures) c.loop-k.invariant)
 
-pub best_elements-loop-preserved : goal.best_elements-loop-preserved
-best_elements-loop-preserved t c =
+pub best_elements-returns-then-is_last : goal.best_elements-returns-then-is_last
+best_elements-returns-then-is_last t c =
     let each = best (grammar_of c.args.slots.now.root.now) c.args.side (grammar_of c.args.element.now) in
-    let l = c.loop in
+    let enough = is_enough c.args.side c.args.sizes.now in
+    let l = c.loop-k in
+    run_told enough each c.args.n c.args.at (map data_of l.elements) l.end
+    (run_enough enough each c.args.n l.k l.end (value_way c.in-Some.way) (map data_of l.elements) _ c.loop-k-test.true (ap (option_map value_way) (sym c.in-Some.is) ∙ c.in_ok-next.ensures) (sym c.if-is_last.ensures) l.invariant)
+
+pub best_elements-loop-k-preserved : goal.best_elements-loop-k-preserved
+best_elements-loop-k-preserved t c =
+    let each = best (grammar_of c.args.slots.now.root.now) c.args.side (grammar_of c.args.element.now) in
+    let enough = is_enough c.args.side c.args.sizes.now in
+    let l = c.loop-k in
     let w = c.in-Some.way in
-    ap (λ ds. with_run ds (run_left each (c.args.n - (l.counter + 1)) w.end)) (ap (map data_of) c.in_ok-push-in-Some.ensures.ok ∙ map-append data_of l.elements (w.made ∷ []))
-    ∙ run_turn each c.args.n l.counter l.end (value_way w) (map data_of l.elements) _ c.loop-test.true (ap (option_map value_way) (sym c.in-Some.is) ∙ c.in_ok-next.ensures) l.invariant
+    ap (λ ds. with_run ds (run_left enough each (c.args.n - (l.k + 1)) (l.k + 1) w.end)) (ap (map data_of) c.in_ok-push-in-Some.ensures.ok ∙ map-append data_of l.elements (w.made ∷ []))
+    ∙ run_turn enough each c.args.n l.k l.end (value_way w) (map data_of l.elements) _ c.loop-k-test.true (ap (option_map value_way) (sym c.in-Some.is) ∙ c.in_ok-next.ensures) (sym c.if-is_last.ensures) l.invariant
 
 pub best_elements-returns : goal.best_elements-returns
 best_elements-returns t c =
     let each = best (grammar_of c.args.slots.now.root.now) c.args.side (grammar_of c.args.element.now) in
-    run_told each c.args.n c.args.at (map data_of c.loop.elements) c.loop.end (run_done each c.args.n c.loop.counter c.loop.end (map data_of c.loop.elements) _ c.loop-test.false c.loop.invariant)
+    let enough = is_enough c.args.side c.args.sizes.now in
+    run_told enough each c.args.n c.args.at (map data_of c.loop-k.elements) c.loop-k.end (run_done enough each c.args.n c.loop-k.k c.loop-k.end (map data_of c.loop-k.elements) _ c.loop-k-test.false c.loop-k.invariant)
 
 pub best_field-returns-in_ok-push-in-Some : goal.best_field-returns-in_ok-push-in-Some
 best_field-returns-in_ok-push-in-Some t c = λ fs.

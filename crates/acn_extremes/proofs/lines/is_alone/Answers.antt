@@ -1,5 +1,0 @@
-use Rattle.acn_extremes.proofs.Listing.{text_within}
-use Rattle.acn_extremes.proofs.lines.is_alone.Goals as goal
-
-pub other_there-requires : goal.other_there-requires
-other_there-requires c = record { within = text_within c.requires.0 c.args.body.now c.in-Text.leaf c.in-Text.is c.requires.1 }
