@@ -1,4 +1,5 @@
 -- for acn_leaf_laws
 pub mod Apart
+mod Drawn
 -- for acn_leaf_laws
 pub mod FineFront

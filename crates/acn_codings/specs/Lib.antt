@@ -1,4 +1,5 @@
 pub mod Codings
+pub mod Drawing
 pub mod Items
 pub mod Left
 pub mod Literals

@@ -1,7 +1,9 @@
 ghost use Rattle.std.specs.Prelude.{◌≡◌, ◌≤ℤ◌, ◌<◌, IfOk, IfSome, length, pos};
 ghost use Rattle.acn_num.specs.Ranges.{top};
+ghost use Rattle.acn_codings.specs.Drawing as drawing;
 ghost use Rattle.acn_codings.specs.Items as spec;
 
+use crate::drawing::{Undrawn, draw};
 use acn_asn_syntax::Item;
 use acn_num::{NoMemory, RangeSet, Row, TOP, greater};
 use acn_set_elements::signed;
@@ -41,34 +43,44 @@ fn free(alloc: Global, items: &[Item]) -> Result<RangeSet, NoMemory>
     RangeSet::one(alloc, 0, TOP)?.except(alloc, &used)
 }
 
-// The number of an item behind `k` others that have none written.
-fn number_at(unused: &RangeSet, k: u128, written: Option<i128>) -> i128
-    ensures { result ≡ spec.number_at unused.now k written }
+// The number of an item: the one that it has written, or else the next of those that are drawn.
+fn number_of<'s>(unused: Undrawn<'s>, written: Option<i128>) -> (i128, Undrawn<'s>)
+    ensures number { result.0 ≡ drawing.number_drawn (drawing.undrawn_view unused.entry) written }
+    ensures left { drawing.undrawn_view result.1 ≡ drawing.left_behind (drawing.undrawn_view unused.entry) written }
 {
     match written {
-        None => match unused.nth(k) {
-            None => 0,
-            Some(x) => x,
-        },
-        Some(x) => x,
+        None => draw(unused),
+        Some(x) => (x, unused),
     }
+}
+
+// The number of each item, where those without one draw theirs.
+fn numbers_drawn(
+    alloc: Global,
+    unused: &[(i128, i128)],
+    items: &[Item],
+) -> Result<Row<i128>, NoMemory>
+    ensures { IfOk result (λ xs. xs ≡ drawing.numbers_drawn unused.now items.now) }
+{
+    let mut left = Undrawn {
+        begun: None,
+        behind: unused,
+    };
+    let mut numbers = Row::new(alloc);
+    for item in items {
+        let (number, behind) = number_of(left, written(item));
+        numbers.push(number)?;
+        left = behind;
+    }
+    Ok(numbers)
 }
 
 /// The number of each item of an enumeration: items without one take, in the order of the text, the least whole numbers
 /// from 0 that no item has written. (X.680, 20.3.)
-#[tactic(auto, unfolding(crate::specs::Items::numbers_of))]
+#[tactic(auto, using(crate::proofs::Drawn::all_drawn))]
 pub fn numbers_of(alloc: Global, items: &[Item]) -> Result<Row<i128>, NoMemory>
     ensures { IfOk result (λ xs. xs ≡ spec.numbers_of items.now) }
 {
     let unused = free(alloc, items)?;
-    let mut numbers = Row::new(alloc);
-    let mut without = 0u128;
-    for item in items {
-        let number = written(item);
-        numbers.push(number_at(&unused, without, number))?;
-        if number.is_none() {
-            without += 1;
-        }
-    }
-    Ok(numbers)
+    numbers_drawn(alloc, unused.ranges(), items)
 }

@@ -3,6 +3,7 @@
 #![tactic(auto)]
 
 mod coding;
+mod drawing;
 mod items;
 mod left;
 mod literal;

@@ -2,7 +2,7 @@ mod Sizes
 mod Following
 -- for acn_value_laws and acn_names
 pub mod ValueSteps
--- for acn_names
+-- for acn_world and acn_names
 pub mod ChainSteps
 -- for acn_world
 pub mod KeyedLaws

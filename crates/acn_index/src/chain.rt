@@ -1,4 +1,4 @@
-ghost use Rattle.std.specs.Prelude.{◌≡◌, ◌<◌, ◌+◌, length, map, option_map, option_copied, Option, Some, None, IfOk, IfSome};
+ghost use Rattle.std.specs.Prelude.{◌≡◌, ◌<◌, ◌+◌, length, map, option_map, option_copied, Option, Some, None, IfSome};
 ghost use Rattle.acn_asn_syntax.specs.View.{base_view, type_view};
 ghost use Rattle.acn_index.specs.Views.{index_view};
 ghost use Rattle.acn_index.specs.Linked.{link_view, written_view};
@@ -12,8 +12,7 @@ use crate::references::{type_at, type_named};
 use crate::values::count;
 use acn_asn_syntax::{AsnBase, AsnType};
 use acn_ends::End;
-use acn_num::{Name, NoMemory};
-use std::alloc::Global;
+use acn_num::Name;
 
 /// A reference to a type as it is written.
 #[derive(Clone, Copy)]
@@ -90,39 +89,6 @@ pub fn next_link<'w>(index: &'w Index, link: Link<'w>) -> Option<Link<'w>>
     let reference = reference_of(link.of)?;
     let place = type_named(index, link.owner, reference.from, reference.name.bytes())?;
     assigned_link(index, place)
-}
-
-// The links of a chain, from the outermost, at most so many.
-fn links_within<'w>(
-    alloc: Global,
-    index: &'w Index,
-    most: usize,
-    first: Link<'w>,
-) -> Result<Vec<Link<'w>>, NoMemory>
-    ensures { IfOk result (λ all. map link_view all.items ≡ spec.links_within most (index_view index.now) (link_view first.entry)) }
-{
-    let mut all = Vec::new(alloc);
-    let mut link = first;
-    for step in 0..most {
-        all.push(link)?;
-        match next_link(index, link) {
-            None => return Ok(all),
-            Some(next) => link = next,
-        }
-    }
-    Ok(all)
-}
-
-/// The links of a chain, from the outermost to the base.
-#[tactic(auto, unfolding(crate::specs::Chains::links, crate::specs::World::count))]
-pub fn links<'w>(
-    alloc: Global,
-    index: &'w Index,
-    first: Link<'w>,
-) -> Result<Vec<Link<'w>>, NoMemory>
-    ensures { IfOk result (λ all. map link_view all.items ≡ spec.links (index_view index.now) (link_view first.entry)) }
-{
-    links_within(alloc, index, count(index) + 1, first)
 }
 
 // The last link of a chain.

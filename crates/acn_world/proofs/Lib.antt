@@ -5,6 +5,7 @@ mod LawProofs
 mod ParameterSteps
 mod ParameterEnds
 mod Marks
+mod PassedOver
 mod FoundTypes
 mod EntryPlaces
 mod AssignedChains

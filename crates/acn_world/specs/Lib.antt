@@ -6,3 +6,4 @@ pub mod Chained
 pub mod Viewed
 pub mod Laws
 pub mod Parameters
+pub mod Silent

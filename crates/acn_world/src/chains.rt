@@ -3,11 +3,15 @@ ghost use Rattle.acn_asn_syntax.specs.View.{constraint_view};
 ghost use Rattle.acn_index.specs.Views.{index_view};
 ghost use Rattle.acn_index.specs.Linked.{link_view};
 ghost use Rattle.acn_world.specs.Chained.{chain_view, constraints_view, entries_view, entry_view};
+ghost use Rattle.acn_ends.specs.Ends.{AreRight};
 ghost use Rattle.acn_index.specs.Chains as spec;
+ghost use Rattle.acn_world.specs.Silent.{silent_step};
 
 use crate::entries::{EntryAt, placed_entry};
+use crate::silent::telling_links;
 use acn_asn_syntax::{AsnType, Constraint};
-use acn_index::chain::{Link, last_link, links};
+use acn_ends::Ends;
+use acn_index::chain::{Link, last_link};
 use acn_index::index::Index;
 use acn_num::{NoMemory, Row};
 use std::alloc::Global;
@@ -98,12 +102,18 @@ fn entries_along<'w>(
     Ok(all)
 }
 
-/// What stands along the chain that begins with a link.
+/// What stands along the chain that begins with a link, where it is noted where silent links end.
 #[tactic(auto, unfolding(acn_index::specs::Chains::chain_of))]
-pub fn chain_of<'w>(alloc: Global, index: &'w Index, first: Link<'w>) -> Result<Chain<'w>, NoMemory>
+pub fn chain_of<'w>(
+    alloc: Global,
+    index: &'w Index,
+    silent: &Ends,
+    first: Link<'w>,
+) -> Result<Chain<'w>, NoMemory>
+    requires { AreRight (silent_step (index_view index.now)) silent.now }
     ensures { IfOk result (λ chain. chain_view chain ≡ spec.chain_of (index_view index.now) (link_view first.entry)) }
 {
-    let mut along = links(alloc, index, first)?;
+    let mut along = telling_links(alloc, index, silent, first)?;
     let base = last_link(first, along.as_slice());
     along.reverse();
     let constraints = constraints_along(alloc, along.as_slice())?;

@@ -7,6 +7,7 @@ mod fault;
 mod laws;
 pub mod referring;
 pub mod roots;
+mod silent;
 mod world;
 
 pub use acn_index::{EntryPlace, Sources, TypeId};

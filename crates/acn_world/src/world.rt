@@ -1,11 +1,15 @@
 ghost use Rattle.acn_index.specs.World.{world_from};
+ghost use Rattle.acn_ends.specs.Ends.{AreRight};
 ghost use Rattle.acn_world.specs.Faults.{IsSound};
+ghost use Rattle.acn_world.specs.Silent.{silent_step};
 
 use crate::chains::{Chain, chain_of};
 use crate::entries::{EntryAt, placed_entry};
 use crate::roots::roots_of;
+use crate::silent::silent_ends;
 use acn_acn_syntax::MapTable;
 use acn_asn_syntax::{AsnType, AsnValue};
+use acn_ends::Ends;
 use acn_index::TypeId;
 use acn_index::chain::{assigned_link, written};
 use acn_index::index::Index;
@@ -20,6 +24,9 @@ use std::alloc::Global;
 #[derive(Drop)]
 pub struct World {
     index: Index,
+    /// Where the steps along types end that say nothing of their own.
+    silent: Ends,
+    ghost stepped: { AreRight (silent_step (world_from index.modules index.acn index.tables)) silent },
     pub ghost sound: { IsSound (world_from index.modules index.acn index.tables) },
 }
 
@@ -38,11 +45,12 @@ impl World {
     ghost use Rattle.acn_world.specs.Faults as faults;
 
     /// The world of an index whose names have no fault.
-    pub fn from_index(index: Index) -> World
+    pub fn from_index(alloc: Global, index: Index) -> Result<World, NoMemory>
         requires { faults.IsSound (index_view index) }
-        ensures { world_view result ≡ index_view index }
+        ensures { IfOk result (λ world. world_view world ≡ index_view index) }
     {
-        World { index }
+        let silent = silent_ends(alloc, &index)?;
+        Ok(World { index, silent })
     }
 
     /// The types without parameters to which no other type refers, in the order of the text.
@@ -72,7 +80,7 @@ impl World {
     ) -> Result<Chain<'w>, NoMemory>
         ensures { IfOk result (λ chain. chain_view chain ≡ chains.chain_of (world_view self.now) (chains.written «module» (type_view of.now))) }
     {
-        chain_of(alloc, &self.index, written(module, of))
+        chain_of(alloc, &self.index, &self.silent, written(module, of))
     }
 
     /// What stands along the chain of an assigned type, the entry of the assignment itself included.
@@ -81,7 +89,7 @@ impl World {
         ensures { IfOk result (λ chain. Some (chain_view chain) ≡ option_map (chains.chain_of (world_view self.now)) (chains.assigned_link (world_view self.now) of)) }
     {
         let first = assigned_link(&self.index, of).unwrap();
-        chain_of(alloc, &self.index, first)
+        chain_of(alloc, &self.index, &self.silent, first)
     }
 
     /// The mapping table with this name. None comes exactly where there is none. It takes no memory.
