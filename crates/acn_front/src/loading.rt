@@ -7,7 +7,7 @@ ghost use Rattle.acn_tree_laws.specs.Laws.{IsOfSources};
 ghost use Rattle.acn_world.specs.Viewed.{world_view};
 
 use acn_names::resolve;
-use acn_source_laws::types_of_sources_are_listed;
+use acn_source_laws::{proper_sources_give_a_world, sources_of_files_are_proper};
 use acn_sources::{File, FileFault, SourcesFault, read_sources};
 use acn_world::{NameFault, World};
 use std::alloc::Global;
@@ -53,7 +53,8 @@ pub fn load(alloc: Global, files: &[File<'_>]) -> Result<World, LoadFault>
     ensures of_sources { IfOk result (λ all. IsOfSources (world_view all)) }
     ensures fault { IfErr result (IsLoadFault files.now) }
 {
-    types_of_sources_are_listed();
+    sources_of_files_are_proper();
+    proper_sources_give_a_world();
     match read_sources(alloc, files) {
         Ok(sources) => match resolve(alloc, sources) {
             Ok(world) => Ok(world),

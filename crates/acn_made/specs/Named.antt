@@ -22,7 +22,7 @@ Slots = List homes.Slot
 abbrev pub number_led : Slots → Lead → Option ℕ
 number_led all (lead.Slot x) = homes.number all x.path
 number_led all lead.Nowhere = None
-number_led all (lead.Absent through) = None
+number_led all (lead.Absent through x) = None
 
 abbrev pub number_named : World → Slots → Scope → List Name → Option ℕ
 number_named w all c names = number_led all (leads w c names)

@@ -46,7 +46,7 @@ zipped (a ∷ as') (b ∷ bs) p (inr m) = inr (zipped as' bs p m)
 bound_to : (a : Param × Lead) (b : Name × Slot) → bind a ≡ Some b → a.1 ≡ lead.Slot b.1
 bound_to (p, lead.Slot s) b h = ap (λ (z : Name × Slot). lead.Slot z.1) (same_some (p.name, s) b h)
 bound_to (p, lead.Nowhere) b h = absurd (cc h)
-bound_to (p, lead.Absent n) b h = absurd (cc h)
+bound_to (p, lead.Absent n x) b h = absurd (cc h)
 
 module _ (w : World) (ss : Slots) (ps : List Placed) (all : List Stand) (known : Listing w ss ps all) where
   -- round a node stands a SEQUENCE, from which a way goes down to the field of the slot

@@ -88,12 +88,12 @@ nearest_kind k s g h = by (or_either (given_in k at_use s.used.attributes) (give
 led_path : (l : Lead) (f : Path) → field_path l ≡ Some f → (x : Slot) × (l ≡ lead.Slot x) × (x.path ≡ f)
 led_path (lead.Slot x) f h = (x, refl, same_some x.path f h)
 led_path lead.Nowhere f h = absurd (cc h)
-led_path (lead.Absent n) f h = absurd (cc h)
+led_path (lead.Absent n x) f h = absurd (cc h)
 
 led_number : (ss : Slots) (l : Lead) (k : ℕ) → number_led ss l ≡ Some k → (x : Slot) × (l ≡ lead.Slot x) × (number ss x.path ≡ Some k)
 led_number ss (lead.Slot x) k h = (x, refl, h)
 led_number ss lead.Nowhere k h = absurd (cc h)
-led_number ss (lead.Absent n) k h = absurd (cc h)
+led_number ss (lead.Absent n x) k h = absurd (cc h)
 
 -- by one of the nearest attributes with paths
 pub record UsedBy (w : World) (s : Site) (f : Path) : Type 0 where

@@ -1,2 +1,3 @@
 mod Along
+mod Merged
 mod Views

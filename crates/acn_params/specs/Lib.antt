@@ -1,2 +1,3 @@
 pub mod Paths
 pub mod View
+pub mod Laws

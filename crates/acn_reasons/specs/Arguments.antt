@@ -60,11 +60,12 @@ abbrev pub is_sort : Sort → Option Sort → Bool
 is_sort x None = false
 is_sort x (Some y) = same_sort x y
 
--- An argument that leads to no slot has no kind, and is left to the fault of its path.
+-- An argument has the kind of the determinant to which it leads, also of one that may be absent. One that leads to none has no kind, and
+-- is left to the fault of its path.
 abbrev pub lead_fits : Option Sort → Lead → Bool
 lead_fits wanted (lead.Slot x) = is_sort x.sort wanted
 lead_fits wanted lead.Nowhere = true
-lead_fits wanted (lead.Absent through) = true
+lead_fits wanted (lead.Absent through x) = is_sort x wanted
 
 abbrev pub argument_fits : World → Site → ℕ → Param × AcnPath → Bool
 argument_fits w s k a = lead_fits (sort_of_param w k a.0.kind) (leads w s.scope a.1.names)

@@ -53,7 +53,7 @@ joined (n ∷ ns) = n ++ dotted ns
 abbrev pub fault_of : Place → List Name → Lead → Option (Place × PathFault)
 fault_of at names (lead.Slot x) = None
 fault_of at names lead.Nowhere = Some (at, fault.Unknown)
-fault_of at names (lead.Absent through) = Some (at, fault.MayBeAbsent through (joined (take through names)))
+fault_of at names (lead.Absent through x) = Some (at, fault.MayBeAbsent through (joined (take through names)))
 
 abbrev pub argument_fault : World → Site → ℕ × AcnPath → Option (Place × PathFault)
 argument_fault w s a = fault_of (argument_place s.at a.0) a.1.names (leads w s.scope a.1.names)

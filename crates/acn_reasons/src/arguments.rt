@@ -164,7 +164,7 @@ fn lead_fits(wanted: Option<Sort>, lead: &Lead) -> bool
     match lead {
         Lead::Slot(slot) => is_sort(slot.sort, wanted),
         Lead::Nowhere => true,
-        Lead::Absent { .. } => true,
+        Lead::Absent { sort, .. } => is_sort(*sort, wanted),
     }
 }
 

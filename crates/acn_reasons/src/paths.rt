@@ -92,7 +92,7 @@ fn fault_of(
     match lead {
         Lead::Slot(_) => Ok(None),
         Lead::Nowhere => Ok(Some((at, PathFault::Unknown))),
-        Lead::Absent { through } => {
+        Lead::Absent { through, .. } => {
             let names = joined(alloc, first_names(names, through))?;
             Ok(Some((at, PathFault::MayBeAbsent { through, names })))
         }

@@ -56,7 +56,7 @@ argument_leads w s = map (λ (a : AcnPath). leads w s.scope a.names) s.used.argu
 abbrev pub bind : Param × Lead → Option (Name × Slot)
 bind (p, lead.Slot slot) = Some (p.name, slot)
 bind (p, lead.Nowhere) = None
-bind (p, lead.Absent through) = None
+bind (p, lead.Absent through x) = None
 
 -- The scope of an entry: its parameters, bound in order to what the arguments lead to.
 abbrev pub entry_scope : World → Site → EntryAt → Scope

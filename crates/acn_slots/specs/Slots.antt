@@ -217,7 +217,7 @@ up_to_absent (s ∷ steps) = if s.optional then Some 1 else option_map suc (up_t
 
 abbrev pub unless_absent : Slot → Option ℕ → Lead
 unless_absent slot None = lead.Slot slot
-unless_absent slot (Some through) = lead.Absent through
+unless_absent slot (Some through) = lead.Absent through slot.sort
 
 abbrev pub lead_to : Option Slot → Option ℕ → Lead
 lead_to None through = lead.Nowhere

@@ -49,7 +49,10 @@ fn lead_to(slot: Option<Slot>, absent: Option<usize>) -> Lead
         None => Lead::Nowhere,
         Some(slot) => match absent {
             None => Lead::Slot(slot),
-            Some(through) => Lead::Absent { through },
+            Some(through) => Lead::Absent {
+                through,
+                sort: slot.sort,
+            },
         },
     }
 }

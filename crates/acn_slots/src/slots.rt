@@ -27,6 +27,6 @@ pub enum Lead {
     Slot(Slot),
     /// To none.
     Nowhere,
-    /// To one, but a field on the way, or this itself, may be absent: `through` names lead up to the first such field.
-    Absent { through: usize },
+    /// To one of this kind, but a field on the way, or this itself, may be absent: `through` names lead up to the first such field.
+    Absent { through: usize, sort: Sort },
 }

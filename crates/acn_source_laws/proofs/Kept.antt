@@ -1,13 +1,11 @@
--- A type that stands in proper sources is proper, and has no more tokens than a file may have.
-use Rattle.std.proofs.Common.{◌≡◌, ℕ, suc, ◌≤◌, Bool, true, ◌&&◌, List, [], ◌∷◌, ◌++◌, length, map, Option, Some, None, refl, sym, ap, ◌∙◌, inl, inr, arith}
+-- A type that stands in proper sources is proper, and has no more tokens than their trees.
+use Rattle.std.proofs.Common.{◌≡◌, ℕ, ◌<◌, ◌^◌, Bool, true, ◌&&◌, List, [], ◌∷◌, ◌++◌, length, map, Option, Some, None, refl, inl, inr, arith}
 use Rattle.std.specs.Prelude.{codes, flat_map, option_and_then, slice_get}
 use Rattle.std.specs.List.{list_all}
-use Rattle.acn_lex.specs.Lexeme.{Placed}
 use Rattle.acn_lex.specs.Words.{is_identifier, is_reference}
-use Rattle.acn_lex.specs.declared.lexing.TheConstants.{MOST_TOKENS}
 use Rattle.acn_graph.specs.Graph.{Among, here, there}
 use Rattle.acn_asn_syntax.specs.Mirror.{AsnModule, AsnType, Assign, TypeIs, ValueIs}
-use Rattle.acn_asn_syntax.specs.Modules.{module_fits, module_tokens, head_tokens, assign_fits, assign_tokens, exports_fit, exports_tokens, import_fits, imports_tokens, oid_fits, tokens_of}
+use Rattle.acn_asn_syntax.specs.Modules.{module_fits, module_tokens, head_tokens, assign_fits, assign_tokens, exports_fit, exports_tokens, import_fits, imports_tokens, oid_fits, tokens_of, IsProper}
 use Rattle.acn_asn_syntax.specs.Spelling.{type_fits, type_tokens}
 use Rattle.acn_asn_syntax.specs.Values.{Tokens, word, mark, value_tokens, value_fits, option_tokens, option_fits}
 use Rattle.acn_asn_syntax.specs.View.{module_view}
@@ -16,16 +14,13 @@ use Rattle.acn_asn_syntax.specs.declared.modules.AsnModules.{AsnModules}
 use Rattle.acn_index.specs.World.{world_of, asn_modules, place, assignment, type_of_assign}
 use Rattle.acn_index.specs.declared.sources.Sources.{Sources}
 use Rattle.acn_names.specs.Standing.{parts, Stands, assigned, inside}
-use Rattle.acn_sources.specs.Files.{AreTrees, AreSources, asn_bytes}
-use Rattle.acn_sources.specs.Kinds.{IsAsn}
-use Rattle.acn_sources.specs.Reading.{unplaced}
-use Rattle.acn_sources.specs.declared.sources.File.{File}
+use Rattle.acn_source_laws.specs.Laws.{AreProper}
 use Rattle.acn_source_laws.proofs.Lists.{among_at, either_part}
 use Rattle.acn_source_laws.proofs.Inside.{IsWithin, itself, one, left_test, right_test, front, back, part_in}
 
 pub record IsKept (t : AsnType) : Type 0 where
   pub fits : type_fits t ≡ true
-  pub few : length (type_tokens t) ≤ MOST_TOKENS
+  pub few : length (type_tokens t) < 2 ^ 32
 
 kept_inside : (t u : AsnType) → Among u (parts t) → IsKept t → IsKept u
 kept_inside t u i h =
@@ -71,36 +66,29 @@ module _ {u : AsnType} where
   of_file (n ∷ ms) m here h = left_test (fit_of n) (list_all fit_of ms) _ (front (fit_of n) (tokens n) (flat_map tokens ms) h)
   of_file (n ∷ ms) m (there i) h = right_test (fit_of n) (list_all fit_of ms) _ (back (list_all fit_of ms) (tokens n) (flat_map tokens ms) (of_file ms m i h))
 
-length_unplaced : (ts : List Placed) → length (unplaced ts) ≡ length ts
-length_unplaced [] = refl
-length_unplaced (t ∷ ts) = ap suc (length_unplaced ts)
+of_proper : (t : AsnModules) (u : AsnType) → IsProper t × (length (tokens_of t) < 2 ^ 32) → IsWithin u (list_all fit_of t.modules) (tokens_of t) → IsKept u
+of_proper t u is h =
+    let few = h.few in
+    let all = is.1 in
+    record { fits = h.fits is.0.1; few = omega arith }
 
-module _ {u : AsnType} where
-  proper_file : (bytes : List ℕ) (t : AsnModules) → IsAsn bytes t → IsWithin u (list_all fit_of t.modules) (tokens_of t) → IsKept u
-  proper_file bytes t is h =
-      let long : length (tokens_of t) ≡ length is.1 = sym (ap length is.4) ∙ length_unplaced is.1 in
-      let few = h.few in
-      let all = is.2.1 in
-      record { fits = h.fits is.0.1; few = omega arith }
-
-  in_files : (bs : List (List ℕ)) (ts : List AsnModules) (m : AsnModule) → AreTrees IsAsn bs ts → Among m (asn_modules ts) → IsWithin u (module_fits m) (module_tokens m) → IsKept u
-  in_files bs [] m are i h = absurd (elim i [ ])
-  in_files [] (t ∷ ts) m are i h = absurd are
-  in_files (b ∷ bs) (t ∷ ts) m are i h = elim (either_part (map module_view t.modules) i) [
-    | inl k ↦ proper_file b t are.0 (of_file t.modules m k h)
-    | inr k ↦ in_files bs ts m are.1 k h
-  ]
+in_trees : (ts : List AsnModules) (u : AsnType) (m : AsnModule) → ((t : AsnModules) → Among t ts → IsProper t × (length (tokens_of t) < 2 ^ 32)) → Among m (asn_modules ts) → IsWithin u (module_fits m) (module_tokens m) → IsKept u
+in_trees [] u m proper i h = absurd (elim i [ ])
+in_trees (t ∷ ts) u m proper i h = elim (either_part (map module_view t.modules) i) [
+  | inl k ↦ of_proper t u (proper t here) (of_file t.modules m k h)
+  | inr k ↦ in_trees ts u m (λ t j. proper t (there j)) k h
+]
 
 -- ---- what stands in their world
 
-module _ (files : List File) (s : Sources) (are : AreSources files s) where
+module _ (s : Sources) (proper : AreProper s) where
   assigned_kept : (k i : ℕ) (a : Assign) → assignment (world_of s) (place k i) ≡ Some a → IsKept (type_of_assign a)
   unfolding assignment world_of
   assigned_kept k i a e = by (slice_get (asn_modules s.asn) k) refl e
     where
       by : (o : Option AsnModule) → slice_get (asn_modules s.asn) k ≡ o → option_and_then (λ (m : AsnModule). slice_get m.items i) o ≡ Some a → IsKept (type_of_assign a)
       by None f g = cc
-      by (Some m) f g = in_files (asn_bytes files) s.asn m are.asn (among_at (asn_modules s.asn) k f) (of_module m a (among_at m.items i g))
+      by (Some m) f g = in_trees s.asn (type_of_assign a) m proper (among_at (asn_modules s.asn) k f) (of_module m a (among_at m.items i g))
 
   pub stands_kept : (k : ℕ) (t : AsnType) → Stands (world_of s) k t → IsKept t
   stands_kept k t (assigned i a e) = assigned_kept k i a e

@@ -1,4 +1,5 @@
 mod Lists
 mod Inside
 mod Kept
+mod OfFiles
 mod Listed

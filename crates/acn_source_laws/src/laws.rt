@@ -1,6 +1,12 @@
-ghost use Rattle.acn_source_laws.specs.Laws.{TypesOfSourcesAreListed};
+ghost use Rattle.acn_source_laws.specs.Laws.{ProperSourcesGiveAWorld, SourcesOfFilesAreProper};
 
-/// Each ENUMERATED in the sources of files has an item and fewer than 2^64, and each CHOICE has an alternative.
-pub fn types_of_sources_are_listed()
-    ensures { TypesOfSourcesAreListed }
+/// The trees that files have are proper.
+pub fn sources_of_files_are_proper()
+    ensures { SourcesOfFilesAreProper }
+{}
+
+/// A sound world of proper trees is one of whose types `merge` makes trees: each ENUMERATED has an item and fewer than 2^64,
+/// and each CHOICE has an alternative.
+pub fn proper_sources_give_a_world()
+    ensures { ProperSourcesGiveAWorld }
 {}

@@ -34,7 +34,7 @@ inserted_fields ps = flat_map (λ (p : Placed). field_at p.site) ps
 abbrev pub field_path : Lead → Option (List ℕ)
 field_path (lead.Slot x) = Some x.path
 field_path lead.Nowhere = None
-field_path (lead.Absent through) = None
+field_path (lead.Absent through x) = None
 
 abbrev pub named_field : World → Scope → List Name → Option (List ℕ)
 named_field w c names = field_path (leads w c names)
