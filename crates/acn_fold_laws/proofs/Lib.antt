@@ -1,0 +1,11 @@
+mod Ends
+mod Sets
+mod Numbers
+mod Texts
+mod Faulty
+mod Lines
+mod Faults
+mod Pairs
+mod Ordering
+mod Fewest
+mod Unwritten
