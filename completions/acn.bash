@@ -9,7 +9,7 @@ _acn() {
     compopt -o default
     COMPREPLY=()
     if [ "$COMP_CWORD" -eq 1 ]; then
-        COMPREPLY=($(compgen -W "check bounds layout encode decode compare extremes route explain work --help --version --explain --hints" -- "$word"))
+        COMPREPLY=($(compgen -W "check bounds layout encode decode compare extremes route explain work --help --version --explain --hints --progress" -- "$word"))
         return
     fi
     case "${COMP_WORDS[1]}:$COMP_CWORD" in

@@ -8,6 +8,7 @@ mod tests;
 use acn_advice::{Heard, Recalled};
 use acn_advisor::advise;
 use acn_outside::{StdError, StdFiles, StdInput, StdOutput};
+use acn_progress::{Cleared, Progress, Watched, way_of};
 use acn_run::run;
 use questions::question_in;
 use std::env;
@@ -23,30 +24,54 @@ enum WordsFault {
 }
 
 /// What the program is called with.
+#[derive(Drop)]
 struct Call {
     /// Whether `--hints` stands in front of the words.
     hints: bool,
-    /// The words behind it.
+    /// Whether `--progress` does.
+    progress: bool,
+    /// The words behind them.
     words: Vec<String>,
+}
+
+impl Call {
+    // Takes the next word.
+    fn take(&mut self, word: String) -> Result<(), WordsFault> {
+        let in_front = self.words.is_empty();
+        if in_front && !self.hints && word.as_str() == "--hints" {
+            self.hints = true;
+        } else if in_front && !self.progress && word.as_str() == "--progress" {
+            self.progress = true;
+        } else if self.words.push(word).is_err() {
+            return Err(WordsFault::NoMemory);
+        }
+        Ok(())
+    }
+}
+
+/// A call without words.
+fn empty_call(rt: &HostRuntime) -> Call {
+    Call {
+        hints: false,
+        progress: false,
+        words: Vec::new(rt.alloc()),
+    }
 }
 
 /// The words behind the program's name.
 fn called(rt: &HostRuntime) -> Result<Call, WordsFault> {
-    let mut hints = false;
-    let mut words = Vec::new(rt.alloc());
+    let mut call = empty_call(rt);
     let all = match env::args(rt) {
         Ok(all) => all,
         Err(e) if e.kind() == ErrorKind::OutOfMemory => return Err(WordsFault::NoMemory),
         Err(_) => return Err(WordsFault::NotText),
     };
     for (i, word) in all.enumerate() {
-        if i == 1 && word.as_str() == "--hints" {
-            hints = true;
-        } else if i > 0 && words.push(word).is_err() {
-            return Err(WordsFault::NoMemory);
+        if i > 0 {
+            call.take(word)?;
         }
     }
-    Ok(Call { hints, words })
+    Ok(call)
 }
 
 /// Says that memory ran out, and answers the status for it.
@@ -62,12 +87,13 @@ fn output_failed(rt: &HostRuntime) -> ExitCode {
 }
 
 fn main(rt: HostRuntime) -> ExitCode {
-    let Call { hints, words } = match called(&rt) {
-        Ok(called) => called,
-        Err(WordsFault::NotText) => Call {
-            hints: false,
-            words: Vec::new(rt.alloc()),
-        },
+    let Call {
+        hints,
+        progress,
+        words,
+    } = match called(&rt) {
+        Ok(call) => call,
+        Err(WordsFault::NotText) => empty_call(&rt),
         Err(WordsFault::NoMemory) => return out_of_memory(&rt),
     };
     if let Some(question) = question_in(&words) {
@@ -77,12 +103,16 @@ fn main(rt: HostRuntime) -> ExitCode {
             Err(_) => output_failed(&rt),
         };
     }
-    let mut files = StdFiles::new(rt.alloc(), &rt);
-    let mut input = Recalled::new(rt.alloc(), StdInput::new(rt.reader()), hints);
     let stdout = rt.stdout();
     let stderr = rt.stderr();
-    let mut out = StdOutput::new(&stdout);
-    let mut err = Heard::new(rt.alloc(), StdError::new(&stderr));
+    let way = if progress { way_of(&words) } else { None };
+    let progress = Progress::new(rt.alloc(), &rt, &stderr, way);
+    let mut files = StdFiles::new(rt.alloc(), &rt);
+    let input = Watched::new(StdInput::new(rt.reader()), &progress);
+    let mut input = Recalled::new(rt.alloc(), input, hints);
+    let mut out = Watched::new(StdOutput::new(&stdout), &progress);
+    let err = Cleared::new(StdError::new(&stderr), &progress);
+    let mut err = Heard::new(rt.alloc(), err);
     let status = run(
         rt.alloc(),
         &words,
@@ -91,6 +121,7 @@ fn main(rt: HostRuntime) -> ExitCode {
         &mut out,
         &mut err,
     );
+    progress.clear();
     if hints {
         let (mut err, line) = err.into_parts();
         advise(

@@ -60,8 +60,10 @@ Status:
   7        memory runs out
 
 With each status but 0, a line on standard error says why; with --hints in
-front of the words, lines behind it say what helps. What the words of a line
-mean stands in docs/messages.md, and is printed by acn --explain WORD.
+front of the words, lines behind it say what helps. With --progress in front,
+a line there tells once a second how much of a long input is converted, and is
+gone at the end. What the words of a line mean stands in docs/messages.md, and
+is printed by acn --explain WORD.
 ";
 
 const VERSION: &str = "acn 0.1\n";

@@ -2,6 +2,7 @@
 
 use crate::input::{input_of, times_of};
 use crate::outputs::taken_in_words;
+use crate::screen::{Screen, Steps};
 use crate::setting::{Setting, setting_of};
 use crate::sheet::Sheet;
 use acn_advice::{Heard, Recalled};
@@ -9,7 +10,8 @@ use acn_advisor::advise;
 use acn_case_lines::word;
 use acn_case_sheets::{Trouble, parts_of};
 use acn_num::NoMemory;
-use acn_outside::{MemSink, MemSource};
+use acn_outside::{MemFiles, MemSink, MemSource};
+use acn_progress::{Cleared, Progress, Watched, Way, way_of};
 use acn_run::run;
 use std::alloc::Global;
 
@@ -27,6 +29,7 @@ const WHOLE: usize = 1_000_000;
 struct Case<'a> {
     sheet: &'a Sheet,
     hints: bool,
+    way: Option<Way>,
     words: Vec<String>,
     input: Vec<u8>,
     parts: Vec<&'a str>,
@@ -70,15 +73,38 @@ fn group_of(words: &[String], setting: &Setting) -> Option<usize> {
     }
 }
 
-// The answer to one run.
-fn once(alloc: Global, case: &Case<'_>, setting: &Setting) -> Result<String, Trouble> {
+fn files_of(alloc: Global, case: &Case<'_>, setting: &Setting) -> Result<MemFiles, Trouble> {
     let parts = case.parts.as_slice().get(1..).unwrap_or(&[]);
     let fail = failing(alloc, setting.file)?;
-    let mut files = case.sheet.in_memory(alloc, parts, fail)?;
-    let input = source(alloc, setting, case.input.as_slice())?;
+    case.sheet.in_memory(alloc, parts, fail)
+}
+
+// What the outputs took, and what was printed of how far the run was.
+fn said(
+    alloc: Global,
+    status: u8,
+    written: &str,
+    errors: &str,
+    screen: &Screen,
+) -> Result<String, Trouble> {
+    let shown = screen.in_words()?;
+    if shown.is_empty() {
+        return Ok(format!(in alloc; "{status};{written};{errors}")?);
+    }
+    Ok(format!(in alloc; "{status};{written};{errors}; {}", shown.as_str())?)
+}
+
+// The answer to one run.
+fn once(alloc: Global, case: &Case<'_>, setting: &Setting) -> Result<String, Trouble> {
+    let mut files = files_of(alloc, case, setting)?;
+    let clock = Steps::new(setting.seconds.unwrap_or(0));
+    let screen = Screen::new(alloc);
+    let progress = Progress::new(alloc, &clock, &screen, case.way);
+    let input = Watched::new(source(alloc, setting, case.input.as_slice())?, &progress);
     let mut input = Recalled::new(alloc, input, case.hints);
-    let mut out = sink(alloc, setting, setting.output)?;
-    let mut err = Heard::new(alloc, sink(alloc, setting, setting.errors)?);
+    let mut out = Watched::new(sink(alloc, setting, setting.output)?, &progress);
+    let err = Cleared::new(sink(alloc, setting, setting.errors)?, &progress);
+    let mut err = Heard::new(alloc, err);
     let status = run(
         alloc,
         &case.words,
@@ -87,6 +113,7 @@ fn once(alloc: Global, case: &Case<'_>, setting: &Setting) -> Result<String, Tro
         &mut out,
         &mut err,
     );
+    progress.clear();
     let (mut err, line) = err.into_parts();
     if case.hints {
         advise(
@@ -99,9 +126,10 @@ fn once(alloc: Global, case: &Case<'_>, setting: &Setting) -> Result<String, Tro
             &mut err,
         );
     }
-    let written = told(alloc, &out, group_of(case.words.as_slice(), setting))?;
-    let errors = told(alloc, &err, None)?;
-    Ok(format!(in alloc; "{status};{written};{errors}")?)
+    let group = group_of(case.words.as_slice(), setting);
+    let written = told(alloc, &out.into_device(), group)?;
+    let errors = told(alloc, &err.into_device(), None)?;
+    said(alloc, status, written.as_str(), errors.as_str(), &screen)
 }
 
 // The answer of another run, which has to be the same.
@@ -155,22 +183,30 @@ fn words_of(alloc: Global, text: &str) -> Result<Vec<String>, NoMemory> {
     Ok(all)
 }
 
+// Whether a word stands in front, and what stands behind it.
+fn behind<'a>(words: &'a str, word: &str) -> (bool, &'a str) {
+    match words.trim_start().strip_prefix(word) {
+        Some(behind) => (true, behind),
+        None => (false, words),
+    }
+}
+
 /// The answer to a case.
 pub fn answer(alloc: Global, sheet: &Sheet, case: &str) -> Result<String, Trouble> {
     let parts = parts_of(alloc, case)?;
     let question = word(parts.as_slice(), 0);
     let (words, rest) = question.split_once(" :").unwrap_or((question, ""));
-    let (hints, words) = match words.strip_prefix("--hints") {
-        Some(behind) => (true, behind),
-        None => (false, words),
-    };
+    let (hints, words) = behind(words, "--hints");
+    let (progress, words) = behind(words, "--progress");
     let (input, settings) = rest.split_once(" :").unwrap_or((rest, ""));
     let settings: Vec<&str> = settings.split_whitespace().collect(alloc)?;
     let setting = setting_of(settings.as_slice());
+    let words = words_of(alloc, words)?;
     let case = Case {
         sheet,
         hints,
-        words: words_of(alloc, words)?,
+        way: if progress { way_of(&words) } else { None },
+        words,
         input: input_of(alloc, input)?,
         parts,
     };

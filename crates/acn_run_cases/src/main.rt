@@ -10,18 +10,22 @@
 //!
 //! With `--hints` in front of its words a case prints what helps behind the line, as the program does.
 //!
+//! With `--progress` there too it prints how far it is, as the program does, by a clock that stands still, or that is `seconds N` later
+//! each time that it is looked at; what is printed so stands behind the answer, with `\r` for a carriage return.
+//!
 //! The answer is `STATUS; OUTPUT; ERRORS`. An output is its lines with ` |` for each line feed, and that of `encode` its octets; what
 //! stands several times one behind the other is written once, with `x5000` behind it.
 //!
 //! Settings: `piece N`, the most bytes that a read of the input gives; `room N`, the most that a write takes; `file K`, `input K`,
 //! `output K` and `errors K`, the call, from 0, of that object that fails; `each`, the input comes in pieces of every size; `long`, the
-//! output has more than 16,384 bytes; `group N`, the octets of `encode` are written in groups of so many. Without `piece`, `room` and a
-//! call that fails a case runs a second time, where each read gives an octet and each write takes one; the answers have to be the same.
+//! output has more than 16,384 bytes; `group N`, the octets of `encode` are written in groups of so many. Without `piece`, `room`,
+//! `seconds` and a call that fails a case runs a second time, where each read gives an octet and each write takes one; the answers have to be the same.
 #![tactic(auto)]
 
 mod answer;
 mod input;
 mod outputs;
+mod screen;
 mod setting;
 mod sheet;
 

@@ -17,6 +17,8 @@ pub struct Setting {
     pub output: Option<u64>,
     /// The write to the output for errors that fails.
     pub errors: Option<u64>,
+    /// How many seconds later it is each time that the clock is looked at.
+    pub seconds: Option<u64>,
     /// The octets of `encode` are written in groups of so many.
     pub group: Option<usize>,
     /// Whether the input comes in pieces of every size.
@@ -48,6 +50,7 @@ pub fn setting_of(words: &[&str]) -> Setting {
         input: number(words, "input"),
         output: number(words, "output"),
         errors: number(words, "errors"),
+        seconds: number(words, "seconds"),
         group: size(words, "group"),
         each: has(words, "each"),
         long: has(words, "long"),
@@ -65,7 +68,7 @@ impl Setting {
 
     /// Whether the answer is told by this setting alone.
     pub fn is_single(&self) -> bool {
-        let in_pieces = self.piece.is_some() || self.room.is_some();
+        let in_pieces = self.piece.is_some() || self.room.is_some() || self.seconds.is_some();
         let inside = self.file.is_some() || self.input.is_some();
         in_pieces || inside || self.output.is_some() || self.errors.is_some()
     }
