@@ -1,2 +1,3 @@
 mod Breach
 mod Fixed
+mod OneSlot

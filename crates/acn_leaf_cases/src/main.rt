@@ -8,9 +8,12 @@
 //! one width of its codes, and `fill A B =>` the octets where A fills a hole in front of B. Of a text: `read OCTETS =>`,
 //! `read-sized SIZE OCTETS =>`, `list TEXT =>` and `put TEXT =>`. Of octets: `take SKIP WIDTH =>`, `window SKIP BITS WIDTH =>`,
 //! `put SKIP WIDTH NUMBER =>`, `fill SKIP WIDTH NUMBER =>`. Of nothing: `bits-for`, `octets-for`, `signed-octets-for` and
-//! `digits-for NUMBER =>`, and `count`, `ends`, `nth` and `least-except SET NUMBERS =>`.
+//! `digits-for NUMBER =>`, `count`, `ends`, `nth` and `least-except SET NUMBERS =>`, and `asks SET ASKS =>` and
+//! `asks-fixed NUMBER ASKS =>` what a slot is answered that has a hole and may have these numbers, or has this one; an ask is `=N` or
+//! `!=N`.
 #![tactic(auto)]
 
+mod asks;
 mod bits;
 mod bitwise;
 mod fault;

@@ -1,5 +1,6 @@
 //! What cases are about.
 
+use crate::asks::{asks, asks_fixed};
 use crate::bits::about_octets;
 use crate::numbers::about_number;
 use crate::sets::about_set;
@@ -71,9 +72,13 @@ pub fn subject_of(alloc: Global, words: &[&str]) -> Result<Subject, NoMemory> {
 }
 
 fn about_nothing(alloc: Global, question: &str, words: &[&str]) -> Result<String, NoMemory> {
-    match about_width(alloc, question, words)? {
-        Some(answer) => Ok(answer),
-        None => about_set(alloc, question, words),
+    match question {
+        "asks" => asks(alloc, words),
+        "asks-fixed" => asks_fixed(alloc, words),
+        _ => match about_width(alloc, question, words)? {
+            Some(answer) => Ok(answer),
+            None => about_set(alloc, question, words),
+        },
     }
 }
 
