@@ -191,7 +191,7 @@ module _ (g : Grammar) (accepted : IsAccepted g) (each : EachValueIsWrittenOrRef
     bad_line number fault e =
         let kept = e.fault.kept in
         let with_kept : IsAtFault g limit (Some bytes) i' (Gains o o') number (λ line. values_in g line ≡ Err kept) =
-        record { given = e.given; ls = e.ls; line = e.line; behind = e.behind; values = e.values; taken = e.taken; few = e.few; begin = e.begin; fits = e.fits; ends = e.ends; counted = e.counted; fault = e.fault.gives; writes = e.writes } in
+        record { given = e.given; ls = e.ls; line = e.line; behind = e.behind; values = e.values; taken = e.taken; few = e.few; begin = e.begin; fits = e.fits; ends = e.ends; near = e.near; counted = e.counted; fault = e.fault.gives; writes = e.writes } in
         let same = at_fault (bad kept) (λ line. values_in g line ≡ Err kept) number with_kept (λ rest b. b) in
         (same.0, kept, e.fault.told, same.1)
 
