@@ -92,18 +92,6 @@ fn fault_in(alloc: Global, index: &Index) -> Result<Option<NameFault>, NoMemory>
     }
 }
 
-// The world of an index whose names have no fault.
-fn sound_world(alloc: Global, index: Index) -> Result<World, NameFault>
-    requires { spec.IsSound (index_view index) }
-    ensures world { IfOk result (λ all. world_view all ≡ index_view index) }
-    ensures fault { IfErr result (λ f. f ≡ fault.NoMemory) }
-{
-    match World::from_index(alloc, index) {
-        Ok(all) => Ok(all),
-        Err(NoMemory) => Err(NameFault::NoMemory),
-    }
-}
-
 /// Resolves the names of the sources: the world of their modules and tables, if each name leads somewhere, none to
 /// itself, and each to what it must be; else the first fault, by the order of the kinds and then of the text. Places
 /// are numbered by 32 bits, so that more modules and assignments than these number can't be held: NoMemory.
@@ -119,7 +107,10 @@ pub fn resolve(alloc: Global, sources: Sources) -> Result<World, NameFault>
     match fault_in(alloc, &index) {
         Err(NoMemory) => Err(NameFault::NoMemory),
         Ok(found) => match found {
-            None => sound_world(alloc, index),
+            None => match World::from_index(alloc, index) {
+                Ok(all) => Ok(all),
+                Err(NoMemory) => Err(NameFault::NoMemory),
+            },
             Some(fault) => Err(fault),
         },
     }
