@@ -3,7 +3,7 @@
 ghost use Rattle.std.specs.Prelude.{◌≡◌, ◌≤◌, ◌++◌, ◌∷◌, [], Some, IsTrue, is_err, OnOk, OnErr};
 ghost use Rattle.acn_advice.specs.Page.{AddsLines, feeds};
 ghost use Rattle.acn_advice.specs.declared.page.TheConstants.{MOST_LINES};
-ghost use Rattle.acn_outside.specs.Counts.{Rose};
+ghost use Rattle.acn_outside.specs.Counts.{Rose, Stays};
 
 use acn_outside::{Failed, Sink, write_all};
 use std::alloc::Global;
@@ -68,6 +68,7 @@ impl Page {
         ensures same { OnErr result (self.new.text ≡ self.old.text) }
         ensures rose { OnErr result (Rose self.old.faults self.new.faults) }
         ensures count { self.old.faults ≤ self.new.faults }
+        ensures uncounted { OnOk result (Stays self.old.faults self.new.faults) }
     {
         if self.lines >= MOST_LINES {
             return self.refuse();

@@ -1,10 +1,12 @@
 -- Contents of files, one more after the others.
 use Rattle.std.proofs.Common.{◌≡◌, ℕ, zero, suc, ◌+◌, ◌<◌, ◌≤◌, List, [], ◌∷◌, ◌++◌, length, take, map, get_or, Option, Some, None, refl, sym, ap, ◌∙◌, subst, arith, inl, inr}
-use Rattle.std.specs.Prelude.{slice_get}
+use Rattle.std.specs.Prelude.{slice_get, Result, Ok, Err, IfErr}
 use native.Mathlib.Decide.{dec_lt}
 use Rattle.acn_num.specs.declared.limits.TheConstants.{MOST_FILE_BYTES}
 use Rattle.acn_outside.specs.Counts.{Rose}
 use Rattle.acn_outside.specs.Whole.{IsWhole}
+use Rattle.acn_outside.specs.declared.whole.WholeFault.TheVariants.{Failed}
+use Rattle.acn_files.specs.declared.whole.FilesFault.{FilesFault}
 use Rattle.acn_files.specs.Contents.{Told, AreWhole, IsShort, AreShort}
 
 pub whole_more : (told : Told) (names contents : List (List ℕ)) (name bytes : List ℕ) → AreWhole told names contents → IsWhole (told name) bytes × (length bytes ≤ MOST_FILE_BYTES)
@@ -44,6 +46,11 @@ module _ {A B : Type 0} (f : A → B) where
   taken_all [] (suc k) h = refl
   taken_all (y ∷ xs) zero h = absurd (omega arith)
   taken_all (y ∷ xs) (suc k) h = ap (λ more. f y ∷ more) (taken_all xs k (omega arith))
+
+-- what holds in any case
+pub of_any : {A P : Type 0} → (r : Result A FilesFault) → P → IfErr r (λ e. (e.fault ≡ Failed → ⊥) → P)
+of_any (Ok x) p = tt
+of_any (Err e) p = λ not_so. p
 
 pub rose_back : (a b c : ℕ) → a ≤ b → b ≤ c → Rose b c → Rose a c
 rose_back a b c h l (inl less) = inl (omega (arith, h, less))

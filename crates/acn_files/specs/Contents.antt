@@ -1,5 +1,5 @@
 -- Files that are read whole, one after the other. (This program's own.)
-use Rattle.std.specs.Prelude.{◌≡◌, ℕ, ◌≤◌, List, [], ◌∷◌, length, Option, Some, None, IfSome, slice_get, take}
+use Rattle.std.specs.Prelude.{◌≡◌, ℕ, ◌≤◌, List, [], ◌∷◌, length, Option, Some, IfSome, slice_get, take}
 use Rattle.acn_num.specs.declared.limits.TheConstants.{MOST_FILE_BYTES}
 use Rattle.acn_outside.specs.Whole.{IsWhole, IsTooLong}
 

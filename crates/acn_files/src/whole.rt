@@ -1,7 +1,7 @@
 //! Whole files.
 
 ghost use Rattle.std.specs.Prelude.{◌≡◌, ◌≤◌, ◌++◌, ◌∷◌, [], ℕ, List, length, map, string_bytes, slice_get, Some, IfOk, IfErr, OnOk};
-ghost use Rattle.acn_outside.specs.Counts.{Rose};
+ghost use Rattle.acn_outside.specs.Counts.{AllStay, Rose};
 ghost use Rattle.acn_num.specs.declared.limits.TheConstants.{MOST_FILE_BYTES};
 ghost use Rattle.acn_outside.specs.Whole.{IsWhole, IsTooLong};
 ghost use Rattle.acn_outside.specs.declared.whole.WholeFault.TheVariants as fault;
@@ -46,6 +46,8 @@ fn read_one<F: Files>(
     ensures failed { IfErr result (λ e. e.fault ≡ fault.Failed → Rose (F.faults files.old name.now) (F.faults files.new name.now)) }
     ensures same { (m : List ℕ) → F.contents files.new m ≡ F.contents files.old m }
     ensures count { (m : List ℕ) → F.faults files.old m ≤ F.faults files.new m }
+    ensures uncounted { OnOk result (AllStay (F.faults files.old) (F.faults files.new)) }
+    ensures told { IfErr result (λ e. (e.fault ≡ fault.Failed → ⊥) → AllStay (F.faults files.old) (F.faults files.new)) }
 {
     match read_whole(alloc, files, name) {
         Ok(bytes) => Ok(bytes),
@@ -61,7 +63,7 @@ fn read_one<F: Files>(
 /// # Errors
 ///
 /// `TooLong` comes exactly where a file has more bytes, and the first such is told. `Failed` comes only where the count of this
-/// file's name rose in this call. `NoMemory` comes where memory is wanting.
+/// file's name rose in this call, and else no count changes. `NoMemory` comes where memory is wanting.
 pub fn read_files<F: Files>(
     alloc: Global,
     files: &mut F,
@@ -72,6 +74,8 @@ pub fn read_files<F: Files>(
     ensures failed { IfErr result (λ e. e.fault ≡ fault.Failed → (name : List ℕ) × (slice_get (map string_bytes names.now) e.file ≡ Some name) × Rose (F.faults files.old name) (F.faults files.new name)) }
     ensures same { (m : List ℕ) → F.contents files.new m ≡ F.contents files.old m }
     ensures count { (m : List ℕ) → F.faults files.old m ≤ F.faults files.new m }
+    ensures uncounted { OnOk result (AllStay (F.faults files.old) (F.faults files.new)) }
+    ensures told { IfErr result (λ e. (e.fault ≡ fault.Failed → ⊥) → AllStay (F.faults files.old) (F.faults files.new)) }
 {
     let mut all = Vec::new(alloc);
     for (number, name) in names.iter().enumerate() {

@@ -1,6 +1,6 @@
 ghost use Rattle.std.specs.Prelude.{◌≡◌, ◌≤◌, ◌<◌, ◌||◌, List, ℕ, [], length, take, position, Option, Some, None, IfOk, IfSome, OnOk, OnErr, is_err, option_map, unwrap_or, if◌then◌else◌, bytes_eq};
 ghost use Rattle.acn_num.specs.declared.limits.TheConstants.{MOST_FILE_BYTES};
-ghost use Rattle.acn_outside.specs.Counts.{Rose};
+ghost use Rattle.acn_outside.specs.Counts.{Rose, Stays};
 ghost use Rattle.acn_outside.specs.Moves.{AreAt, EndsBy};
 ghost use Rattle.acn_outside.specs.Memory.{fails, one_more};
 ghost use Rattle.acn_outside.specs.Entries.{has_name, contents_of, faults_of, is_absent, share_count};
@@ -131,7 +131,7 @@ impl Files for MemFiles {
         ensures failed { OnErr result (Rose (faults_of self.old.entries.items self.old.others name.now) (faults_of self.new.entries.items self.new.others name.now)) }
         ensures listed { is_err result ≡ (fails self.old.failing.numbers.items self.old.failing.call || is_absent self.old.entries.items name.now) }
         ensures counted { OnErr result ((m : List ℕ) → faults_of self.new.entries.items self.new.others m ≡ (if share_count self.old.entries.items name.now m then one_more (faults_of self.old.entries.items self.old.others m) else faults_of self.old.entries.items self.old.others m)) }
-        ensures uncounted { OnOk result ((m : List ℕ) → faults_of self.new.entries.items self.new.others m ≡ faults_of self.old.entries.items self.old.others m) }
+        ensures uncounted { OnOk result ((m : List ℕ) → Stays (faults_of self.old.entries.items self.old.others m) (faults_of self.new.entries.items self.new.others m)) }
         ensures numbers { self.new.failing.numbers ≡ self.old.failing.numbers }
         ensures call { self.new.failing.call ≡ one_more self.old.failing.call }
     {

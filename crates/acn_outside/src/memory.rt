@@ -1,5 +1,5 @@
-ghost use Rattle.std.specs.Prelude.{◌≡◌, ◌≤◌, ◌<◌, [], length, take, drop, Option, Some, IfOk, OnErr, is_err, option_map};
-ghost use Rattle.acn_outside.specs.Counts.{Rose};
+ghost use Rattle.std.specs.Prelude.{◌≡◌, ◌≤◌, ◌<◌, [], length, take, drop, Option, Some, IfOk, OnOk, OnErr, is_err, option_map};
+ghost use Rattle.acn_outside.specs.Counts.{Rose, Stays};
 ghost use Rattle.acn_outside.specs.Moves.{Takes, Gains, IsUsedUp};
 ghost use Rattle.acn_outside.specs.Memory.{fails, fitting, one_more};
 
@@ -45,6 +45,7 @@ impl Source for MemSource {
         ensures end { IfOk result (λ n. n ≡ 0 → 0 < length into.old → IsUsedUp (Some self.new.feed.rest)) }
         ensures count { self.old.faults ≤ self.new.faults }
         ensures failed { OnErr result (Rose self.old.faults self.new.faults) }
+        ensures uncounted { OnOk result (Stays self.old.faults self.new.faults) }
         ensures kept { OnErr result (Some self.new.feed.rest ≡ Some self.old.feed.rest) }
         ensures listed { is_err result ≡ fails self.old.failing.numbers.items self.old.failing.call }
         ensures at_most { IfOk result (λ n. n ≤ self.old.feed.piece) }
@@ -90,6 +91,7 @@ impl Source for SureSource {
         ensures end { IfOk result (λ n. n ≡ 0 → 0 < length into.old → IsUsedUp (Some self.new.feed.rest)) }
         ensures count { 0 ≤ 0 }
         ensures failed { OnErr result (Rose 0 0) }
+        ensures uncounted { OnOk result (Stays 0 0) }
         ensures kept { OnErr result (Some self.new.feed.rest ≡ Some self.old.feed.rest) }
         ensures at_most { IfOk result (λ n. n ≤ self.old.feed.piece) }
         ensures piece { self.new.feed.piece ≡ self.old.feed.piece }
@@ -144,6 +146,7 @@ impl Sink for MemSink {
         ensures moved { IfOk result (λ n. Gains self.old.room.taken self.new.room.taken (take n from.now)) }
         ensures count { self.old.faults ≤ self.new.faults }
         ensures failed { OnErr result (Rose self.old.faults self.new.faults) }
+        ensures uncounted { OnOk result (Stays self.old.faults self.new.faults) }
         ensures kept { OnErr result (self.new.room.taken ≡ self.old.room.taken) }
         ensures told { IfOk result (λ n. self.new.room.taken ≡ fitting self.old.room.size self.old.room.taken (take n from.now)) }
         ensures listed { is_err result ≡ fails self.old.failing.numbers.items self.old.failing.call }
@@ -200,6 +203,7 @@ impl Sink for SureSink {
         ensures moved { IfOk result (λ n. Gains self.old.room.taken self.new.room.taken (take n from.now)) }
         ensures count { 0 ≤ 0 }
         ensures failed { OnErr result (Rose 0 0) }
+        ensures uncounted { OnOk result (Stays 0 0) }
         ensures kept { OnErr result (self.new.room.taken ≡ self.old.room.taken) }
         ensures told { IfOk result (λ n. self.new.room.taken ≡ fitting self.old.room.size self.old.room.taken (take n from.now)) }
         ensures at_most { IfOk result (λ n. n ≤ self.old.room.piece) }

@@ -1,7 +1,7 @@
 //! Lines of an input.
 
 ghost use Rattle.std.specs.Prelude.{◌≡◌, ◌+◌, ◌<◌, ◌≤◌, ◌++◌, ◌∷◌, [], length, take, drop, IsErrOf, MatchOption};
-ghost use Rattle.acn_outside.specs.Counts.{Rose};
+ghost use Rattle.acn_outside.specs.Counts.{Rose, Stays};
 ghost use Rattle.acn_supply.specs.Cutting as spec;
 ghost use Rattle.acn_supply.specs.declared.lines.TheConstants.{MOST_LINE_BYTES};
 ghost use Rattle.acn_supply.specs.declared.window.TheConstants.{MOST_IN_HAND};
@@ -83,7 +83,8 @@ fn step(supply: &mut Supply, line: &mut Vec<u8>) -> Result<bool, NoLine>
 }
 
 /// Reads the next line into `line`, in place of what was there: its bytes up to a line feed, which is taken too, or up to the end of the
-/// input. The input is read only where no line feed is in hand. `Failed` comes only where its count of faults rose.
+/// input. The input is read only where no line feed is in hand. `Failed` comes only where its count of faults
+/// rose, and else the count stays.
 pub fn read_line<S: Source>(
     supply: &mut Supply,
     input: &mut S,
@@ -92,6 +93,7 @@ pub fn read_line<S: Source>(
     ensures read { spec.ReadsLine supply.old supply.new (S.rest input.old) (S.rest input.new) result line.new.items }
     ensures count { S.faults input.old ≤ S.faults input.new }
     ensures failed { IsErrOf result NoLine.Failed → Rose (S.faults input.old) (S.faults input.new) }
+    ensures uncounted { (IsErrOf result NoLine.Failed → ⊥) → Stays (S.faults input.old) (S.faults input.new) }
 {
     line.clear();
     loop {

@@ -1,7 +1,7 @@
 //! An input that is read up to a limit.
 
-ghost use Rattle.std.specs.Prelude.{◌≡◌, ◌<◌, ◌≤◌, [], length, drop, IfOk, OnErr};
-ghost use Rattle.acn_outside.specs.Counts.{Rose};
+ghost use Rattle.std.specs.Prelude.{◌≡◌, ◌<◌, ◌≤◌, [], length, drop, IfOk, OnOk, OnErr};
+ghost use Rattle.acn_outside.specs.Counts.{Rose, Stays};
 ghost use Rattle.acn_supply.specs.Reading.{Supplied, Reads};
 ghost use Rattle.acn_supply.specs.declared.window.TheConstants.{MOST_IN_HAND};
 
@@ -64,12 +64,14 @@ impl Supply {
         self.window.skip(count);
     }
 
-    /// Reads once. `Failed` comes only where the input's count of faults rose; then nothing was read.
+    /// Reads once. `Failed` comes only where the input's count of faults rose; then nothing was read. Else the
+    /// count stays.
     pub fn more<S: Source>(&mut self, input: &mut S) -> Result<More, Failed>
         requires { length self.old.hand < MOST_IN_HAND }
         ensures read { Reads result self.old self.new (S.rest input.old) (S.rest input.new) }
         ensures count { S.faults input.old ≤ S.faults input.new }
         ensures failed { OnErr result (Rose (S.faults input.old) (S.faults input.new)) }
+        ensures uncounted { OnOk result (Stays (S.faults input.old) (S.faults input.new)) }
     {
         if self.left == 0 {
             return past(input);
@@ -86,6 +88,7 @@ fn past<S: Source>(input: &mut S) -> Result<More, Failed>
     ensures read { (s : Supplied) → s.left ≡ 0 → Reads result s s (S.rest input.old) (S.rest input.new) }
     ensures count { S.faults input.old ≤ S.faults input.new }
     ensures failed { OnErr result (Rose (S.faults input.old) (S.faults input.new)) }
+    ensures uncounted { OnOk result (Stays (S.faults input.old) (S.faults input.new)) }
 {
     let mut byte = [0u8; 1];
     let count = input.read(&mut byte)?;

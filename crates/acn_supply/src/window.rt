@@ -1,7 +1,7 @@
 //! The bytes in hand, which move through a room of a fixed size.
 
-ghost use Rattle.std.specs.Prelude.{◌≡◌, ◌+◌, ◌-◌, ◌<◌, ◌≤◌, ◌++◌, ℕ, List, [], length, take, drop, IfOk, OnErr};
-ghost use Rattle.acn_outside.specs.Counts.{Rose};
+ghost use Rattle.std.specs.Prelude.{◌≡◌, ◌+◌, ◌-◌, ◌<◌, ◌≤◌, ◌++◌, ℕ, List, [], length, take, drop, IfOk, OnOk, OnErr};
+ghost use Rattle.acn_outside.specs.Counts.{Rose, Stays};
 ghost use Rattle.acn_outside.specs.Moves.{Takes, IsUsedUp};
 ghost use Rattle.acn_supply.specs.declared.window.TheConstants.{MOST_IN_HAND};
 
@@ -59,6 +59,7 @@ fn read_into<S: Source>(
     ensures end { IfOk result (λ n. n ≡ 0 → IsUsedUp (S.rest input.new)) }
     ensures count { S.faults input.old ≤ S.faults input.new }
     ensures failed { OnErr result (Rose (S.faults input.old) (S.faults input.new)) }
+    ensures uncounted { OnOk result (Stays (S.faults input.old) (S.faults input.new)) }
     ensures same { OnErr result (S.rest input.new ≡ S.rest input.old) }
 {
     input.read(&mut room[from..to])
@@ -93,7 +94,7 @@ impl Window {
     }
 
     /// Reads once, at most so many bytes, and answers how many came. 0 says that the input is used up.
-    /// `Failed` comes only where the input's count of faults rose; then nothing was read.
+    /// `Failed` comes only where the input's count of faults rose; then nothing was read. Else the count stays.
     pub fn refill<S: Source>(&mut self, input: &mut S, most: usize) -> Result<usize, Failed>
         requires some { 0 < most }
         requires room { length self.old < MOST_IN_HAND }
@@ -102,6 +103,7 @@ impl Window {
         ensures end { IfOk result (λ n. n ≡ 0 → IsUsedUp (S.rest input.new)) }
         ensures count { S.faults input.old ≤ S.faults input.new }
         ensures failed { OnErr result (Rose (S.faults input.old) (S.faults input.new)) }
+        ensures uncounted { OnOk result (Stays (S.faults input.old) (S.faults input.new)) }
         ensures same { OnErr result (S.rest input.new ≡ S.rest input.old) }
         ensures kept { OnErr result (self.new ≡ self.old) }
     {

@@ -1,10 +1,9 @@
-use Rattle.std.proofs.Common.{◌≡◌, ◌≤◌, ◌<◌, ℕ, List, [], ◌∷◌, ◌++◌, length, map, take, string_bytes, Some, Option, sym, ap, subst, ◌∙◌, arith, rules, ◌+◌}
+use Rattle.std.proofs.Common.{◌≡◌, ◌≤◌, ℕ, List, [], ◌∷◌, ◌++◌, length, map, take, string_bytes, Some, Option, refl, sym, ap, subst, ◌∙◌, arith, rules, ◌+◌}
 use Rattle.std.specs.Prelude.{slice_get}
 use Rattle.acn_num.specs.declared.limits.TheConstants.{MOST_FILE_BYTES}
-use Rattle.acn_outside.specs.Counts.{Rose}
 use Rattle.acn_outside.specs.Whole.{IsWhole, IsTooLong}
 use Rattle.acn_files.specs.Contents.{AreWhole, AreShort}
-use Rattle.acn_files.proofs.Told.{whole_more, short_of_whole, name_there, taken_more, taken_all, rose_back}
+use Rattle.acn_files.proofs.Told.{of_any, whole_more, short_of_whole, name_there, taken_more, taken_all, rose_back}
 use Rattle.acn_files.proofs.whole.read_files.Goals as goal
 
 pub loop-number-init : goal.loop-number-init
@@ -12,6 +11,7 @@ loop-number-init g c = record {
   whole = subst (λ (xs : List _). AreWhole (g.F.Files.contents c.args.files.now) [] (map (λ v. v.items) xs)) (sym c.new-all.ensures.items) tt;
   same = search rules;
   count = search rules;
+  uncounted = λ m. refl;
 }
 
 pub returns-in_err-keep-in-Ok-clause-same : goal.returns-in_err-keep-in-Ok-clause-same
@@ -48,6 +48,12 @@ returns-in-Err-clause-same g c = λ m. c.read_one.ensures.same m ∙ c.loop-numb
 pub returns-in-Err-clause-count : goal.returns-in-Err-clause-count
 returns-in-Err-clause-count g c = λ m. omega (arith, c.loop-number.invariant.count m, c.read_one.ensures.count m)
 
+pub returns-in_err-keep-in-Ok-clause-told : goal.returns-in_err-keep-in-Ok-clause-told
+returns-in_err-keep-in-Ok-clause-told g c = of_any c.from_residual.result (λ m. c.in-Ok.ensures.uncounted m ∙ c.loop-number.invariant.uncounted m)
+
+pub returns-in-Err-clause-told : goal.returns-in-Err-clause-told
+returns-in-Err-clause-told g c = λ not_failed m. c.in-Err.ensures.told not_failed m ∙ c.loop-number.invariant.uncounted m
+
 pub loop-number-preserved : goal.loop-number-preserved
 loop-number-preserved g c =
     let x = c.index-names-number.result in
@@ -61,6 +67,7 @@ loop-number-preserved g c =
           (subst (λ (names : List (List ℕ)). AreWhole told names (map (λ v. v.items) c.loop-number.all.items ++ c.in-Ok.bytes.items ∷ [])) (taken_more string_bytes c.args.names.now c.loop-number.number x c.loop-number-test.true c.index-names-number.is) more);
       same = λ m. c.read_one.ensures.same m ∙ c.loop-number.invariant.same m;
       count = λ m. omega (arith, c.loop-number.invariant.count m, c.read_one.ensures.count m);
+      uncounted = λ m. c.in-Ok.ensures.uncounted m ∙ c.loop-number.invariant.uncounted m;
     }
 
 pub returns-clause-whole : goal.returns-clause-whole
@@ -68,6 +75,9 @@ returns-clause-whole g c = subst (λ (names : List (List ℕ)). AreWhole (g.F.Fi
 
 pub returns-clause-same : goal.returns-clause-same
 returns-clause-same g c = c.loop-number.invariant.same
+
+pub returns-clause-uncounted : goal.returns-clause-uncounted
+returns-clause-uncounted g c = c.loop-number.invariant.uncounted
 
 pub returns-clause-count : goal.returns-clause-count
 returns-clause-count g c = c.loop-number.invariant.count

@@ -1,4 +1,4 @@
-use Rattle.std.proofs.Common.{arith, subst, sym, List, ℕ}
+use Rattle.std.proofs.Common.{◌∙◌, arith, refl, subst, sym, List, ℕ}
 use Rattle.acn_supply.proofs.Pieces.{SoFar, begins, steps_on, grows_on, stopped}
 use Rattle.acn_supply.proofs.lines.read_line.Goals as goal
 
@@ -6,6 +6,7 @@ pub loop-no_line-init : goal.loop-no_line-init
 loop-no_line-init g c = record {
   so_far = subst (λ (t : List ℕ). SoFar c.args.supply.now c.args.supply.now (g.S.Source.rest c.args.input.now) (g.S.Source.rest c.args.input.now) t) (sym c.clear.ensures.items) (begins c.args.supply.now _);
   count = omega arith;
+  uncounted = refl;
 }
 
 pub returns-in-Err-clause-read : goal.returns-in-Err-clause-read
@@ -18,4 +19,5 @@ loop-no_line-preserved g c =
     record {
       so_far = grows_on c.args.supply.now c.step.new.supply c.more.new.self _ _ _ c.step.new.line.items mid (rw c.in-Ok-Bytes.field-0-is at c.in-Ok-Bytes.ensures.read);
       count = omega (arith, c.loop-no_line.invariant.count, c.in-Ok-Bytes.ensures.count);
+      uncounted = c.in-Ok-Bytes.ensures.uncounted ∙ c.loop-no_line.invariant.uncounted;
     }
