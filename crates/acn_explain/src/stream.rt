@@ -7,7 +7,7 @@ ghost use Rattle.acn_grammar.specs.Interval.{span};
 ghost use Rattle.acn_grammar.specs.Length.{bit_length};
 ghost use Rattle.acn_grammar.specs.View.{data_of, grammar_of};
 ghost use Rattle.acn_json.specs.Kept.{Kept};
-ghost use Rattle.acn_outside.specs.Counts.{Rose};
+ghost use Rattle.acn_outside.specs.Counts.{Rose, Stays};
 ghost use Rattle.acn_packet_laws.specs.Laws.{IsAccepted};
 ghost use Rattle.acn_pieces.specs.Pieces.{part};
 ghost use Rattle.acn_pieces.specs.declared.piece.PieceKind.TheVariants.{Fill};
@@ -139,8 +139,8 @@ impl Show for PieceLines<'_> {
 /// where it has its own, but that the lines are these: `EmptyPacket` exactly where the least bound is 0; then nothing is
 /// read. `Packet` names the first packet that can't be read, with the one failure that there is. `InputTooLong` comes where the bytes up to
 /// the limit end inside a packet, or at its end, and one byte more came. `InputFault` and `OutputFault` come only where that count of
-/// faults rose, `NoMemory` where memory runs out. With each of these the output gained the lines of the packets before, with
-/// `OutputFault` a front of them. (This profile's own.)
+/// faults rose, and without them it stays; `NoMemory` comes where memory runs out. With each of these the output gained the lines of the
+/// packets before, with `OutputFault` a front of them. (This profile's own.)
 pub fn explain_all<S: Source, O: Sink>(
     alloc: Global,
     checked: &Checked,
@@ -154,6 +154,8 @@ pub fn explain_all<S: Source, O: Sink>(
     ensures empty { IsErrOf result StreamFault.EmptyPacket ↔ ((span (grammar_of checked.now.tree.root)).least ≡ 0) }
     ensures input_fault { IsErrOf result StreamFault.InputFault → Rose (S.faults input.old) (S.faults input.new) }
     ensures output_fault { IsErrOf result StreamFault.OutputFault → Rose (O.faults out.old) (O.faults out.new) }
+    ensures input_stays { (IsErrOf result StreamFault.InputFault → ⊥) → Stays (S.faults input.old) (S.faults input.new) }
+    ensures output_stays { (IsErrOf result StreamFault.OutputFault → ⊥) → Stays (O.faults out.old) (O.faults out.new) }
     ensures input { S.faults input.old ≤ S.faults input.new }
     ensures output { O.faults out.old ≤ O.faults out.new }
 {

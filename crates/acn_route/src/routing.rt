@@ -1,7 +1,7 @@
 //! Routing: space packets of an input become lines of an output.
 
 ghost use Rattle.std.specs.Prelude.{◌≡◌, ◌+◌, ◌^◌, ◌<◌, ◌≤◌, ℕ, List, [], length, Option, Some, Err, IsErrOf};
-ghost use Rattle.acn_outside.specs.Counts.{Rose};
+ghost use Rattle.acn_outside.specs.Counts.{Rose, Stays};
 ghost use Rattle.acn_route.specs.Counting.{total};
 ghost use Rattle.acn_route.specs.Listed.{Listed};
 ghost use Rattle.acn_route.specs.Routing.{RouteEnds};
@@ -46,6 +46,7 @@ fn read_on<S: Source>(
     ensures count { S.faults input.old ≤ S.faults input.new }
     ensures known { spec.EndsReading result }
     ensures failed { result ≡ Some (Err RouteFault.InputFault) → Rose (S.faults input.old) (S.faults input.new) }
+    ensures stays { (result ≡ Some (Err RouteFault.InputFault) → ⊥) → Stays (S.faults input.old) (S.faults input.new) }
 {
     match supply.more(input) {
         Ok(More::Bytes) => None,
@@ -70,6 +71,8 @@ fn route_supply<S: Source, O: Sink>(
     ensures output { O.faults out.old ≤ O.faults out.new }
     ensures input_fault { IsErrOf result RouteFault.InputFault → Rose (S.faults input.old) (S.faults input.new) }
     ensures output_fault { IsErrOf result RouteFault.OutputFault → Rose (O.faults out.old) (O.faults out.new) }
+    ensures input_stays { (IsErrOf result RouteFault.InputFault → ⊥) → Stays (S.faults input.old) (S.faults input.new) }
+    ensures output_stays { (IsErrOf result RouteFault.OutputFault → ⊥) → Stays (O.faults out.old) (O.faults out.new) }
 {
     let mut page = Page::new(alloc);
     let mut counts = RouteCount {
@@ -109,9 +112,9 @@ fn route_supply<S: Source, O: Sink>(
 /// read only where what is in hand ends inside a packet, or nothing is, and at most `MOST_IN_HAND` bytes are in hand.
 ///
 /// `Cut` comes where the input ends inside a packet, and `InputTooLong` where a byte behind the limit came. `InputFault` and
-/// `OutputFault` come only where that count of faults rose, `NoMemory` where memory runs out. With each of these the output gained the
-/// lines of the packets before, with `OutputFault` a front of them. (Packets are those of CCSDS 133.0-B-2, 4.1; lines are this
-/// program's own.)
+/// `OutputFault` come only where that count of faults rose, and without them it stays; `NoMemory` comes where memory runs out. With each
+/// of these the output gained the lines of the packets before, with `OutputFault` a front of them. (Packets are those of CCSDS
+/// 133.0-B-2, 4.1; lines are this program's own.)
 pub fn route_all<S: Source, O: Sink>(
     alloc: Global,
     routes: &Routes,
@@ -122,6 +125,8 @@ pub fn route_all<S: Source, O: Sink>(
     ensures ends { RouteEnds routes.now limit (S.rest input.old) (S.rest input.new) (O.taken out.old) (O.taken out.new) result }
     ensures input_fault { IsErrOf result RouteFault.InputFault → Rose (S.faults input.old) (S.faults input.new) }
     ensures output_fault { IsErrOf result RouteFault.OutputFault → Rose (O.faults out.old) (O.faults out.new) }
+    ensures input_stays { (IsErrOf result RouteFault.InputFault → ⊥) → Stays (S.faults input.old) (S.faults input.new) }
+    ensures output_stays { (IsErrOf result RouteFault.OutputFault → ⊥) → Stays (O.faults out.old) (O.faults out.new) }
     ensures input { S.faults input.old ≤ S.faults input.new }
     ensures output { O.faults out.old ≤ O.faults out.new }
 {

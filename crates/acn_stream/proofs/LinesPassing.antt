@@ -342,3 +342,10 @@ room_passed g before after i i' tally line old new count room r a = record {
 
 pub falls_passed : (before after : Supplied) (i i' : Option (List ℕ)) (line : List ℕ) → IsEnded before after i i' line → unread after < unread before
 falls_passed before after i i' line r = omega (arith, r.gets.counted, ap length r.cut, length-append before.hand r.given, length-append line (10 ∷ after.hand))
+
+-- where no line came for another reason than a failure, the fault is another
+pub no_failure : {A : Type 0} → (lines : ℕ) (why : NoLine) (fault : StreamFault) (r : Result A NoLine) → r ≡ Err why → fault ≡ fault_behind lines why → (fault ≡ stream.InputFault → ⊥) → r ≡ Err no_line.Failed → ⊥
+no_failure lines no_line.Failed fault r came is h e = h is
+no_failure lines no_line.TooLong fault r came is h e = cc
+no_failure lines no_line.PastLimit fault r came is h e = cc
+no_failure lines no_line.NoMemory fault r came is h e = cc

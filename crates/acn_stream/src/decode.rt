@@ -3,7 +3,7 @@
 ghost use Rattle.std.specs.Prelude.{◌≡◌, ◌↔◌, ◌≤◌, IsErrOf};
 ghost use Rattle.acn_grammar.specs.Interval.{span};
 ghost use Rattle.acn_grammar.specs.View.{grammar_of};
-ghost use Rattle.acn_outside.specs.Counts.{Rose};
+ghost use Rattle.acn_outside.specs.Counts.{Rose, Stays};
 ghost use Rattle.acn_plan.specs.Steps.{steps_of};
 ghost use Rattle.acn_stream.specs.Decoding.{DecodeEnds};
 
@@ -26,9 +26,9 @@ use std::alloc::Global;
 ///
 /// `EmptyPacket` comes exactly where the least bound is 0; then nothing is read. `Packet` names the first packet that can't be read,
 /// with the one failure that there is. `InputTooLong` comes where the bytes up to the limit end inside a packet, or at its end, and
-/// one byte more came. `InputFault` and `OutputFault` come only where that count of faults rose, `NoMemory` where memory runs
-/// out. With each of these the output gained the lines of the packets before, with `OutputFault` a front of them. (Recordings are this
-/// profile's own.)
+/// one byte more came. `InputFault` and `OutputFault` come only where that count of faults rose, and without them it stays;
+/// `NoMemory` comes where memory runs out. With each of these the output gained the lines of the packets before, with `OutputFault` a
+/// front of them. (Recordings are this profile's own.)
 pub fn decode_all<S: Source, O: Sink>(
     alloc: Global,
     checked: &Checked,
@@ -42,6 +42,8 @@ pub fn decode_all<S: Source, O: Sink>(
     ensures empty { IsErrOf result StreamFault.EmptyPacket ↔ ((span (grammar_of checked.now.tree.root)).least ≡ 0) }
     ensures input_fault { IsErrOf result StreamFault.InputFault → Rose (S.faults input.old) (S.faults input.new) }
     ensures output_fault { IsErrOf result StreamFault.OutputFault → Rose (O.faults out.old) (O.faults out.new) }
+    ensures input_stays { (IsErrOf result StreamFault.InputFault → ⊥) → Stays (S.faults input.old) (S.faults input.new) }
+    ensures output_stays { (IsErrOf result StreamFault.OutputFault → ⊥) → Stays (O.faults out.old) (O.faults out.new) }
     ensures input { S.faults input.old ≤ S.faults input.new }
     ensures output { O.faults out.old ≤ O.faults out.new }
 {

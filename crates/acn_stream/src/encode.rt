@@ -3,7 +3,7 @@
 ghost use Rattle.std.specs.Prelude.{◌≡◌, ◌↔◌, ◌+◌, ◌^◌, ◌<◌, ◌≤◌, ◌++◌, ℕ, List, [], length, Option, None, Some, Err, IsErrOf};
 ghost use Rattle.acn_grammar.specs.Interval.{span};
 ghost use Rattle.acn_grammar.specs.View.{grammar_of};
-ghost use Rattle.acn_outside.specs.Counts.{Rose};
+ghost use Rattle.acn_outside.specs.Counts.{Rose, Stays};
 ghost use Rattle.acn_plan.specs.Steps.{steps_of};
 ghost use Rattle.acn_stream.specs.Encoding.{EncodeEnds};
 ghost use Rattle.acn_stream.specs.Passing as spec;
@@ -70,6 +70,7 @@ fn take_line<S: Source>(
     ensures falls { result ≡ None → spec.unread supply.new < spec.unread supply.old }
     ensures count { S.faults input.old ≤ S.faults input.new }
     ensures failed { result ≡ Some (Err stream.InputFault) → Rose (S.faults input.old) (S.faults input.new) }
+    ensures stays { (result ≡ Some (Err stream.InputFault) → ⊥) → Stays (S.faults input.old) (S.faults input.new) }
 {
     match read_line(supply, input, &mut space.line) {
         Ok(Line::Ended) => match put_line(alloc, by, space) {
@@ -104,6 +105,7 @@ fn take_lines<S: Source>(
     ensures falls { result ≡ None → spec.unread supply.new < spec.unread supply.old }
     ensures count { S.faults input.old ≤ S.faults input.new }
     ensures failed { result ≡ Some (Err stream.InputFault) → Rose (S.faults input.old) (S.faults input.new) }
+    ensures stays { (result ≡ Some (Err stream.InputFault) → ⊥) → Stays (S.faults input.old) (S.faults input.new) }
 {
     loop {
         match take_line(alloc, by, space, supply, input, tally) {
@@ -132,6 +134,8 @@ fn encode_supply<S: Source, O: Sink>(
     ensures output { O.faults out.old ≤ O.faults out.new }
     ensures input_fault { IsErrOf result StreamFault.InputFault → Rose (S.faults input.old) (S.faults input.new) }
     ensures output_fault { IsErrOf result StreamFault.OutputFault → Rose (O.faults out.old) (O.faults out.new) }
+    ensures input_stays { (IsErrOf result StreamFault.InputFault → ⊥) → (IsErrOf result StreamFault.OutputFault → ⊥) → Stays (S.faults input.old) (S.faults input.new) }
+    ensures output_stays { (IsErrOf result StreamFault.OutputFault → ⊥) → Stays (O.faults out.old) (O.faults out.new) }
     ensures some { IsErrOf result StreamFault.EmptyPacket → ⊥ }
 {
     let mut space = Workspace {
@@ -172,6 +176,8 @@ fn encode_in_order<S: Source, O: Sink>(
     ensures output { O.faults out.old ≤ O.faults out.new }
     ensures input_fault { IsErrOf result StreamFault.InputFault → Rose (S.faults input.old) (S.faults input.new) }
     ensures output_fault { IsErrOf result StreamFault.OutputFault → Rose (O.faults out.old) (O.faults out.new) }
+    ensures input_stays { (IsErrOf result StreamFault.InputFault → ⊥) → (IsErrOf result StreamFault.OutputFault → ⊥) → Stays (S.faults input.old) (S.faults input.new) }
+    ensures output_stays { (IsErrOf result StreamFault.OutputFault → ⊥) → Stays (O.faults out.old) (O.faults out.new) }
     ensures some { IsErrOf result StreamFault.EmptyPacket → ⊥ }
 {
     match Supply::new(alloc, limit) {
@@ -192,8 +198,9 @@ fn encode_in_order<S: Source, O: Sink>(
 /// with its first fault, and `Unfit` the first whose value is refused, with the one reason, whichever comes first.
 /// `LineTooLong` comes where more than `MOST_LINE_BYTES` bytes of a line came, and `InputTooLong` where the bytes up to the limit end
 /// inside a line, or at its end, and one byte more came. `InputFault` and `OutputFault` come only where that count of faults
-/// rose, `NoMemory` where memory runs out. With each of these the output gained the packets of the lines before, with `OutputFault`
-/// a front of them. (Lines are this profile's own.)
+/// rose, `NoMemory` where memory runs out. Without the two both counts stay; where the output failed, the input may have failed before.
+/// With each of these the output gained the packets of the lines before, with `OutputFault` a front of them. (Lines are this profile's
+/// own.)
 pub fn encode_all<S: Source, O: Sink>(
     alloc: Global,
     checked: &Checked,
@@ -207,6 +214,8 @@ pub fn encode_all<S: Source, O: Sink>(
     ensures empty { IsErrOf result StreamFault.EmptyPacket ↔ ((span (grammar_of checked.now.tree.root)).least ≡ 0) }
     ensures input_fault { IsErrOf result StreamFault.InputFault → Rose (S.faults input.old) (S.faults input.new) }
     ensures output_fault { IsErrOf result StreamFault.OutputFault → Rose (O.faults out.old) (O.faults out.new) }
+    ensures input_stays { (IsErrOf result StreamFault.InputFault → ⊥) → (IsErrOf result StreamFault.OutputFault → ⊥) → Stays (S.faults input.old) (S.faults input.new) }
+    ensures output_stays { (IsErrOf result StreamFault.OutputFault → ⊥) → Stays (O.faults out.old) (O.faults out.new) }
     ensures input { S.faults input.old ≤ S.faults input.new }
     ensures output { O.faults out.old ≤ O.faults out.new }
 {

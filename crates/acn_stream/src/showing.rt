@@ -4,7 +4,7 @@ ghost use Rattle.std.specs.Prelude.{◌≡◌, ◌↔◌, ◌+◌, ◌^◌, ◌<
 ghost use Rattle.acn_grammar.specs.Grammar.{Grammar};
 ghost use Rattle.acn_grammar.specs.Interval.{span};
 ghost use Rattle.acn_grammar.specs.View.{grammar_of};
-ghost use Rattle.acn_outside.specs.Counts.{Rose};
+ghost use Rattle.acn_outside.specs.Counts.{Rose, Stays};
 ghost use Rattle.acn_plan.specs.Steps.{steps_of};
 ghost use Rattle.acn_stream.specs.Decoding.{ShowEnds};
 ghost use Rattle.acn_stream.specs.Recording.{Shown, texts};
@@ -50,6 +50,7 @@ fn read_on<S: Source>(
     ensures count { S.faults input.old ≤ S.faults input.new }
     ensures known { spec.EndsReading result }
     ensures failed { result ≡ Some (Err StreamFault.InputFault) → Rose (S.faults input.old) (S.faults input.new) }
+    ensures stays { (result ≡ Some (Err StreamFault.InputFault) → ⊥) → Stays (S.faults input.old) (S.faults input.new) }
 {
     match supply.more(input) {
         Ok(More::Bytes) => None,
@@ -80,6 +81,8 @@ fn show_supply<S: Source, O: Sink, V: Show>(
     ensures output { O.faults out.old ≤ O.faults out.new }
     ensures input_fault { IsErrOf result StreamFault.InputFault → Rose (S.faults input.old) (S.faults input.new) }
     ensures output_fault { IsErrOf result StreamFault.OutputFault → Rose (O.faults out.old) (O.faults out.new) }
+    ensures input_stays { (IsErrOf result StreamFault.InputFault → ⊥) → Stays (S.faults input.old) (S.faults input.new) }
+    ensures output_stays { (IsErrOf result StreamFault.OutputFault → ⊥) → Stays (O.faults out.old) (O.faults out.new) }
     ensures some { IsErrOf result StreamFault.EmptyPacket → ⊥ }
 {
     let mut text = Vec::new(alloc);
@@ -117,9 +120,9 @@ fn show_supply<S: Source, O: Sink, V: Show>(
 ///
 /// `EmptyPacket` comes exactly where the least bound is 0; then nothing is read. `Packet` names the first packet that can't be read,
 /// with the one failure that there is. `InputTooLong` comes where the bytes up to the limit end inside a packet, or at its end, and
-/// one byte more came. `InputFault` and `OutputFault` come only where that count of faults rose, `NoMemory` where memory runs
-/// out. With each of these the output gained the texts of the packets before, with `OutputFault` a front of them. (Recordings are this
-/// profile's own.)
+/// one byte more came. `InputFault` and `OutputFault` come only where that count of faults rose, and without them it stays;
+/// `NoMemory` comes where memory runs out. With each of these the output gained the texts of the packets before, with `OutputFault` a
+/// front of them. (Recordings are this profile's own.)
 pub fn show_all<S: Source, O: Sink, V: Show>(
     alloc: Global,
     checked: &Checked,
@@ -136,6 +139,8 @@ pub fn show_all<S: Source, O: Sink, V: Show>(
     ensures empty { IsErrOf result StreamFault.EmptyPacket ↔ ((span (grammar_of checked.now.tree.root)).least ≡ 0) }
     ensures input_fault { IsErrOf result StreamFault.InputFault → Rose (S.faults input.old) (S.faults input.new) }
     ensures output_fault { IsErrOf result StreamFault.OutputFault → Rose (O.faults out.old) (O.faults out.new) }
+    ensures input_stays { (IsErrOf result StreamFault.InputFault → ⊥) → Stays (S.faults input.old) (S.faults input.new) }
+    ensures output_stays { (IsErrOf result StreamFault.OutputFault → ⊥) → Stays (O.faults out.old) (O.faults out.new) }
     ensures input { S.faults input.old ≤ S.faults input.new }
     ensures output { O.faults out.old ≤ O.faults out.new }
 {

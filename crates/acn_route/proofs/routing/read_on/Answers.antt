@@ -1,4 +1,4 @@
-use Rattle.std.proofs.Common.{arith, ap, length, subst, sym, ◌∙◌, Result}
+use Rattle.std.proofs.Common.{arith, ap, length, refl, subst, sym, ◌∙◌, Result}
 use Rattle.acn_route.specs.Routing.{RouteEnds}
 use Rattle.acn_route.specs.Steps.{end_of}
 use Rattle.acn_route.specs.declared.count.RouteCount.{RouteCount}
@@ -29,3 +29,6 @@ returns-in-Ok-PastLimit-clause-goes_on g c routes limit i o o' so p =
 
 pub returns-in-Err-clause-goes_on : goal.returns-in-Err-clause-goes_on
 returns-in-Err-clause-goes_on g c routes limit i o o' so p = cut_off routes limit i _ o o' _ _ so _ p c.in-Err.ensures.read.1
+
+pub returns-in-Err-clause-stays : goal.returns-in-Err-clause-stays
+returns-in-Err-clause-stays g c h = absurd (h refl)

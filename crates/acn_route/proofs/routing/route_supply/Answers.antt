@@ -1,4 +1,4 @@
-use Rattle.std.proofs.Common.{arith, ap, subst, Some, Result, refl}
+use Rattle.std.proofs.Common.{arith, ap, subst, Some, Result, refl, ◌∙◌}
 use Rattle.acn_route.specs.Steps.{EndsReading}
 use Rattle.acn_route.specs.declared.count.RouteCount.{RouteCount}
 use Rattle.acn_route.specs.declared.route_fault.RouteFault.{RouteFault}
@@ -6,7 +6,7 @@ use Rattle.acn_route.proofs.Ending.{begun, written_on, room, stopped, front, ros
 use Rattle.acn_route.proofs.routing.route_supply.Goals as goal
 
 pub loop-page-init : goal.loop-page-init
-loop-page-init g c = record { so_far = begun _ _ _ _ _ c.requires.begins refl; input = omega arith; output = omega arith }
+loop-page-init g c = record { so_far = begun _ _ _ _ _ c.requires.begins refl; input = omega arith; output = omega arith; input_stays = refl; output_stays = refl }
 
 pub take_packets-pause-requires : goal.take_packets-pause-requires
 take_packets-pause-requires g c = record { room = room _ _ _ _ _ _ _ _ c.loop-page.invariant.so_far c.requires.limit }
@@ -23,6 +23,8 @@ loop-page-preserved-in-Full g c = record {
   so_far = written_on _ _ _ _ _ _ _ _ c.loop-page.invariant.so_far _ _ _ _ _ c.take_packets-pause.ensures.taken c.clear.ensures.items (rw c.deref.ensures.value at c.in-Ok.ensures.written);
   input = c.loop-page.invariant.input;
   output = omega (arith, c.loop-page.invariant.output, c.in-Ok.ensures.count);
+  input_stays = c.loop-page.invariant.input_stays;
+  output_stays = c.in-Ok.ensures.uncounted ∙ c.loop-page.invariant.output_stays;
 }
 
 pub read_on-requires-clause-few : goal.read_on-requires-clause-few
@@ -47,6 +49,8 @@ loop-page-preserved g c =
       so_far = more.0;
       input = omega (arith, c.loop-page.invariant.input, c.in-None.ensures.count);
       output = omega (arith, c.loop-page.invariant.output, c.in-Ok.ensures.count);
+      input_stays = c.in-None.ensures.stays (λ e. cc) ∙ c.loop-page.invariant.input_stays;
+      output_stays = c.in-Ok.ensures.uncounted ∙ c.loop-page.invariant.output_stays;
     }
 
 pub returns-in-Some-clause-ends : goal.returns-in-Some-clause-ends
@@ -64,3 +68,15 @@ pub returns-in-NoMemory-clause-ends : goal.returns-in-NoMemory-clause-ends
 returns-in-NoMemory-clause-ends g c =
     let so = written_on _ _ _ _ _ _ _ _ c.loop-page.invariant.so_far _ _ _ _ _ c.take_packets-pause.ensures.taken c.clear.ensures.items (rw c.deref.ensures.value at c.in-Ok.ensures.written) in
     stopped _ _ _ _ _ _ _ _ so c.take_packets-pause.ensures.near
+
+pub returns-in-Err-clause-output_stays : goal.returns-in-Err-clause-output_stays
+returns-in-Err-clause-output_stays g c h = absurd (h refl)
+
+pub returns-in-Some-clause-input_stays : goal.returns-in-Some-clause-input_stays
+returns-in-Some-clause-input_stays g c h = c.in-Some.ensures.stays (λ e. h (cc)) ∙ c.loop-page.invariant.input_stays
+
+pub returns-in-Some-clause-output_stays : goal.returns-in-Some-clause-output_stays
+returns-in-Some-clause-output_stays g c h = c.in-Ok.ensures.uncounted ∙ c.loop-page.invariant.output_stays
+
+pub returns-in-NoMemory-clause-output_stays : goal.returns-in-NoMemory-clause-output_stays
+returns-in-NoMemory-clause-output_stays g c h = c.in-Ok.ensures.uncounted ∙ c.loop-page.invariant.output_stays

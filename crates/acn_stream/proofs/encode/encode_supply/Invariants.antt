@@ -1,4 +1,5 @@
 use Rattle.std.proofs.Common.{◌≤◌, ℕ, List}
+use Rattle.acn_outside.specs.Counts.{Stays}
 use Rattle.acn_outside.specs.Moves.{Gains}
 use Rattle.acn_stream.specs.Passing.{Encoded, HasRoom, grammar_by, unread}
 use Rattle.acn_stream.proofs.encode.encode_supply.Given as goal
@@ -9,6 +10,8 @@ invariant-loop-space g l = record {
   room : HasRoom l.supply l.tally;
   input : g.S.Source.faults l.fn.input ≤ g.S.Source.faults l.input;
   output : g.O.Sink.faults l.fn.out ≤ g.O.Sink.faults l.out;
+  input_stays : Stays (g.S.Source.faults l.fn.input) (g.S.Source.faults l.input);
+  output_stays : Stays (g.O.Sink.faults l.fn.out) (g.O.Sink.faults l.out);
 }
 
 abbrev pub decreases-loop-space : goal.decreases-loop-space

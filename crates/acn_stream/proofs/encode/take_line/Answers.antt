@@ -1,4 +1,5 @@
-use Rattle.acn_stream.proofs.LinesPassing.{line_passed, line_last, failed_ended, failed_last, no_line_came, room_passed, falls_passed}
+use Rattle.std.proofs.Common.{Some, Err, ap, refl}
+use Rattle.acn_stream.proofs.LinesPassing.{line_passed, line_last, failed_ended, failed_last, no_line_came, room_passed, falls_passed, no_failure}
 use Rattle.acn_stream.proofs.encode.take_line.Goals as goal
 
 pub returns-in-Ok-clause-goes : goal.returns-in-Ok-clause-goes
@@ -27,3 +28,18 @@ returns-in-Err-put_line-2-clause-goes g c limit i text e =
 
 pub returns-in-Err-clause-goes : goal.returns-in-Err-clause-goes
 returns-in-Err-clause-goes g c limit i text e = rw c.fault_behind.ensures (no_line_came _ limit i _ _ _ _ _ _ _ c.in-Err.why e c.in-Err.ensures.read)
+
+pub returns-in-Ok-clause-stays : goal.returns-in-Ok-clause-stays
+returns-in-Ok-clause-stays g c h = c.in-Ok-Ended.ensures.uncounted (λ e. cc)
+
+pub returns-in-Err-put_line-clause-stays : goal.returns-in-Err-put_line-clause-stays
+returns-in-Err-put_line-clause-stays g c h = c.in-Ok-Ended.ensures.uncounted (λ e. cc)
+
+pub returns-in-Ok-put_line-clause-stays : goal.returns-in-Ok-put_line-clause-stays
+returns-in-Ok-put_line-clause-stays g c h = c.in-Ok-Last.ensures.uncounted (λ e. cc)
+
+pub returns-in-Err-put_line-2-clause-stays : goal.returns-in-Err-put_line-2-clause-stays
+returns-in-Err-put_line-2-clause-stays g c h = c.in-Ok-Last.ensures.uncounted (λ e. cc)
+
+pub returns-in-Err-clause-stays : goal.returns-in-Err-clause-stays
+returns-in-Err-clause-stays g c h = c.in-Err.ensures.uncounted (no_failure _ c.in-Err.why _ _ refl c.fault_behind.ensures (λ e. h (ap (λ f. Some (Err f)) e)))

@@ -1,4 +1,5 @@
 use Rattle.std.proofs.Common.{◌≤◌, ◌++◌, ℕ, List, Option}
+use Rattle.acn_outside.specs.Counts.{Stays}
 use Rattle.acn_stream.specs.Passing.{Encoded, HasRoom, grammar_by, unread}
 use Rattle.acn_stream.proofs.encode.take_lines.Given as goal
 
@@ -8,6 +9,7 @@ invariant-loop-result g l = record {
   room : HasRoom l.supply l.tally;
   falls : unread l.supply ≤ unread l.fn.supply;
   count : g.S.Source.faults l.fn.input ≤ g.S.Source.faults l.input;
+  stays : Stays (g.S.Source.faults l.fn.input) (g.S.Source.faults l.input);
 }
 
 abbrev pub decreases-loop-result : goal.decreases-loop-result

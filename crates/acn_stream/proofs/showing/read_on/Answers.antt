@@ -1,3 +1,4 @@
+use Rattle.std.proofs.Common.{refl}
 use Rattle.acn_stream.proofs.Ending.{ended, cut_off, passed}
 use Rattle.acn_stream.proofs.showing.read_on.Goals as goal
 
@@ -11,3 +12,6 @@ returns-in-Ok-PastLimit-clause-goes_on g c grammar shown limit i o o' so p =
 
 pub returns-in-Err-clause-goes_on : goal.returns-in-Err-clause-goes_on
 returns-in-Err-clause-goes_on g c grammar shown limit i o o' so p = cut_off grammar shown limit i _ _ o o' _ _ c.args.wanting so p c.in-Err.ensures.read.1
+
+pub returns-in-Err-clause-stays : goal.returns-in-Err-clause-stays
+returns-in-Err-clause-stays g c h = absurd (h refl)

@@ -1,4 +1,4 @@
-use Rattle.std.proofs.Common.{arith, ap, subst, Some, Result, ℕ}
+use Rattle.std.proofs.Common.{arith, ap, refl, subst, Some, Result, ℕ, ◌∙◌}
 use Rattle.acn_stream.specs.Steps.{EndsReading}
 use Rattle.acn_stream.specs.declared.stream_fault.StreamFault.{StreamFault}
 use Rattle.acn_stream.proofs.Ending.{begun, written_on, room, more_room, refused_now, wants_few, wants_room, stopped, front, rose_later}
@@ -6,7 +6,7 @@ use Rattle.acn_stream.proofs.Taking.{not_longer}
 use Rattle.acn_stream.proofs.showing.show_supply.Goals as goal
 
 pub loop-text-init : goal.loop-text-init
-loop-text-init g c = record { so_far = begun _ _ _ _ _ c.requires.begins; input = omega arith; output = omega arith }
+loop-text-init g c = record { so_far = begun _ _ _ _ _ c.requires.begins; input = omega arith; output = omega arith; input_stays = refl; output_stays = refl }
 
 pub take_packets-pause-requires-clause-room : goal.take_packets-pause-requires-clause-room
 take_packets-pause-requires-clause-room g c = room _ _ _ _ _ _ _ _ _ c.loop-text.invariant.so_far c.requires.limit
@@ -23,6 +23,8 @@ loop-text-preserved-in-Full g c = record {
   so_far = written_on _ _ _ _ _ _ _ _ _ _ _ _ _ _ c.loop-text.invariant.so_far c.take_packets-pause.ensures.taken c.clear.ensures.items (rw c.deref.ensures.value at c.in-Ok.ensures.written);
   input = c.loop-text.invariant.input;
   output = omega (arith, c.loop-text.invariant.output, c.in-Ok.ensures.count);
+  input_stays = c.loop-text.invariant.input_stays;
+  output_stays = c.in-Ok.ensures.uncounted ∙ c.loop-text.invariant.output_stays;
 }
 
 pub read_on-requires-clause-few : goal.read_on-requires-clause-few
@@ -47,6 +49,8 @@ loop-text-preserved g c =
       so_far = more.0;
       input = omega (arith, c.loop-text.invariant.input, c.in-None.ensures.count);
       output = omega (arith, c.loop-text.invariant.output, c.in-Ok.ensures.count);
+      input_stays = c.in-None.ensures.stays (λ e. cc) ∙ c.loop-text.invariant.input_stays;
+      output_stays = c.in-Ok.ensures.uncounted ∙ c.loop-text.invariant.output_stays;
     }
 
 pub returns-in-Some-clause-ends : goal.returns-in-Some-clause-ends
@@ -78,3 +82,18 @@ pub returns-in-NoMemory-clause-ends : goal.returns-in-NoMemory-clause-ends
 returns-in-NoMemory-clause-ends g c =
     let so = written_on _ _ _ _ _ _ _ _ _ _ _ _ _ _ c.loop-text.invariant.so_far c.take_packets-pause.ensures.taken c.clear.ensures.items (rw c.deref.ensures.value at c.in-Ok.ensures.written) in
     stopped _ _ _ _ _ _ _ _ _ so c.take_packets-pause.ensures.near
+
+pub returns-in-Err-clause-output_stays : goal.returns-in-Err-clause-output_stays
+returns-in-Err-clause-output_stays g c h = absurd (h refl)
+
+pub returns-in-Some-clause-input_stays : goal.returns-in-Some-clause-input_stays
+returns-in-Some-clause-input_stays g c h = c.in-Some.ensures.stays (λ e. h (cc)) ∙ c.loop-text.invariant.input_stays
+
+pub returns-in-Some-clause-output_stays : goal.returns-in-Some-clause-output_stays
+returns-in-Some-clause-output_stays g c h = c.in-Ok.ensures.uncounted ∙ c.loop-text.invariant.output_stays
+
+pub returns-in-Refused-clause-output_stays : goal.returns-in-Refused-clause-output_stays
+returns-in-Refused-clause-output_stays g c h = c.in-Ok.ensures.uncounted ∙ c.loop-text.invariant.output_stays
+
+pub returns-in-NoMemory-clause-output_stays : goal.returns-in-NoMemory-clause-output_stays
+returns-in-NoMemory-clause-output_stays g c h = c.in-Ok.ensures.uncounted ∙ c.loop-text.invariant.output_stays
