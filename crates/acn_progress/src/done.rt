@@ -10,12 +10,17 @@ use acn_outside::{Failed, Sink};
 use acn_print::{Piece, put_all};
 use memchr::memchr_iter;
 
+// An octet has so many bits.
+const OCTET_BITS: u64 = 8;
+
 /// What is done of a run.
 #[derive(Clone, Copy)]
 pub struct Done {
-    /// How many lines were read or written. A packet that becomes one line is counted by its line.
+    /// How many lines were read or written, or values were made. A packet that becomes one line is
+    /// counted by its line.
     pub lines: u64,
-    /// How many octets of packets were read or written.
+    /// How many octets of packets were read or written; of values that were made, whole ones of
+    /// their bits together.
     pub octets: u64,
 }
 
@@ -55,6 +60,7 @@ impl Done {
             Way::Encoding => self.with_lines(bytes),
             Way::Decoding => self.with_octets(bytes),
             Way::Explaining => self.with_octets(bytes),
+            Way::Working => self,
         }
     }
 
@@ -66,6 +72,17 @@ impl Done {
             Way::Encoding => self.with_octets(bytes),
             Way::Decoding => self.with_lines(bytes),
             Way::Explaining => self.with_lines(bytes),
+            Way::Working => self,
+        }
+    }
+
+    /// What is done when so many values were made, of which so many bits were written.
+    pub fn made(values: u64, bits: u64) -> Done
+        ensures { result ≡ spec.made values bits }
+    {
+        Done {
+            lines: values,
+            octets: bits / OCTET_BITS,
         }
     }
 }
@@ -77,6 +94,7 @@ fn lines_word(way: Way) -> &'static str
         Way::Encoding => " lines read, ",
         Way::Decoding => " packets, ",
         Way::Explaining => " lines written, ",
+        Way::Working => " values made, ",
     }
 }
 
@@ -87,6 +105,7 @@ fn octets_word(way: Way) -> &'static str
         Way::Encoding => " octets written",
         Way::Decoding => " octets read",
         Way::Explaining => " octets read",
+        Way::Working => " octets packed",
     }
 }
 

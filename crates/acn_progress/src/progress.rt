@@ -4,6 +4,7 @@ use crate::done::{Done, put_done};
 use crate::way::Way;
 use acn_num::NoMemory;
 use acn_outside::SureSink;
+use acn_work::{Summary, Watch};
 use std::alloc::Global;
 use std::cell::Cell;
 use std::time::{Clock, Instant};
@@ -12,6 +13,9 @@ use std::time::{Clock, Instant};
 const MOST_COLUMNS: usize = 80;
 
 const BLANKS: [u8; MOST_COLUMNS] = [b' '; MOST_COLUMNS];
+
+// The clock is looked at once for so many values that are made.
+const VALUES_A_LOOK: u64 = 64;
 
 // So many seconds after the line before, and after the run began, a line is shown.
 const SECONDS: u64 = 1;
@@ -67,6 +71,16 @@ impl<'a, R: Clock, P: Print> Progress<'a, R, P> {
         }
     }
 
+    // These values were made.
+    fn worked(&self, so_far: &Summary) {
+        if let Some(way) = self.way {
+            self.done.set(Done::made(so_far.made, so_far.bits));
+            if so_far.made % VALUES_A_LOOK == 0 {
+                self.look(way);
+            }
+        }
+    }
+
     // Shows a line where it is time.
     fn look(&self, way: Way) {
         if let Some(shown) = self.shown.get() {
@@ -106,5 +120,11 @@ impl<'a, R: Clock, P: Print> Progress<'a, R, P> {
             let _ = self.to.write_all(BLANKS.get(..columns).unwrap_or(&BLANKS));
             let _ = self.to.write_all(b"\r");
         }
+    }
+}
+
+impl<'a, R: Clock, P: Print> Watch for Progress<'a, R, P> {
+    fn made(&self, so_far: &Summary) {
+        self.worked(so_far);
     }
 }

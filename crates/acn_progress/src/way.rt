@@ -6,7 +6,7 @@ ghost use Rattle.acn_words.specs.Requests.{request_in};
 
 use acn_words::{Request, read_words};
 
-/// Which way a run converts its input.
+/// Which way a run converts its input, or that it makes values.
 #[derive(Clone, Copy, PartialEq, Eq)]
 pub enum Way {
     /// Lines become packets.
@@ -15,9 +15,11 @@ pub enum Way {
     Decoding,
     /// Packets become lines, several each.
     Explaining,
+    /// Values are made, written and read again.
+    Working,
 }
 
-/// The way of a run over these words. None comes where it converts no input.
+/// The way of a run over these words. None comes where it neither converts an input nor makes values.
 pub fn way_of(words: &[String]) -> Option<Way>
     ensures { result ≡ spec.way_of (request_in (map string_bytes words.now)) }
 {
@@ -31,7 +33,7 @@ pub fn way_of(words: &[String]) -> Option<Way>
         Some(Request::Layout { .. }) => None,
         Some(Request::Compare { .. }) => None,
         Some(Request::Extremes { .. }) => None,
-        Some(Request::Work { .. }) => None,
+        Some(Request::Work { .. }) => Some(Way::Working),
         None => None,
     }
 }

@@ -4,8 +4,10 @@
 mod line;
 mod summary;
 mod trying;
+mod watch;
 mod working;
 
 pub use line::put_summary;
 pub use summary::{Summary, one_summary};
+pub use watch::{Unwatched, Watch};
 pub use working::work;

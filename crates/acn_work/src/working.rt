@@ -14,6 +14,7 @@ ghost use Rattle.acn_work.specs.Summaries.{IsSummary};
 
 use crate::summary::Summary;
 use crate::trying::{Outcome, outcome_of};
+use crate::watch::Watch;
 use acn_bounds::bounds;
 use acn_check::Checked;
 use acn_num::NoMemory;
@@ -69,16 +70,17 @@ fn counted(before: Summary, outcome: Outcome) -> Summary
 /// Makes so many values of an accepted tree from a start, each behind the other (this profile's own generator, as `make` of `acn_tree`
 /// says), writes each by `pack`, reads what was written by `unpack`, and tells what came of them. All are written into one buffer, and
 /// each value and what was read are let go before the next value is made, so the memory that is taken doesn't grow with their count.
-/// Want of memory is the only refusal.
+/// Want of memory is the only refusal. `watch` is told of each value that was made, and nothing more.
 ///
 /// The plan is that of the tree, as `compile` of `acn_plan` makes it. The conditions are that the bits of so many packets, of which none has more than `MOST_PACKET_BITS`, can be counted in 64 bits, and
 /// that every enumeration has fewer than 2^32 items, as `items_named` of `acn_tree` tells.
-pub fn work(
+pub fn work<W: Watch>(
     alloc: Global,
     checked: &Checked,
     plan: &Plan,
     start: u64,
     count: u64,
+    watch: &W,
 ) -> Result<Summary, NoMemory>
     requires few { count * MOST_PACKET_BITS < 2 ^ 64 }
     requires named { ItemsNamed (grammar_of checked.now.tree.root) }
@@ -98,6 +100,7 @@ pub fn work(
     for _ in 0..count {
         let outcome = next_outcome(alloc, checked, plan, &mut draw, &mut buffer)?;
         summary = counted(summary, outcome);
+        watch.made(&summary);
     }
     Ok(summary)
 }

@@ -7,7 +7,7 @@ use acn_num::{Boxed, NoMemory};
 use acn_outside::MemSink;
 use acn_plan::compile;
 use acn_tree::{Tree, items_named};
-use acn_work::{Summary, put_summary, work};
+use acn_work::{Summary, Unwatched, put_summary, work};
 use std::alloc::Global;
 
 /// The most values of a case.
@@ -35,7 +35,7 @@ fn worked(alloc: Global, checked: &Checked, start: u64, count: u64) -> Result<St
         return Ok(format!(in alloc; "too many")?);
     }
     let plan = compile(alloc, checked)?;
-    let summary = work(alloc, checked, &plan, start, count)?;
+    let summary = work(alloc, checked, &plan, start, count, &Unwatched)?;
     shown(alloc, &summary)
 }
 

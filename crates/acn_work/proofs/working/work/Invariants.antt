@@ -6,7 +6,7 @@ use Rattle.acn_work.proofs.Tallies.{Adds}
 use Rattle.acn_work.proofs.working.work.Given as goal
 
 abbrev pub invariant-loop : goal.invariant-loop
-invariant-loop l = record {
+invariant-loop g l = record {
   made : l.summary.made ≡ l.counter;
   packed : l.summary.packed ≤ l.counter;
   refused : l.summary.refused ≤ l.counter;
