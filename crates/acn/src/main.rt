@@ -9,7 +9,7 @@ use acn_advice::{Heard, Recalled};
 use acn_advisor::advise;
 use acn_outside::{StdError, StdFiles, StdInput, StdOutput};
 use acn_progress::{Cleared, Progress, Watched, way_of};
-use acn_run::run;
+use acn_run::run_watched;
 use questions::question_in;
 use std::env;
 use std::io::ErrorKind;
@@ -113,13 +113,14 @@ fn main(rt: HostRuntime) -> ExitCode {
     let mut out = Watched::new(StdOutput::new(&stdout), &progress);
     let err = Cleared::new(StdError::new(&stderr), &progress);
     let mut err = Heard::new(rt.alloc(), err);
-    let status = run(
+    let status = run_watched(
         rt.alloc(),
         &words,
         &mut files,
         &mut input,
         &mut out,
         &mut err,
+        &progress,
     );
     progress.clear();
     if hints {

@@ -122,10 +122,10 @@ module _ (unspelled : RefusedIsNotSpelled) where
       can_be : Serves b a request Done → CanBeConverted b request
       can_be (printed trees text has is' unread gains silent) =
           ((λ tree has'. (text_holds request trees text (grammar_of tree.root) b.input is').0), (text_holds request trees text some_grammar b.input is').1)
-      can_be (converted tree count has c silent) =
+      can_be (converted tree count has c stay silent) =
           let holds = of_stream request tree count (is_accepted b.files request tree has) c.ends in
           ((λ other has'. subst (λ (g : Grammar). (values : List Data) × Holds request g b.input values) (same_grammar tree other has has') holds.0), holds.1)
-      can_be (routed trees counts has e silent) = ((λ tree has'. (of_routes request trees counts (grammar_of tree.root) e).0), (of_routes request trees counts some_grammar e).1)
+      can_be (routed trees counts has e stay silent) = ((λ tree has'. (of_routes request trees counts (grammar_of tree.root) e).0), (of_routes request trees counts some_grammar e).1)
 
 done_is_no_grammar : code_of Done ≡ code_of NoGrammar → ⊥
 done_is_no_grammar e = cc

@@ -1,7 +1,7 @@
 -- From the clauses of a stream to whether it was begun, and which device failed.
 use Rattle.std.proofs.Common.{◌≡◌, ◌<◌, ℕ, zero, suc, refl, arith}
 use Rattle.std.specs.Prelude.{Result, Ok, Err, IsErrOf}
-use Rattle.acn_outside.specs.Counts.{Rose}
+use Rattle.acn_outside.specs.Counts.{Rose, Stays}
 use Rattle.acn_stream.specs.declared.stream_fault.StreamFault.{StreamFault}
 use Rattle.acn_stream.specs.declared.stream_fault.StreamFault.TheVariants as stream
 use Rattle.acn_run.specs.Steps.{WasBegun, FailedSo}
@@ -23,14 +23,15 @@ was_begun (Err stream.InputFault) h = tt
 was_begun (Err stream.OutputFault) h = tt
 was_begun (Err stream.NoMemory) h = tt
 
-pub failed_so : (r : Result ℕ StreamFault) (n n' m m' : ℕ) → (IsErrOf r stream.InputFault → Rose n n') → (IsErrOf r stream.OutputFault → Rose m m') → FailedSo r n n' m m'
-failed_so (Ok count) n n' m m' i o = tt
-failed_so (Err (stream.LineTooLong k)) n n' m m' i o = tt
-failed_so (Err stream.InputTooLong) n n' m m' i o = tt
-failed_so (Err stream.EmptyPacket) n n' m m' i o = tt
-failed_so (Err (stream.Packet k f)) n n' m m' i o = tt
-failed_so (Err (stream.BadLine k f)) n n' m m' i o = tt
-failed_so (Err (stream.Unfit k f)) n n' m m' i o = tt
-failed_so (Err stream.InputFault) n n' m m' i o = i refl
-failed_so (Err stream.OutputFault) n n' m m' i o = o refl
-failed_so (Err stream.NoMemory) n n' m m' i o = tt
+pub failed_so : (r : Result ℕ StreamFault) (n n' m m' : ℕ) → (IsErrOf r stream.InputFault → Rose n n') → (IsErrOf r stream.OutputFault → Rose m m')
+    → ((IsErrOf r stream.InputFault → ⊥) → (IsErrOf r stream.OutputFault → ⊥) → Stays n n') → ((IsErrOf r stream.OutputFault → ⊥) → Stays m m') → FailedSo r n n' m m'
+failed_so (Ok count) n n' m m' i o p q = (p (λ e. cc) (λ e. cc), q (λ e. cc))
+failed_so (Err (stream.LineTooLong k)) n n' m m' i o p q = (p (λ e. cc) (λ e. cc), q (λ e. cc))
+failed_so (Err stream.InputTooLong) n n' m m' i o p q = (p (λ e. cc) (λ e. cc), q (λ e. cc))
+failed_so (Err stream.EmptyPacket) n n' m m' i o p q = (p (λ e. cc) (λ e. cc), q (λ e. cc))
+failed_so (Err (stream.Packet k f)) n n' m m' i o p q = (p (λ e. cc) (λ e. cc), q (λ e. cc))
+failed_so (Err (stream.BadLine k f)) n n' m m' i o p q = (p (λ e. cc) (λ e. cc), q (λ e. cc))
+failed_so (Err (stream.Unfit k f)) n n' m m' i o p q = (p (λ e. cc) (λ e. cc), q (λ e. cc))
+failed_so (Err stream.InputFault) n n' m m' i o p q = i refl
+failed_so (Err stream.OutputFault) n n' m m' i o p q = o refl
+failed_so (Err stream.NoMemory) n n' m m' i o p q = (p (λ e. cc) (λ e. cc), q (λ e. cc))

@@ -174,17 +174,17 @@ module _ (laws : Laws) (b a : Outside) (request : Request) (unrefused : IsUnrefu
 
   whole : (status : Status) → Serves b a request status → DoesTheWhole b a request (code_of status)
   whole Done (printed trees text has is unread gains silent) = complete.printed trees text has is gains
-  whole Done (converted tree count has c silent) =
+  whole Done (converted tree count has c stay silent) =
       let e = ended tree has (Ok count) c (λ x. ok_is_no_fault count stream.EmptyPacket x) in
       complete.converted tree e.0 e.2.0 has e.1 e.2.1 e.2.2
-  whole Done (routed trees counts has e silent) =
+  whole Done (routed trees counts has e stay silent) =
       let r = not_misrouted laws b a request trees (Ok counts) can.1 e in
       complete.routed trees r.0 has r.1 r.2
   whole NoGrammar (refused line why untouched says) = absurd (unrefused line why)
-  whole BadInput (unconverted tree fault has of c says) =
+  whole BadInput (unconverted tree fault has of c stay says) =
       let e = ended tree has (Err fault) c (λ x. is_no_empty fault of (Err fault) refl x) in
       absurd (e.2 of)
-  whole BadInput (unrouted trees fault has of e says) = absurd (not_misrouted laws b a request trees (Err fault) can.1 e of)
+  whole BadInput (unrouted trees fault has of e stay says) = absurd (not_misrouted laws b a request trees (Err fault) can.1 e of)
   whole FileFailed (unreadable k name is rose untouched says) = absurd (sure.files name rose)
   whole InputFailed (broken_off tree has c rose says) = absurd (sure.input rose)
   whole InputFailed (route_broken trees has e rose says) = absurd (sure.input rose)
@@ -192,8 +192,8 @@ module _ (laws : Laws) (b a : Outside) (request : Request) (unrefused : IsUnrefu
   whole OutputFailed (cut tree has c rose says) = absurd (sure.out rose)
   whole OutputFailed (route_cut trees has e rose says) = absurd (sure.out rose)
   whole NoMemory (stopped untouched says) = complete.out_of_memory
-  whole NoMemory (halted tree has c says) = complete.out_of_memory
-  whole NoMemory (route_halted trees has e says) = complete.out_of_memory
+  whole NoMemory (halted tree has c stay says) = complete.out_of_memory
+  whole NoMemory (route_halted trees has e stay says) = complete.out_of_memory
   whole Usage s = elim s [ ]
 
 module _ (laws : Laws) (b a : Outside) (words : List (List ℕ)) where

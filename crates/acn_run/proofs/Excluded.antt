@@ -262,11 +262,11 @@ module _ (one : OneWorld) (none : FaultyFilesHaveNoWorld) (refuse : RefusedTypes
 
     ends_refused : (status : Status) → Serves b a request status → EndsRefused (code_of status)
     ends_refused Done (printed trees text has is unread gains silent) = absurd (not_printed trees text has is)
-    ends_refused Done (converted tree count has c silent) = absurd (not_converted tree (Ok count) has c)
-    ends_refused Done (routed trees counts has e silent) = absurd (not_routed trees (Ok counts) has e)
+    ends_refused Done (converted tree count has c stay silent) = absurd (not_converted tree (Ok count) has c)
+    ends_refused Done (routed trees counts has e stay silent) = absurd (not_routed trees (Ok counts) has e)
     ends_refused NoGrammar s = inl refl
-    ends_refused BadInput (unconverted tree fault has of c says) = absurd (not_converted tree (Err fault) has c)
-    ends_refused BadInput (unrouted trees fault has of e says) = absurd (not_routed trees (Err fault) has e)
+    ends_refused BadInput (unconverted tree fault has of c stay says) = absurd (not_converted tree (Err fault) has c)
+    ends_refused BadInput (unrouted trees fault has of e stay says) = absurd (not_routed trees (Err fault) has e)
     ends_refused FileFailed s = inr (inl refl)
     ends_refused InputFailed (broken_off tree has c rose says) = absurd (not_converted tree (Err stream.InputFault) has c)
     ends_refused InputFailed (route_broken trees has e rose says) = absurd (not_routed trees (Err routing.InputFault) has e)

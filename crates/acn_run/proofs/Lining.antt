@@ -68,12 +68,12 @@ module _ (law : RefusedLinesAreNamed) (b a : Outside) (request : Request) (reads
     (bad : (tree : Tree) → HasGrammars b.files request (tree ∷ []) → IsRefusedInput b tree) where
   by_status : (status : Status) → Serves b a request status → EndsAtALine b a request (code_of status)
   by_status Done (printed trees text has is unread gains silent) = absurd (no_text request trees text reads is)
-  by_status Done (converted tree count has c silent) = absurd (stops b a law tree (is_accepted b.files request tree has) c.some (bad tree has) request (Ok count) reads c.ends (λ e. cc))
-  by_status Done (routed trees counts has e silent) = absurd (no_routes b a request trees (Ok counts) reads e)
+  by_status Done (converted tree count has c stay silent) = absurd (stops b a law tree (is_accepted b.files request tree has) c.some (bad tree has) request (Ok count) reads c.ends (λ e. cc))
+  by_status Done (routed trees counts has e stay silent) = absurd (no_routes b a request trees (Ok counts) reads e)
   by_status NoGrammar (refused line why untouched said) = absurd (unrefused line why)
-  by_status BadInput (unconverted tree fault has of c said) =
+  by_status BadInput (unconverted tree fault has of c stay said) =
       at_line tree (bad tree has) fault has of (stops b a law tree (is_accepted b.files request tree has) c.some (bad tree has) request (Err fault) reads c.ends (λ e. absurd (is_no_empty fault of (Err fault) refl e))) said
-  by_status BadInput (unrouted trees fault has of e said) = absurd (no_routes b a request trees (Err fault) reads e)
+  by_status BadInput (unrouted trees fault has of e stay said) = absurd (no_routes b a request trees (Err fault) reads e)
   by_status FileFailed (unreadable k name is rose untouched said) = absurd (sure.files name rose)
   by_status InputFailed (broken_off tree has c rose said) = absurd (sure.input rose)
   by_status InputFailed (route_broken trees has e rose said) = absurd (sure.input rose)
@@ -81,8 +81,8 @@ module _ (law : RefusedLinesAreNamed) (b a : Outside) (request : Request) (reads
   by_status OutputFailed (cut tree has c rose said) = absurd (sure.out rose)
   by_status OutputFailed (route_cut trees has e rose said) = absurd (sure.out rose)
   by_status NoMemory (stopped untouched said) = line_out_of_memory
-  by_status NoMemory (halted tree has c said) = line_out_of_memory
-  by_status NoMemory (route_halted trees has e said) = line_out_of_memory
+  by_status NoMemory (halted tree has c stay said) = line_out_of_memory
+  by_status NoMemory (route_halted trees has e stay said) = line_out_of_memory
   by_status Usage s = elim s [ ]
 
 module _ (law : RefusedLinesAreNamed) (b a : Outside) (words : List (List ℕ)) where

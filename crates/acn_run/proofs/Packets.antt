@@ -11,7 +11,7 @@ use Rattle.acn_grammar.specs.View.{grammar_of}
 use Rattle.acn_index.specs.Lookup.{type_in}
 use Rattle.acn_index.specs.World.{World}
 use Rattle.acn_index.specs.declared.sources.TypeId.{TypeId}
-use Rattle.acn_outside.specs.Counts.{Rose}
+use Rattle.acn_outside.specs.Counts.{Rose, Stays}
 use Rattle.acn_print.specs.Printing.{Output}
 use Rattle.acn_report.specs.CheckTexts.{no_memory_line}
 use Rattle.acn_route.specs.Routing.{RouteEnds}
@@ -23,7 +23,7 @@ use Rattle.acn_words.specs.Names.{TypeName}
 use Rattle.acn_words.specs.Requests.{Request, route, files_of}
 use Rattle.acn_words.specs.Routes.{Route}
 use Rattle.acn_run.specs.Asked.{HasGrammars, IsWorldOfNames, types_named, with_type}
-use Rattle.acn_run.specs.Outside.{Outside, seen, Says}
+use Rattle.acn_run.specs.Outside.{Outside, seen, Says, StreamsStay}
 use Rattle.acn_run.specs.Routed.{listed_by}
 use Rattle.acn_run.specs.Run.{Serves, routed, unrouted, route_broken, route_cut, route_halted, stopped}
 use Rattle.acn_run.specs.Steps.{Answers, AnswersStream, EndsRoutes, unready, begun, TellsRoutes, RoutesFailedSo}
@@ -31,13 +31,14 @@ use Rattle.acn_run.specs.declared.status.Status.{Status}
 use Rattle.acn_run.specs.declared.streams.TheConstants.{MOST_INPUT_BYTES}
 use Rattle.acn_run.proofs.Serving.{grammars_are}
 
-pub routes_failed_so : (r : Result RouteCount RouteFault) (n n' m m' : ℕ) → (IsErrOf r routing.InputFault → Rose n n') → (IsErrOf r routing.OutputFault → Rose m m') → RoutesFailedSo r n n' m m'
-routes_failed_so (Ok counts) n n' m m' i o = tt
-routes_failed_so (Err (routing.Cut number left)) n n' m m' i o = tt
-routes_failed_so (Err routing.InputTooLong) n n' m m' i o = tt
-routes_failed_so (Err routing.InputFault) n n' m m' i o = i refl
-routes_failed_so (Err routing.OutputFault) n n' m m' i o = o refl
-routes_failed_so (Err routing.NoMemory) n n' m m' i o = tt
+pub routes_failed_so : (r : Result RouteCount RouteFault) (n n' m m' : ℕ) → (IsErrOf r routing.InputFault → Rose n n') → (IsErrOf r routing.OutputFault → Rose m m') → ((IsErrOf r routing.InputFault → ⊥) → Stays n n')
+    → ((IsErrOf r routing.OutputFault → ⊥) → Stays m m') → RoutesFailedSo r n n' m m'
+routes_failed_so (Ok counts) n n' m m' i o p q = (p (λ e. cc), q (λ e. cc))
+routes_failed_so (Err (routing.Cut number left)) n n' m m' i o p q = (p (λ e. cc), q (λ e. cc))
+routes_failed_so (Err routing.InputTooLong) n n' m m' i o p q = (p (λ e. cc), q (λ e. cc))
+routes_failed_so (Err routing.InputFault) n n' m m' i o p q = i refl
+routes_failed_so (Err routing.OutputFault) n n' m m' i o p q = o refl
+routes_failed_so (Err routing.NoMemory) n n' m m' i o p q = (p (λ e. cc), q (λ e. cc))
 
 -- Checked trees of the types that routes name.
 
@@ -91,14 +92,17 @@ module _ (routes : List Route) (names : List (List ℕ)) (w : World) (trees : Li
     said : (line : List ℕ) → Says line err1 err' → Says line err err'
     said line h = subst (λ (x : Output). Says line x err') same h
 
+    stay : Stays n n' × Stays o.1 o'.1 → StreamsStay before after
+    stay s = record { input = s.0; out = s.1 }
+
     by_result : (result : Result RouteCount RouteFault) (status : Status) → RouteEnds (listed_by routes trees) MOST_INPUT_BYTES i i' o.0 o'.0 result → TellsRoutes result err1 err' status → RoutesFailedSo result n n' o.1 o'.1
         → Serves before after asked status
-    by_result (Ok counts) status e t f = rw t.0 (routed trees counts has e (t.1 ∙ same))
-    by_result (Err (routing.Cut number left)) status e t f = rw t.0 (unrouted trees (routing.Cut number left) has refl e (said _ t.1))
-    by_result (Err routing.InputTooLong) status e t f = rw t.0 (unrouted trees routing.InputTooLong has refl e (said _ t.1))
+    by_result (Ok counts) status e t f = rw t.0 (routed trees counts has e (stay f) (t.1 ∙ same))
+    by_result (Err (routing.Cut number left)) status e t f = rw t.0 (unrouted trees (routing.Cut number left) has refl e (stay f) (said _ t.1))
+    by_result (Err routing.InputTooLong) status e t f = rw t.0 (unrouted trees routing.InputTooLong has refl e (stay f) (said _ t.1))
     by_result (Err routing.InputFault) status e t f = rw t.0 (route_broken trees has e f (said _ t.1))
     by_result (Err routing.OutputFault) status e t f = rw t.0 (route_cut trees has e f (said _ t.1))
-    by_result (Err routing.NoMemory) status e t f = rw t.0 (route_halted trees has e (said _ t.1))
+    by_result (Err routing.NoMemory) status e t f = rw t.0 (route_halted trees has e (stay f) (said _ t.1))
 
     by_routes : (status : Status) → EndsRoutes (listed_by routes trees) i i' n n' o o' err1 err' status → Serves before after asked status
     by_routes status (unready input faults_are out says) = stopped (record { unread = record { input = input; faults = faults_are }; out = out }) (said _ says)

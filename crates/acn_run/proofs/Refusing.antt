@@ -1,6 +1,6 @@
 -- From what is said of sources to why the request is refused.
 use Rattle.std.proofs.Common.{◌≡◌, ℕ, List, [], ◌∷◌, Option, Some, None, refl, sym, ap, ◌∙◌, subst, arith}
-use Rattle.std.specs.Prelude.{slice_get}
+use Rattle.std.specs.Prelude.{Result, Ok, Err, IfErr, OnOk, slice_get}
 use Rattle.acn_files.specs.Contents.{Told, IsFirstTooLong}
 use Rattle.acn_files.specs.declared.whole.FilesFault.{FilesFault}
 use Rattle.acn_front.specs.Grammars.{IsTypeFault, IsFirstTypeFault}
@@ -34,6 +34,15 @@ use Rattle.acn_run.proofs.Sorted.{bytes_there}
 some_is : {A : Type 0} (x y : A) → Some x ≡ Some y → x ≡ y
 some_is x y e = grind arith
 
+-- what holds in any case
+pub of_ok : {A E P : Type 0} → (r : Result A E) → P → OnOk r P
+of_ok (Ok x) p = p
+of_ok (Err e) p = tt
+
+pub of_err : {A E : Type 0} → (r : Result A E) (Q : E → Type 0) → ((e : E) → Q e) → IfErr r Q
+of_err (Ok x) Q q = tt
+of_err (Err e) Q q = q e
+
 module _ (told : Told) (faults faults' : List ℕ → ℕ) (request : Request) (err err' : Output) where
   -- memory ran out
   pub memory_ends : (status : Status) → status ≡ NoMemory → Says no_memory_line err err' → EndsEarly told faults faults' err err' request status
@@ -54,12 +63,23 @@ module _ (told : Told) (faults faults' : List ℕ → ℕ) (request : Request) (
     pub unread_ends : (status : Status) → IsUnread (files_of request) f err err' status → EndsEarly told faults faults' err err' request status
     unread_ends FileFailed h = unreadable_ends h.0 h.1
     unread_ends NoGrammar h = refusal_ends NoGrammar _ refl (refusals.too_long f.file h.1.name h.1.named (too_long h.0)) h.1.says
-    unread_ends NoMemory h = memory_ends NoMemory refl h
+    unread_ends NoMemory h = memory_ends NoMemory refl h.1
     unread_ends Done h = absurd h
     unread_ends Usage h = absurd h
     unread_ends BadInput h = absurd h
     unread_ends InputFailed h = absurd h
     unread_ends OutputFailed h = absurd h
+
+-- the status of a file that couldn't be read
+pub unread_failed : (names : List (List ℕ)) (f : FilesFault) (err err' : Output) (status : Status) → IsUnread names f err err' status → f.fault ≡ whole.Failed → status ≡ FileFailed
+unread_failed names f err err' FileFailed h e = refl
+unread_failed names f err err' NoGrammar h e = let is = h.0 in cc
+unread_failed names f err err' NoMemory h e = let is = h.0 in cc
+unread_failed names f err err' Done h e = absurd h
+unread_failed names f err err' Usage h e = absurd h
+unread_failed names f err err' BadInput h e = absurd h
+unread_failed names f err err' InputFailed h e = absurd h
+unread_failed names f err err' OutputFailed h e = absurd h
 
 module _ (names contents : List (List ℕ)) (files : List File) (err err' : Output) (status : Status) where
   -- a file has no tree

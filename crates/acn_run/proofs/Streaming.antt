@@ -11,7 +11,8 @@ use Rattle.acn_stream.specs.declared.stream_fault.StreamFault.TheVariants as str
 use Rattle.acn_tree.specs.declared.tree.Tree.{Tree}
 use Rattle.acn_words.specs.Requests.{Request, files_of, types_of, reads_input}
 use Rattle.acn_run.specs.Asked.{HasGrammars, IsWorldOfNames}
-use Rattle.acn_run.specs.Outside.{Outside, seen, Says}
+use Rattle.acn_outside.specs.Counts.{Stays}
+use Rattle.acn_run.specs.Outside.{Outside, seen, Says, StreamsStay}
 use Rattle.acn_run.specs.Refusals as refusals
 use Rattle.acn_run.specs.Run.{Serves, converted, refused, unconverted, broken_off, cut, stopped, halted, Converts, StreamEnds}
 use Rattle.acn_run.specs.Steps.{Answers, AnswersStream, EndsStream, never_begun, unplanned, ended, TellsStream, WasBegun, FailedSo}
@@ -33,21 +34,24 @@ module _ (request : Request) (w : World) (tree : Tree) (answers : Answers w (typ
     said : (line : List ℕ) → Says line err1 err' → Says line err err'
     said line h = subst (λ (x : Output). Says line x err') same h
 
+    stay : Stays n n' × Stays o.1 o'.1 → StreamsStay before after
+    stay s = record { input = s.0; out = s.1 }
+
     module _ (some : 0 < (span (grammar_of tree.root)).least) where
       so : (result : Result ℕ StreamFault) → ends i i' o.0 o'.0 result → Converts request tree before after result
       so result e = record { some = some; ends = converts before after result e }
 
       by_result : (result : Result ℕ StreamFault) (status : Status) → ends i i' o.0 o'.0 result → TellsStream tree result err1 err' status → WasBegun result → FailedSo result n n' o.1 o'.1 → Serves before after request status
-      by_result (Ok count) status e t b f = rw t.0 (converted tree count has (so (Ok count) e) (t.1 ∙ same))
-      by_result (Err (stream.LineTooLong k)) status e t b f = rw t.0 (unconverted tree (stream.LineTooLong k) has refl (so (Err (stream.LineTooLong k)) e) (said _ t.1))
-      by_result (Err stream.InputTooLong) status e t b f = rw t.0 (unconverted tree stream.InputTooLong has refl (so (Err stream.InputTooLong) e) (said _ t.1))
+      by_result (Ok count) status e t b f = rw t.0 (converted tree count has (so (Ok count) e) (stay f) (t.1 ∙ same))
+      by_result (Err (stream.LineTooLong k)) status e t b f = rw t.0 (unconverted tree (stream.LineTooLong k) has refl (so (Err (stream.LineTooLong k)) e) (stay f) (said _ t.1))
+      by_result (Err stream.InputTooLong) status e t b f = rw t.0 (unconverted tree stream.InputTooLong has refl (so (Err stream.InputTooLong) e) (stay f) (said _ t.1))
       by_result (Err stream.EmptyPacket) status e t b f = absurd b
-      by_result (Err (stream.Packet k fault)) status e t b f = rw t.0 (unconverted tree (stream.Packet k fault) has refl (so (Err (stream.Packet k fault)) e) (said _ t.1))
-      by_result (Err (stream.BadLine k fault)) status e t b f = rw t.0 (unconverted tree (stream.BadLine k fault) has refl (so (Err (stream.BadLine k fault)) e) (said _ t.1))
-      by_result (Err (stream.Unfit k fault)) status e t b f = rw t.0 (unconverted tree (stream.Unfit k fault) has refl (so (Err (stream.Unfit k fault)) e) (said _ t.1))
+      by_result (Err (stream.Packet k fault)) status e t b f = rw t.0 (unconverted tree (stream.Packet k fault) has refl (so (Err (stream.Packet k fault)) e) (stay f) (said _ t.1))
+      by_result (Err (stream.BadLine k fault)) status e t b f = rw t.0 (unconverted tree (stream.BadLine k fault) has refl (so (Err (stream.BadLine k fault)) e) (stay f) (said _ t.1))
+      by_result (Err (stream.Unfit k fault)) status e t b f = rw t.0 (unconverted tree (stream.Unfit k fault) has refl (so (Err (stream.Unfit k fault)) e) (stay f) (said _ t.1))
       by_result (Err stream.InputFault) status e t b f = rw t.0 (broken_off tree has (so (Err stream.InputFault) e) f (said _ t.1))
       by_result (Err stream.OutputFault) status e t b f = rw t.0 (cut tree has (so (Err stream.OutputFault) e) f (said _ t.1))
-      by_result (Err stream.NoMemory) status e t b f = rw t.0 (halted tree has (so (Err stream.NoMemory) e) (said _ t.1))
+      by_result (Err stream.NoMemory) status e t b f = rw t.0 (halted tree has (so (Err stream.NoMemory) e) (stay f) (said _ t.1))
 
     by_stream : (status : Status) → EndsStream ends tree i i' n n' o o' err1 err' status → Serves before after request status
     by_stream status (never_begun least input faults_are out says) =

@@ -4,7 +4,7 @@ use Rattle.std.specs.List.{AllByRecursion}
 use Rattle.acn_files.specs.Contents.{Told}
 use Rattle.acn_grammar.specs.Grammar.{Grammar, Data}
 use Rattle.acn_grammar.specs.View.{grammar_of}
-use Rattle.acn_outside.specs.Counts.{Rose}
+use Rattle.acn_outside.specs.Counts.{AllStay, Rose}
 use Rattle.acn_outside.specs.Moves.{Gains}
 use Rattle.acn_stream.specs.Encoding.{AreLines, Give, Packets}
 use Rattle.acn_route.specs.Routing.{Line, IsLine, packets_of, text_of}
@@ -16,7 +16,7 @@ use Rattle.acn_tree.specs.declared.tree.Tree.{Tree}
 use Rattle.acn_words.specs.Routes.{Route}
 use Rattle.acn_words.specs.Requests.{Request, encode, decode, route, explain}
 use Rattle.acn_run.specs.Asked.{HasGrammars}
-use Rattle.acn_run.specs.Outside.{Outside}
+use Rattle.acn_run.specs.Outside.{Outside, StreamsStay}
 use Rattle.acn_run.specs.Refusals.{Refuses}
 use Rattle.acn_run.specs.Routed.{listed_by}
 use Rattle.acn_run.specs.Run.{IsText}
@@ -27,6 +27,11 @@ pub record NothingFailed (b a : Outside) : Type 0 where
   pub files : (name : List ℕ) → Rose (b.file_faults name) (a.file_faults name) → ⊥
   pub input : Rose b.input_faults a.input_faults → ⊥
   pub out : Rose b.out.1 a.out.1 → ⊥
+
+-- no count of faults changed: of no file, not of the input, and not of the output
+pub record CountsStay (b a : Outside) : Type 0 where
+  pub files : AllStay b.file_faults a.file_faults
+  pub streams : StreamsStay b a
 
 -- no reason refuses the request for its sources
 abbrev pub IsUnrefused : Told → Request → Type 0

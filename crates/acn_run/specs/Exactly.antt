@@ -5,7 +5,7 @@ use Rattle.acn_files.specs.Contents.{Told}
 use Rattle.acn_words.specs.Requests.{Request, files_of}
 use Rattle.acn_run.specs.Refusals.{Refuses}
 use Rattle.acn_run.specs.Run.{code_of}
-use Rattle.acn_run.specs.declared.status.Status.TheVariants.{NoGrammar, FileFailed, InputFailed, OutputFailed, NoMemory}
+use Rattle.acn_run.specs.declared.status.Status.TheVariants.{NoGrammar, BadInput, FileFailed, InputFailed, OutputFailed, NoMemory}
 
 -- what each of these files holds is told
 abbrev pub AreTold : Told → List (List ℕ) → Type 0
@@ -17,6 +17,10 @@ EndsRefused code = (code ≡ code_of NoGrammar) ⊎ ((code ≡ code_of FileFaile
 -- it ends with none of the statuses of devices that fail
 abbrev pub EndsUnfailed : ℕ → Type 0
 EndsUnfailed code = (code ≡ code_of FileFailed → ⊥) × (code ≡ code_of InputFailed → ⊥) × (code ≡ code_of OutputFailed → ⊥)
+
+-- the sources, a packet, a line or the length of the input is refused
+abbrev pub EndsInRefusal : ℕ → Type 0
+EndsInRefusal code = (code ≡ code_of NoGrammar) ⊎ (code ≡ code_of BadInput)
 
 -- some reason refuses the request for its sources, and it ends so
 abbrev pub IsRefused : Told → Request → ℕ → Type 0

@@ -1,6 +1,7 @@
 -- What a run sees of the world outside it. (This program's own.)
 use Rattle.std.specs.Prelude.{◌≡◌, ℕ, List, Option, Result}
 use Rattle.acn_files.specs.Contents.{Told}
+use Rattle.acn_outside.specs.Counts.{Stays}
 use Rattle.acn_outside.specs.declared.traits.Failed.{Failed}
 use Rattle.acn_print.specs.Printing.{Output, Prints}
 
@@ -29,6 +30,11 @@ IsSilent before after = after ≡ before
 pub record IsUnread (b a : Outside) : Type 0 where
   pub input : a.input ≡ b.input
   pub faults : a.input_faults ≡ b.input_faults
+
+-- the counts of faults of the input and of the output stayed
+pub record StreamsStay (b a : Outside) : Type 0 where
+  pub input : Stays b.input_faults a.input_faults
+  pub out : Stays b.out.1 a.out.1
 
 -- nothing was read of the input, and nothing written
 pub record IsUntouched (b a : Outside) : Type 0 where

@@ -28,7 +28,7 @@ use Rattle.acn_run.specs.Asked.{HasGrammars}
 use Rattle.acn_run.specs.Compared.{IsAnswerLine}
 use Rattle.acn_run.specs.Extremes.{IsExtremesText}
 use Rattle.acn_run.specs.Lines.{usage_line, input_failed_line, output_failed_line, ok_line, stream_line}
-use Rattle.acn_run.specs.Outside.{Outside, Says, IsSilent, IsUnread, IsUntouched}
+use Rattle.acn_run.specs.Outside.{Outside, Says, IsSilent, IsUnread, IsUntouched, StreamsStay}
 use Rattle.acn_run.specs.Refusals.{Refuses}
 use Rattle.acn_run.specs.Routed.{is_of_packets, listed_by, route_line}
 use Rattle.acn_run.specs.declared.status.Status.{Status}
@@ -97,15 +97,15 @@ module _ (b a : Outside) where
     -- 0: the text of the command was written
     printed : (trees : List Tree) (text : List ℕ) → HasGrammars b.files request trees → IsText request trees text → IsUnread b a → Gains b.out.0 a.out.0 text → IsSilent b.err a.err → Serves request Done
     -- 0: the input was converted to its end
-    converted : (tree : Tree) (count : ℕ) → HasGrammars b.files request (tree ∷ []) → Converts request tree b a (Ok count) → IsSilent b.err a.err → Serves request Done
+    converted : (tree : Tree) (count : ℕ) → HasGrammars b.files request (tree ∷ []) → Converts request tree b a (Ok count) → StreamsStay b a → IsSilent b.err a.err → Serves request Done
     -- 0: all space packets were routed
-    routed : (trees : List Tree) (counts : RouteCount) → HasGrammars b.files request trees → Routes request trees b a (Ok counts) → IsSilent b.err a.err → Serves request Done
+    routed : (trees : List Tree) (counts : RouteCount) → HasGrammars b.files request trees → Routes request trees b a (Ok counts) → StreamsStay b a → IsSilent b.err a.err → Serves request Done
     -- 2: the sources are refused
     refused : (line : List ℕ) → Refuses b.files request line → IsUntouched b a → Says line b.err a.err → Serves request NoGrammar
     -- 3: a packet, a line or the length of the input is refused
-    unconverted : (tree : Tree) (fault : StreamFault) → HasGrammars b.files request (tree ∷ []) → is_of_input fault ≡ true → Converts request tree b a (Err fault) → Says (stream_line tree fault) b.err a.err → Serves request BadInput
+    unconverted : (tree : Tree) (fault : StreamFault) → HasGrammars b.files request (tree ∷ []) → is_of_input fault ≡ true → Converts request tree b a (Err fault) → StreamsStay b a → Says (stream_line tree fault) b.err a.err → Serves request BadInput
     -- 3: the input ends inside a space packet, or is too long
-    unrouted : (trees : List Tree) (fault : RouteFault) → HasGrammars b.files request trees → is_of_packets fault ≡ true → Routes request trees b a (Err fault) → Says (route_line fault) b.err a.err → Serves request BadInput
+    unrouted : (trees : List Tree) (fault : RouteFault) → HasGrammars b.files request trees → is_of_packets fault ≡ true → Routes request trees b a (Err fault) → StreamsStay b a → Says (route_line fault) b.err a.err → Serves request BadInput
     -- 4: a file among the words can't be read
     unreadable : (k : ℕ) (name : List ℕ) → slice_get (files_of request) k ≡ Some name → Rose (b.file_faults name) (a.file_faults name) → IsUntouched b a → Says (unreadable_line name) b.err a.err → Serves request FileFailed
     -- 5: the input failed
@@ -121,9 +121,9 @@ module _ (b a : Outside) where
     -- 7: memory ran out before anything was read or written
     stopped : IsUntouched b a → Says no_memory_line b.err a.err → Serves request NoMemory
     -- 7: memory ran out while the input was converted
-    halted : (tree : Tree) → HasGrammars b.files request (tree ∷ []) → Converts request tree b a (Err stream.NoMemory) → Says no_memory_line b.err a.err → Serves request NoMemory
+    halted : (tree : Tree) → HasGrammars b.files request (tree ∷ []) → Converts request tree b a (Err stream.NoMemory) → StreamsStay b a → Says no_memory_line b.err a.err → Serves request NoMemory
     -- 7: memory ran out while space packets were routed
-    route_halted : (trees : List Tree) → HasGrammars b.files request trees → Routes request trees b a (Err routing.NoMemory) → Says no_memory_line b.err a.err → Serves request NoMemory
+    route_halted : (trees : List Tree) → HasGrammars b.files request trees → Routes request trees b a (Err routing.NoMemory) → StreamsStay b a → Says no_memory_line b.err a.err → Serves request NoMemory
 
   pub data Ends (words : List (List ℕ)) : Status → Type 0 where
     -- 1: the words have none of the forms of a command

@@ -18,7 +18,7 @@ use Rattle.acn_outside.specs.declared.whole.WholeFault.TheVariants as whole
 use Rattle.acn_grammar.specs.Grammar.{Grammar}
 use Rattle.acn_grammar.specs.Interval.{span}
 use Rattle.acn_grammar.specs.View.{grammar_of}
-use Rattle.acn_outside.specs.Counts.{Rose}
+use Rattle.acn_outside.specs.Counts.{AllStay, Rose, Stays}
 use Rattle.acn_print.specs.Printing.{Output}
 use Rattle.acn_report.specs.CheckTexts.{check_line, no_memory_line}
 use Rattle.acn_report.specs.Texts.{empty_line}
@@ -101,8 +101,12 @@ pub record SaysOfName (names : List (List ℕ)) (k : ℕ) (line : List ℕ → L
 abbrev pub IsUnread : (names : List (List ℕ)) → FilesFault → (err err' : Output) → Status → Type 0
 IsUnread names f err err' FileFailed = (f.fault ≡ whole.Failed) × SaysOfName names f.file unreadable_line err err'
 IsUnread names f err err' NoGrammar = (f.fault ≡ whole.TooLong) × SaysOfName names f.file long_file_line err err'
-IsUnread names f err err' NoMemory = Says no_memory_line err err'
+IsUnread names f err err' NoMemory = (f.fault ≡ whole.NoMemory) × Says no_memory_line err err'
 IsUnread names f err err' _ = ⊥
+
+-- unless a file couldn't be read the count of no file changed
+abbrev pub FilesStay : (faults faults' : List ℕ → ℕ) → Status → Type 0
+FilesStay faults faults' status = (status ≡ FileFailed → ⊥) → AllStay faults faults'
 
 -- the line of a file at fault, with the name and the bytes of that number
 pub record SaysOfFile (names : List (List ℕ)) (files : List File) (f : SourcesFault) (err err' : Output) : Type 0 where
@@ -140,11 +144,11 @@ abbrev pub WasBegun : Result ℕ StreamFault → Type 0
 WasBegun (Err stream.EmptyPacket) = ⊥
 WasBegun result = Unit {0}
 
--- where a device failed its count rose
+-- where a device failed its count rose, and else both counts stayed
 abbrev pub FailedSo : Result ℕ StreamFault → (input input' output output' : ℕ) → Type 0
 FailedSo (Err stream.InputFault) n n' m m' = Rose n n'
 FailedSo (Err stream.OutputFault) n n' m m' = Rose m m'
-FailedSo result n n' m m' = Unit {0}
+FailedSo result n n' m m' = Stays n n' × Stays m m'
 
 -- A stream ended so: it was not begun, since the type is empty or memory ran out; or each packet has a bit, and it ended in this way, which the status and what is said fit, and where a device failed its count rose.
 pub data EndsStream (ends : (i i' o o' : Option (List ℕ)) → Result ℕ StreamFault → Type 0) (tree : Tree) (i i' : Option (List ℕ)) (n n' : ℕ) (o o' err err' : Output) : Status → Type 0 where
@@ -166,11 +170,11 @@ abbrev pub TellsRoutes : Result RouteCount RouteFault → (err err' : Output) �
 TellsRoutes (Ok counts) err err' status = (status ≡ Done) × IsSilent err err'
 TellsRoutes (Err fault) err err' status = (status ≡ status_of_routes fault) × Says (route_line fault) err err'
 
--- where a device failed its count rose
+-- where a device failed its count rose, and else both counts stayed
 abbrev pub RoutesFailedSo : Result RouteCount RouteFault → (input input' output output' : ℕ) → Type 0
 RoutesFailedSo (Err routing.InputFault) n n' m m' = Rose n n'
 RoutesFailedSo (Err routing.OutputFault) n n' m m' = Rose m m'
-RoutesFailedSo result n n' m m' = Unit {0}
+RoutesFailedSo result n n' m m' = Stays n n' × Stays m m'
 
 -- Routing ended so: it was not begun, since memory ran out; or it ended in this way, which the status and what is said fit, and where a device failed its count rose.
 pub data EndsRoutes (routes : List Listed) (i i' : Option (List ℕ)) (n n' : ℕ) (o o' err err' : Output) : Status → Type 0 where

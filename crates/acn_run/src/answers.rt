@@ -27,7 +27,7 @@ use acn_outside::{Sink, Source};
 use acn_plan::compile;
 use acn_print::{Piece, put_piece};
 use acn_words::{Request, TypeName};
-use acn_work::{Summary, put_summary, work as work_by};
+use acn_work::{Summary, Watch, put_summary, work as work_by};
 use acn_world::World;
 use std::alloc::Global;
 
@@ -68,40 +68,42 @@ fn layout<O: Sink, E: Sink>(
 }
 
 // What came of the values that are made.
-fn plan_and_work(
+fn plan_and_work<W: Watch>(
     alloc: Global,
     checked: &Checked,
     start: u64,
     count: u64,
+    watch: &W,
 ) -> Result<Summary, NoMemory>
     requires few { count * MOST_PACKET_BITS < 2 ^ 64 }
     requires named { ItemsNamed (grammar_of checked.now.tree.root) }
     ensures { IfOk result (λ s. IsSummary (grammar_of checked.now.tree.root) start count s) }
 {
     let plan = compile(alloc, checked)?;
-    work_by(alloc, checked, &plan, start, count)
+    work_by(alloc, checked, &plan, start, count, watch)
 }
 
 // The line of what came of the values that are made.
-fn summary<O: Sink, E: Sink>(
+fn summary<O: Sink, E: Sink, W: Watch>(
     alloc: Global,
     checked: &Checked,
     start: u64,
     count: u64,
     out: &mut O,
     err: &mut E,
+    watch: &W,
 ) -> Status
     requires few { count * MOST_PACKET_BITS < 2 ^ 64 }
     requires named { ItemsNamed (grammar_of checked.now.tree.root) }
     ensures { spec.TextEnds (spec.IsSummaryLine (grammar_of checked.now.tree.root) start count) (O.taken out.old, O.faults out.old) (O.taken out.new, O.faults out.new) (E.taken err.old, E.faults err.old) (E.taken err.new, E.faults err.new) result }
 {
-    match plan_and_work(alloc, checked, start, count) {
+    match plan_and_work(alloc, checked, start, count, watch) {
         Ok(summary) => behind_text(put_summary(&summary, out), err),
         Err(_) => no_memory(err),
     }
 }
 
-fn work<O: Sink, E: Sink>(
+fn work<O: Sink, E: Sink, W: Watch>(
     alloc: Global,
     world: &World,
     of: &TypeName<'_>,
@@ -109,13 +111,14 @@ fn work<O: Sink, E: Sink>(
     count: u64,
     out: &mut O,
     err: &mut E,
+    watch: &W,
 ) -> Status
     requires few { count * MOST_PACKET_BITS < 2 ^ 64 }
     requires sources { IsOfSources (world_view world.now) }
     ensures { (names : List (List ℕ)) → spec.AnswersText (requests.work (type_view of.now) start count names) (world_view world.now) (O.taken out.old, O.faults out.old) (O.taken out.new, O.faults out.new) (E.taken err.old, E.faults err.old) (E.taken err.new, E.faults err.new) result }
 {
     match named_grammar(alloc, world, of, err) {
-        Ok(checked) => summary(alloc, &checked, start, count, out, err),
+        Ok(checked) => summary(alloc, &checked, start, count, out, err, watch),
         Err(status) => status,
     }
 }
@@ -172,13 +175,14 @@ fn explain<S: Source, O: Sink, E: Sink>(
 }
 
 /// Does what the words ask for, with the world of their files.
-pub fn answer<S: Source, O: Sink, E: Sink>(
+pub fn answer<S: Source, O: Sink, E: Sink, W: Watch>(
     alloc: Global,
     request: &Request<'_>,
     world: &World,
     input: &mut S,
     out: &mut O,
     err: &mut E,
+    watch: &W,
 ) -> Status
     requires count { requests.has_count (request_view request.now) ≡ true }
     requires sources { IsOfSources (world_view world.now) }
@@ -199,6 +203,6 @@ pub fn answer<S: Source, O: Sink, E: Sink>(
             start,
             count,
             ..
-        } => work(alloc, world, of, *start, *count, out, err),
+        } => work(alloc, world, of, *start, *count, out, err, watch),
     }
 }

@@ -18,4 +18,4 @@ mod top_call;
 pub use laws::{each_grammar_keeps_its_promise, one_answer};
 pub use status::Status;
 pub use streams::MOST_INPUT_BYTES;
-pub use top_call::run;
+pub use top_call::{run, run_watched};

@@ -3,6 +3,7 @@
 ghost use Rattle.std.specs.Prelude.{◌≡◌, ◌≢◌, ◌<◌, ℕ, List, Some, length, map, string_bytes, IfOk, IfErr, OnOk, IsTrue};
 ghost use Rattle.std.specs.List.{list_all};
 ghost use Rattle.acn_front.specs.Loaded.{IsLoadFault, IsWorldOf};
+ghost use Rattle.acn_outside.specs.Counts.{AllStay};
 ghost use Rattle.acn_outside.specs.declared.whole.WholeFault.TheVariants as whole;
 ghost use Rattle.acn_run.specs.Asked.{AreFilesOf, IsWorldOfNames};
 ghost use Rattle.acn_run.specs.Outside.{IsSilent, Says};
@@ -158,7 +159,8 @@ fn world_of_contents<E: Sink>(
     }
 }
 
-/// The world of the files of these names. Where there is none, the line that says why was written to the output for errors.
+/// The world of the files of these names. Where there is none, the line that says why was written to the output for errors. Unless a file
+/// can't be read no count of faults changes.
 pub fn read_world<F: Files, E: Sink>(
     alloc: Global,
     names: &[String],
@@ -170,6 +172,8 @@ pub fn read_world<F: Files, E: Sink>(
     ensures of_sources { IfOk result (λ w. IsOfSources (world_view w)) }
     ensures silent { OnOk result (IsSilent (E.taken err.old, E.faults err.old) (E.taken err.new, E.faults err.new)) }
     ensures fails { IfErr result (λ status. (request : Request) → files_of request ≡ map string_bytes names.now → spec.EndsEarly (F.contents files.old) (F.faults files.old) (F.faults files.new) (E.taken err.old, E.faults err.old) (E.taken err.new, E.faults err.new) request status) }
+    ensures uncounted { OnOk result (AllStay (F.faults files.old) (F.faults files.new)) }
+    ensures told { IfErr result (spec.FilesStay (F.faults files.old) (F.faults files.new)) }
 {
     match read_files(alloc, files, names) {
         Ok(contents) => world_of_contents(alloc, names, &contents, err),

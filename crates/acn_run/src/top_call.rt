@@ -3,11 +3,12 @@
 ghost use Rattle.std.specs.Prelude.{◌≡◌, ◌↔◌, ◌≤◌, true, List, None, Some, map, string_bytes, IsTrue};
 ghost use Rattle.std.specs.List.{AllByRecursion, list_all};
 ghost use Rattle.acn_run.specs.Asked.{HasGrammars};
-ghost use Rattle.acn_run.specs.Complete.{IsComplete, NothingFailed};
-ghost use Rattle.acn_run.specs.Exactly.{EndsUnfailed, IsRefused};
+ghost use Rattle.acn_run.specs.Complete.{CountsStay, IsComplete, NothingFailed};
+ghost use Rattle.acn_run.specs.Exactly.{EndsInRefusal, EndsUnfailed, IsRefused};
 ghost use Rattle.acn_run.specs.Headline.{KeepsItsPromise};
 ghost use Rattle.acn_run.specs.Outside.{seen};
 ghost use Rattle.acn_run.specs.Run as spec;
+ghost use Rattle.acn_run.specs.Steps.{FilesStay};
 ghost use Rattle.acn_run.specs.Stuck.{IsRefusedRun, IsStuckRun};
 ghost use Rattle.acn_grammar.specs.View.{grammar_of};
 ghost use Rattle.acn_tree.specs.declared.tree.Tree.{Tree};
@@ -30,40 +31,45 @@ use acn_stream_laws::{
     stuck_recordings_are_refused,
 };
 use acn_words::{Request as Asked, read_words};
+use acn_work::{Unwatched, Watch};
 use std::alloc::Global;
 
 // Serves a request.
-fn serve<F: Files, S: Source, O: Sink, E: Sink>(
+fn serve<F: Files, S: Source, O: Sink, E: Sink, W: Watch>(
     alloc: Global,
     request: &Asked<'_>,
     files: &mut F,
     input: &mut S,
     out: &mut O,
     err: &mut E,
+    watch: &W,
 ) -> Status
     requires files { IsTrue (list_all is_file (files_of (request_view request.now))) }
     requires count { has_count (request_view request.now) ≡ true }
-    ensures { spec.Serves (seen (F.contents files.old) (F.faults files.old) (S.rest input.old) (S.faults input.old) (O.taken out.old, O.faults out.old) (E.taken err.old, E.faults err.old)) (seen (F.contents files.old) (F.faults files.new) (S.rest input.new) (S.faults input.new) (O.taken out.new, O.faults out.new) (E.taken err.new, E.faults err.new)) (request_view request.now) result }
+    ensures serves { spec.Serves (seen (F.contents files.old) (F.faults files.old) (S.rest input.old) (S.faults input.old) (O.taken out.old, O.faults out.old) (E.taken err.old, E.faults err.old)) (seen (F.contents files.old) (F.faults files.new) (S.rest input.new) (S.faults input.new) (O.taken out.new, O.faults out.new) (E.taken err.new, E.faults err.new)) (request_view request.now) result }
+    ensures files { FilesStay (F.faults files.old) (F.faults files.new) result }
 {
     match read_world(alloc, request.files(), files, err) {
-        Ok(world) => answer(alloc, request, &world, input, out, err),
+        Ok(world) => answer(alloc, request, &world, input, out, err, watch),
         Err(status) => status,
     }
 }
 
 // Does what the words ask for.
-fn run_words<F: Files, S: Source, O: Sink, E: Sink>(
+fn run_words<F: Files, S: Source, O: Sink, E: Sink, W: Watch>(
     alloc: Global,
     words: &[String],
     files: &mut F,
     input: &mut S,
     out: &mut O,
     err: &mut E,
+    watch: &W,
 ) -> Status
-    ensures { spec.Ends (seen (F.contents files.old) (F.faults files.old) (S.rest input.old) (S.faults input.old) (O.taken out.old, O.faults out.old) (E.taken err.old, E.faults err.old)) (seen (F.contents files.old) (F.faults files.new) (S.rest input.new) (S.faults input.new) (O.taken out.new, O.faults out.new) (E.taken err.new, E.faults err.new)) (map string_bytes words.now) result }
+    ensures ends { spec.Ends (seen (F.contents files.old) (F.faults files.old) (S.rest input.old) (S.faults input.old) (O.taken out.old, O.faults out.old) (E.taken err.old, E.faults err.old)) (seen (F.contents files.old) (F.faults files.new) (S.rest input.new) (S.faults input.new) (O.taken out.new, O.faults out.new) (E.taken err.new, E.faults err.new)) (map string_bytes words.now) result }
+    ensures files { FilesStay (F.faults files.old) (F.faults files.new) result }
 {
     match read_words(words) {
-        Some(request) => serve(alloc, &request, files, input, out, err),
+        Some(request) => serve(alloc, &request, files, input, out, err, watch),
         None => usage(err),
     }
 }
@@ -73,7 +79,7 @@ fn run_words<F: Files, S: Source, O: Sink, E: Sink>(
 /// Where nothing is refused and no device fails, that is 0, and the whole was written, or 7, where memory ran out. Where the sources
 /// are refused it is 2, unless a file can't be read (4) or memory runs out; where a packet or a line of the input is refused it is 3,
 /// with the number of the first one and the reason. 4, 5 and 6 come only where a count of faults rose, so never
-/// over devices that can't fail.
+/// over devices that can't fail. With 2 and 3 no count changed, of no file, not of the input, and not of the output.
 pub fn run<F: Files, S: Source, O: Sink, E: Sink>(
     alloc: Global,
     words: &Vec<String>,
@@ -88,6 +94,31 @@ pub fn run<F: Files, S: Source, O: Sink, E: Sink>(
     ensures lines { (request : Request) → request_in (map string_bytes words.now.items) ≡ Some request → IsRefusedRun (seen (F.contents files.old) (F.faults files.old) (S.rest input.old) (S.faults input.old) (O.taken out.old, O.faults out.old) (E.taken err.old, E.faults err.old)) (seen (F.contents files.old) (F.faults files.new) (S.rest input.new) (S.faults input.new) (O.taken out.new, O.faults out.new) (E.taken err.new, E.faults err.new)) request result }
     ensures refused { (request : Request) → request_in (map string_bytes words.now.items) ≡ Some request → IsRefused (F.contents files.old) request result }
     ensures unfailed { NothingFailed (seen (F.contents files.old) (F.faults files.old) (S.rest input.old) (S.faults input.old) (O.taken out.old, O.faults out.old) (E.taken err.old, E.faults err.old)) (seen (F.contents files.old) (F.faults files.new) (S.rest input.new) (S.faults input.new) (O.taken out.new, O.faults out.new) (E.taken err.new, E.faults err.new)) → EndsUnfailed result }
+    ensures quiet { EndsInRefusal result → CountsStay (seen (F.contents files.old) (F.faults files.old) (S.rest input.old) (S.faults input.old) (O.taken out.old, O.faults out.old) (E.taken err.old, E.faults err.old)) (seen (F.contents files.old) (F.faults files.new) (S.rest input.new) (S.faults input.new) (O.taken out.new, O.faults out.new) (E.taken err.new, E.faults err.new)) }
+    ensures promise { (request : Request) (trees : List Tree) → HasGrammars (F.contents files.old) request trees → AllByRecursion (λ tree. KeepsItsPromise (grammar_of tree.root)) trees }
+    ensures usage { (result ≡ 1) ↔ (request_in (map string_bytes words.now.items) ≡ None) }
+    ensures known { result ≤ 7 }
+{
+    run_watched(alloc, words, files, input, out, err, &Unwatched)
+}
+
+/// `run`, where `watch` is told of the values that `work` makes, while it makes them. The answer is that of `run`, and has its clauses.
+pub fn run_watched<F: Files, S: Source, O: Sink, E: Sink, W: Watch>(
+    alloc: Global,
+    words: &Vec<String>,
+    files: &mut F,
+    input: &mut S,
+    out: &mut O,
+    err: &mut E,
+    watch: &W,
+) -> u8
+    ensures ends { spec.EndsWith (seen (F.contents files.old) (F.faults files.old) (S.rest input.old) (S.faults input.old) (O.taken out.old, O.faults out.old) (E.taken err.old, E.faults err.old)) (seen (F.contents files.old) (F.faults files.new) (S.rest input.new) (S.faults input.new) (O.taken out.new, O.faults out.new) (E.taken err.new, E.faults err.new)) (map string_bytes words.now.items) result }
+    ensures complete { (request : Request) → request_in (map string_bytes words.now.items) ≡ Some request → IsComplete (seen (F.contents files.old) (F.faults files.old) (S.rest input.old) (S.faults input.old) (O.taken out.old, O.faults out.old) (E.taken err.old, E.faults err.old)) (seen (F.contents files.old) (F.faults files.new) (S.rest input.new) (S.faults input.new) (O.taken out.new, O.faults out.new) (E.taken err.new, E.faults err.new)) request result }
+    ensures stuck { (request : Request) → request_in (map string_bytes words.now.items) ≡ Some request → IsStuckRun (seen (F.contents files.old) (F.faults files.old) (S.rest input.old) (S.faults input.old) (O.taken out.old, O.faults out.old) (E.taken err.old, E.faults err.old)) (seen (F.contents files.old) (F.faults files.new) (S.rest input.new) (S.faults input.new) (O.taken out.new, O.faults out.new) (E.taken err.new, E.faults err.new)) request result }
+    ensures lines { (request : Request) → request_in (map string_bytes words.now.items) ≡ Some request → IsRefusedRun (seen (F.contents files.old) (F.faults files.old) (S.rest input.old) (S.faults input.old) (O.taken out.old, O.faults out.old) (E.taken err.old, E.faults err.old)) (seen (F.contents files.old) (F.faults files.new) (S.rest input.new) (S.faults input.new) (O.taken out.new, O.faults out.new) (E.taken err.new, E.faults err.new)) request result }
+    ensures refused { (request : Request) → request_in (map string_bytes words.now.items) ≡ Some request → IsRefused (F.contents files.old) request result }
+    ensures unfailed { NothingFailed (seen (F.contents files.old) (F.faults files.old) (S.rest input.old) (S.faults input.old) (O.taken out.old, O.faults out.old) (E.taken err.old, E.faults err.old)) (seen (F.contents files.old) (F.faults files.new) (S.rest input.new) (S.faults input.new) (O.taken out.new, O.faults out.new) (E.taken err.new, E.faults err.new)) → EndsUnfailed result }
+    ensures quiet { EndsInRefusal result → CountsStay (seen (F.contents files.old) (F.faults files.old) (S.rest input.old) (S.faults input.old) (O.taken out.old, O.faults out.old) (E.taken err.old, E.faults err.old)) (seen (F.contents files.old) (F.faults files.new) (S.rest input.new) (S.faults input.new) (O.taken out.new, O.faults out.new) (E.taken err.new, E.faults err.new)) }
     ensures promise { (request : Request) (trees : List Tree) → HasGrammars (F.contents files.old) request trees → AllByRecursion (λ tree. KeepsItsPromise (grammar_of tree.root)) trees }
     ensures usage { (result ≡ 1) ↔ (request_in (map string_bytes words.now.items) ≡ None) }
     ensures known { result ≤ 7 }
@@ -103,5 +134,5 @@ pub fn run<F: Files, S: Source, O: Sink, E: Sink>(
     faulty_files_have_no_world();
     refused_types_have_no_grammars();
     one_grammar();
-    run_words(alloc, words, files, input, out, err).code()
+    run_words(alloc, words, files, input, out, err, watch).code()
 }

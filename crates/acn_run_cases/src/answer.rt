@@ -12,7 +12,7 @@ use acn_case_sheets::{Trouble, parts_of};
 use acn_num::NoMemory;
 use acn_outside::{MemFiles, MemSink, MemSource};
 use acn_progress::{Cleared, Progress, Watched, Way, way_of};
-use acn_run::run;
+use acn_run::run_watched;
 use std::alloc::Global;
 
 // The most bytes that an output keeps.
@@ -105,13 +105,14 @@ fn once(alloc: Global, case: &Case<'_>, setting: &Setting) -> Result<String, Tro
     let mut out = Watched::new(sink(alloc, setting, setting.output)?, &progress);
     let err = Cleared::new(sink(alloc, setting, setting.errors)?, &progress);
     let mut err = Heard::new(alloc, err);
-    let status = run(
+    let status = run_watched(
         alloc,
         &case.words,
         &mut files,
         &mut input,
         &mut out,
         &mut err,
+        &progress,
     );
     progress.clear();
     let (mut err, line) = err.into_parts();

@@ -8,3 +8,6 @@ returns-in-InputFault g c = rw c.in-InputFault.is c.put_piece.ensures
 
 pub returns-in-OutputFault : goal.returns-in-OutputFault
 returns-in-OutputFault g c = rw c.in-OutputFault.is c.put_piece-in-OutputFault.ensures
+
+pub returns-in-Packet : goal.returns-in-Packet
+returns-in-Packet g c = rw c.in-Packet.is c.put_packet_fault.ensures

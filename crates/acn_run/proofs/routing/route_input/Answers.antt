@@ -9,4 +9,4 @@ returns-in_default g c = rw c.no_memory.ensures.status (unready refl refl refl c
 pub returns : goal.returns
 returns g c =
     begun c.route_all-ended.result c.behind_routes.result (rw c.in-Ok.ensures at c.route_all-ended.ensures.ends) c.behind_routes.ensures
-    (routes_failed_so c.route_all-ended.result _ _ _ _ c.route_all-ended.ensures.input_fault c.route_all-ended.ensures.output_fault)
+    (routes_failed_so c.route_all-ended.result _ _ _ _ c.route_all-ended.ensures.input_fault c.route_all-ended.ensures.output_fault c.route_all-ended.ensures.input_stays c.route_all-ended.ensures.output_stays)

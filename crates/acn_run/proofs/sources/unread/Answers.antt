@@ -25,3 +25,6 @@ returns-in-TooLong g c =
         says = record { result = c.put_file_too_long.result; prints = c.put_file_too_long.ensures };
       },
     )
+
+pub returns-in-NoMemory : goal.returns-in-NoMemory
+returns-in-NoMemory g c = rw c.no_memory.ensures.status (c.in-NoMemory.is, c.no_memory.ensures.says)

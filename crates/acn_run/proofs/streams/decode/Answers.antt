@@ -21,4 +21,4 @@ pub returns : goal.returns
 returns g c =
     ended c.decode_all-ended.result c.behind_stream.result (above _ (λ e. c.if-bounds-eq0.false (rw c.bounds.ensures.exact e))) c.decode_all-ended.ensures.ends c.behind_stream.ensures
     (was_begun c.decode_all-ended.result (λ e. c.if-bounds-eq0.false (rw c.bounds.ensures.exact (c.decode_all-ended.ensures.empty.0 e))))
-    (failed_so c.decode_all-ended.result _ _ _ _ c.decode_all-ended.ensures.input_fault c.decode_all-ended.ensures.output_fault)
+    (failed_so c.decode_all-ended.result _ _ _ _ c.decode_all-ended.ensures.input_fault c.decode_all-ended.ensures.output_fault (λ read written. c.decode_all-ended.ensures.input_stays read) c.decode_all-ended.ensures.output_stays)

@@ -21,4 +21,4 @@ pub returns : goal.returns
 returns g c =
     ended c.encode_all-ended.result c.behind_stream.result (above _ (λ e. c.if-bounds-eq0.false (rw c.bounds.ensures.exact e))) c.encode_all-ended.ensures.ends c.behind_stream.ensures
     (was_begun c.encode_all-ended.result (λ e. c.if-bounds-eq0.false (rw c.bounds.ensures.exact (c.encode_all-ended.ensures.empty.0 e))))
-    (failed_so c.encode_all-ended.result _ _ _ _ c.encode_all-ended.ensures.input_fault c.encode_all-ended.ensures.output_fault)
+    (failed_so c.encode_all-ended.result _ _ _ _ c.encode_all-ended.ensures.input_fault c.encode_all-ended.ensures.output_fault c.encode_all-ended.ensures.input_stays c.encode_all-ended.ensures.output_stays)

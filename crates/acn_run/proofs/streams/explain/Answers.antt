@@ -21,4 +21,4 @@ pub returns : goal.returns
 returns g c =
     ended c.explain_all-ended.result c.behind_stream.result (above _ (λ e. c.if-bounds-eq0.false (rw c.bounds.ensures.exact e))) c.explain_all-ended.ensures.ends c.behind_stream.ensures
     (was_begun c.explain_all-ended.result (λ e. c.if-bounds-eq0.false (rw c.bounds.ensures.exact (c.explain_all-ended.ensures.empty.0 e))))
-    (failed_so c.explain_all-ended.result _ _ _ _ c.explain_all-ended.ensures.input_fault c.explain_all-ended.ensures.output_fault)
+    (failed_so c.explain_all-ended.result _ _ _ _ c.explain_all-ended.ensures.input_fault c.explain_all-ended.ensures.output_fault (λ read written. c.explain_all-ended.ensures.input_stays read) c.explain_all-ended.ensures.output_stays)
