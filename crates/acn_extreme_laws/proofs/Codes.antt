@@ -1,417 +1,303 @@
--- The number that is picked is permitted, and no code of the leaf is shorter, or longer, than its own.
-use Rattle.std.proofs.Common.{◌≡◌, ℕ, ◌<◌, ◌≤◌, ℤ, pos, ◌+ℤ◌, Bool, true, false, not, ◌&&◌, List, [], ◌∷◌, ◌++◌, length, ◌-◌, Option, Some, None, append_assoc, refl, sym, ap, ◌∙◌, arith, inl, inr, ◌⊎◌, IsTrue, max, nat_eq, nat_lt}
-use Rattle.std.proofs.lemmas.Bool.{and_from, and_parts, eqb-true, or_left, or_right, or_parts, not-true}
+-- Of the numbers of a leaf that one is picked which is the least of those with a shortest code, or with a longest.
+use Rattle.std.proofs.Common.{◌≡◌, ℕ, zero, suc, ◌<◌, ◌≤◌, ℤ, pos, ◌+ℤ◌, Bool, true, false, ◌&&◌, List, [], ◌∷◌, ◌++◌, length, ◌-◌, refl, sym, ap, ◌∙◌, arith, inl, inr, ◌⊎◌, IsTrue, nat_lt}
+use Rattle.std.proofs.lemmas.Bool.{and_from, and_parts, or_left, or_right}
 use Rattle.std.proofs.lemmas.Bool.Decides.{nat_tests}
 use Rattle.std.proofs.lemmas.Int.{ints}
-use Rattle.std.specs.Prelude.{◌-ℤ◌, ◌≤ℤ◌, ◌<ℤ◌, int_le, int_lt, if◌then◌else◌, unwrap_or}
-use Rattle.std.specs.Int.{int_max, int_min}
-use Rattle.std.specs.List.{flat_map, list_any, list_all}
-use Rattle.acn_num.specs.Ranges.{In, has, are_ranges, count}
-use Rattle.acn_grammar.specs.Code.{on_line, image_in, image_by, image_of, item_number}
-use Rattle.acn_grammar.specs.Images.{ends, images_by}
-use Rattle.acn_grammar.specs.Interval.{fixed_width, nearest, origin}
-use Rattle.acn_grammar.specs.Leaves.{num_fine, takes, set_fine, integer_set_fine, no_items, share, all_differ, table_fine, has_size, line_fine, is_range, items_fine}
-use Rattle.acn_grammar.specs.Length.{coding_length, num_length, least}
+use Rattle.std.specs.Ordering.{int_eq}
+use Rattle.std.specs.Prelude.{◌-ℤ◌, ◌≤ℤ◌, ◌<ℤ◌, int_le, int_lt, if◌then◌else◌, Option}
+use Rattle.acn_num.specs.Ranges.{Ranges, In, has, are_ranges, are_ranges_above, size_of}
+use Rattle.acn_grammar.specs.Images.{ends}
+use Rattle.acn_grammar.specs.Leaves.{num_fine, set_fine, integer_set_fine, no_items, is_range, items_fine}
+use Rattle.acn_grammar.specs.Length.{num_length, least}
 use Rattle.acn_grammar.specs.declared.node.NumCoding.{NumCoding}
-use Rattle.acn_grammar.specs.declared.node.NumCoding.TheVariants.{Range, CountedFrom, CountedSigned, PosInt, Twos, Bcd, BcdEnded, Ascii, AsciiEnded, Flag, Fixed}
 use Rattle.acn_grammar.specs.declared.node.NumKind.{NumKind}
 use Rattle.acn_grammar.specs.declared.node.NumKind.TheVariants.{Integer, Boolean, Enumerated, Null}
 use Rattle.acn_grammar.specs.declared.node.NumLeaf.{NumLeaf}
 use Rattle.acn_grammar.specs.declared.node.Items.{Items}
 use Rattle.acn_grammar.specs.declared.node.Table.{Table}
-use Rattle.acn_grammar.proofs.FineLeaves.{rules_of, no_values}
-use Rattle.acn_grammar.proofs.HasImage.{Ordered, key_sides, set_ordered, has_image}
-use Rattle.acn_grammar.proofs.LeafLengths.{counted_kind, int_ends}
-use Rattle.acn_grammar.proofs.Monotone.{Varies, range_has}
-use Rattle.acn_grammar.proofs.SpanLaw.{fixed_is, varies_if}
-use Rattle.acn_grammar.proofs.WholeTests.{either, le_fact, lt_fact, ge_fact, le_test}
+use Rattle.acn_grammar.proofs.FineLeaves.{rules_of}
+use Rattle.acn_grammar.proofs.WholeTests.{either, eq_fact, le_fact, lt_fact, ge_fact, le_test}
 use Rattle.acn_grammar.proofs.Within.{between}
-use Rattle.acn_extreme_laws.specs.Codes.{ahead, image_on, nearest_key, tried_on, tried_by, pick, steps, firsts_by, lesser, least_of, picked_of, number_by, number_at}
+use Rattle.acn_extreme_laws.specs.Codes.{ahead, IsBestNumber, pick, numbers_from, numbers_of, number_at}
 use Rattle.acn_extreme_laws.specs.declared.side.Side.{Side}
 use Rattle.acn_extreme_laws.specs.declared.side.Side.TheVariants.{Shortest, Longest}
 
--- What is tried.
+-- Lists of numbers.
 
-abbrev Among : ℤ → List ℤ → Type 0
+abbrev pub Among : ℤ → List ℤ → Type 0
 Among k [] = ⊥
 Among k (x ∷ xs) = (k ≡ x) ⊎ Among k xs
 
-among_left : (k : ℤ) (xs ys : List ℤ) → Among k xs → Among k (xs ++ ys)
+pub among_left : (k : ℤ) (xs ys : List ℤ) → Among k xs → Among k (xs ++ ys)
 among_left k [] ys h = absurd h
 among_left k (x ∷ xs) ys (inl e) = inl e
 among_left k (x ∷ xs) ys (inr h) = inr (among_left k xs ys h)
 
-among_right : (k : ℤ) (xs ys : List ℤ) → Among k ys → Among k (xs ++ ys)
+pub among_right : (k : ℤ) (xs ys : List ℤ) → Among k ys → Among k (xs ++ ys)
 among_right k [] ys h = h
 among_right k (x ∷ xs) ys h = inr (among_right k xs ys h)
 
-among_either : {F : Type 0} (k : ℤ) (xs ys : List ℤ) → Among k (xs ++ ys) → (Among k xs → F) → (Among k ys → F) → F
+pub among_either : {F : Type 0} (k : ℤ) (xs ys : List ℤ) → Among k (xs ++ ys) → (Among k xs → F) → (Among k ys → F) → F
 among_either k [] ys h f g = g h
 among_either k (x ∷ xs) ys (inl e) f g = f (inl e)
 among_either {F} k (x ∷ xs) ys (inr h) f g = among_either {F = F} k xs ys h (λ q. f (inr q)) g
 
-module _ (len : ℤ → ℕ) where
-  picked : (side : Side) (P : ℤ → Type 0) (best : ℤ) (xs : List ℤ) → P best → ((k : ℤ) → Among k xs → P k) → P (pick len side best xs)
-  picked side P best [] h f = h
-  picked side P best (x ∷ xs) h f = picked side P (if ahead side (len x) (len best) then x else best) xs (by (ahead side (len x) (len best))) (λ k q. f k (inr q))
+-- none is less than the one before it, or than b
+abbrev pub Ascends : ℤ → List ℤ → Type 0
+Ascends b [] = Unit {0}
+Ascends b (x ∷ xs) = (b ≤ℤ x) × Ascends x xs
+
+pub from_lower : (b c : ℤ) (xs : List ℤ) → b ≤ℤ c → Ascends c xs → Ascends b xs
+from_lower b c [] h a = tt
+from_lower b c (x ∷ xs) h a = (let p = a.0 in omega (arith, ints), a.1)
+
+-- What is picked.
+
+pub not_below : (a b : ℕ) → b ≤ a → nat_lt a b ≡ false
+not_below a b h = grind (arith, nat_tests)
+
+pub ahead_self : (side : Side) (a : ℕ) → ahead side a a ≡ false
+ahead_self Shortest a = not_below a a (omega arith)
+ahead_self Longest a = not_below a a (omega arith)
+
+ahead_over : (side : Side) (a b c : ℕ) → ahead side a b ≡ true → ahead side c b ≡ false → ahead side c a ≡ false
+ahead_over Shortest a b c e f = (let l : a < b = grind (arith, nat_tests, e) in let m : b ≤ c = grind (arith, nat_tests, f) in not_below c a (omega arith))
+ahead_over Longest a b c e f = (let l : b < a = grind (arith, nat_tests, e) in let m : c ≤ b = grind (arith, nat_tests, f) in not_below a c (omega arith))
+
+alike : (side : Side) (a b : ℕ) → ahead side a b ≡ false → ahead side b a ≡ false → a ≡ b
+alike Shortest a b e f = (let l : b ≤ a = grind (arith, nat_tests, e) in let m : a ≤ b = grind (arith, nat_tests, f) in omega arith)
+alike Longest a b e f = (let l : a ≤ b = grind (arith, nat_tests, e) in let m : b ≤ a = grind (arith, nat_tests, f) in omega arith)
+
+pub self : (x : ℤ) → x ≤ℤ x
+self x = omega (arith, ints)
+
+-- of the numbers that are so none has a length that is nearer to the side, and it is the least of those with its length
+pub record Foremost (len : ℤ → ℕ) (side : Side) (P : ℤ → Type 0) (best : ℤ) : Type 0 where
+  pub there : P best
+  pub extreme : (y : ℤ) → P y → ahead side (len y) (len best) ≡ false
+  pub least : (y : ℤ) → P y → len y ≡ len best → best ≤ℤ y
+
+module _ (len : ℤ → ℕ) (side : Side) where
+  pub moved : (P Q : ℤ → Type 0) (best : ℤ) → ((y : ℤ) → P y → Q y) → ((y : ℤ) → Q y → P y) → Foremost len side P best → Foremost len side Q best
+  moved P Q best f g h = record {
+    there = f best h.there;
+    extreme = λ y q. h.extreme y (g y q);
+    least = λ y q e. h.least y (g y q) e;
+  }
+
+  pub alone : (x : ℤ) → Foremost len side (λ y. y ≡ x) x
+  alone x = record {
+    there = refl;
+    extreme = λ y e. ap (λ z. ahead side (len z) (len x)) e ∙ ahead_self side (len x);
+    least = λ y e same. omega (arith, ints);
+  }
+
+  -- one number more
+  abbrev With : (ℤ → Type 0) → ℤ → ℤ → Type 0
+  With P x y = P y ⊎ (y ≡ x)
+
+  newer : (P : ℤ → Type 0) (best x : ℤ) → ahead side (len x) (len best) ≡ true → Foremost len side P best → Foremost len side (With P x) x
+  newer P best x e f = record { there = inr refl; extreme = extreme_of; least = least_of }
     where
-      by : (b : Bool) → P (if b then x else best)
-      by true = f x (inl refl)
-      by false = h
+      apart : {F : Type 0} → true ≡ false → F
+      apart q = cc
 
-  first_short : (best : ℤ) (xs : List ℤ) → len (pick len Shortest best xs) ≤ len best
-  first_short best [] = omega arith
-  first_short best (x ∷ xs) = by (nat_lt (len x) (len best)) refl (first_short (if nat_lt (len x) (len best) then x else best) xs)
+      extreme_of : (y : ℤ) → P y ⊎ (y ≡ x) → ahead side (len y) (len x) ≡ false
+      extreme_of y (inl p) = ahead_over side (len x) (len best) (len y) e (f.extreme y p)
+      extreme_of y (inr q) = ap (λ z. ahead side (len z) (len x)) q ∙ ahead_self side (len x)
+
+      least_of : (y : ℤ) → P y ⊎ (y ≡ x) → len y ≡ len x → x ≤ℤ y
+      least_of y (inl p) same = apart (sym e ∙ (ap (λ n. ahead side n (len best)) (sym same) ∙ f.extreme y p))
+      least_of y (inr q) same = omega (arith, ints)
+
+  older : (P : ℤ → Type 0) (best x : ℤ) → ahead side (len x) (len best) ≡ false → best ≤ℤ x → Foremost len side P best → Foremost len side (With P x) best
+  older P best x e l f = record { there = inl f.there; extreme = extreme_of; least = least_of }
     where
-      by : (b : Bool) → nat_lt (len x) (len best) ≡ b → len (pick len Shortest (if nat_lt (len x) (len best) then x else best) xs) ≤ len (if nat_lt (len x) (len best) then x else best) → len (pick len Shortest (if nat_lt (len x) (len best) then x else best) xs) ≤ len best
-      by true e h = (let l : len x < len best = grind (arith, nat_tests, e) in let same : len (if nat_lt (len x) (len best) then x else best) ≡ len x = ap (λ (c : Bool). len (if c then x else best)) e in omega arith)
-      by false e h = (let same : len (if nat_lt (len x) (len best) then x else best) ≡ len best = ap (λ (c : Bool). len (if c then x else best)) e in omega arith)
+      extreme_of : (y : ℤ) → P y ⊎ (y ≡ x) → ahead side (len y) (len best) ≡ false
+      extreme_of y (inl p) = f.extreme y p
+      extreme_of y (inr q) = ap (λ z. ahead side (len z) (len best)) q ∙ e
 
-  each_short : (best : ℤ) (xs : List ℤ) (k : ℤ) → Among k xs → len (pick len Shortest best xs) ≤ len k
-  each_short best [] k h = absurd h
-  each_short best (x ∷ xs) k (inr h) = each_short (if nat_lt (len x) (len best) then x else best) xs k h
-  each_short best (x ∷ xs) k (inl is) = by (nat_lt (len x) (len best)) refl (first_short (if nat_lt (len x) (len best) then x else best) xs)
+      least_of : (y : ℤ) → P y ⊎ (y ≡ x) → len y ≡ len best → best ≤ℤ y
+      least_of y (inl p) same = f.least y p same
+      least_of y (inr q) same = omega (arith, ints)
+
+  in_front : (P : ℤ → Type 0) (x y : ℤ) (xs : List ℤ) → (P y ⊎ (y ≡ x)) ⊎ Among y xs → P y ⊎ Among y (x ∷ xs)
+  in_front P x y xs (inl (inl p)) = inl p
+  in_front P x y xs (inl (inr e)) = inr (inl e)
+  in_front P x y xs (inr h) = inr (inr h)
+
+  in_rest : (P : ℤ → Type 0) (x y : ℤ) (xs : List ℤ) → P y ⊎ Among y (x ∷ xs) → (P y ⊎ (y ≡ x)) ⊎ Among y xs
+  in_rest P x y xs (inl p) = inl (inl p)
+  in_rest P x y xs (inr (inl e)) = inl (inr e)
+  in_rest P x y xs (inr (inr h)) = inr h
+
+  no_more : (P : ℤ → Type 0) (y : ℤ) → P y ⊎ Among y [] → P y
+  no_more P y (inl p) = p
+  no_more P y (inr h) = absurd h
+
+  -- what is picked of numbers that ascend, and of those before them
+  pub pick_foremost : (P : ℤ → Type 0) (best last : ℤ) (xs : List ℤ) → Foremost len side P best → best ≤ℤ last → Ascends last xs → Foremost len side (λ y. P y ⊎ Among y xs) (pick len side best xs)
+  pick_foremost P best last [] f l a = moved P (λ y. P y ⊎ Among y []) best (λ y p. inl p) (no_more P) f
+  pick_foremost P best last (x ∷ xs) f l a =
+      let before = a.0 in
+      let behind : best ≤ℤ x = omega (arith, ints) in
+      by (ahead side (len x) (len best)) refl (λ e. pick_foremost (With P x) x x xs (newer P best x e f) (self x) a.1) (λ e. pick_foremost (With P x) best x xs (older P best x e behind f) behind a.1)
     where
-      by : (b : Bool) → nat_lt (len x) (len best) ≡ b → len (pick len Shortest (if nat_lt (len x) (len best) then x else best) xs) ≤ len (if nat_lt (len x) (len best) then x else best) → len (pick len Shortest (if nat_lt (len x) (len best) then x else best) xs) ≤ len k
-      by true e h = (let here = ap len is in let same : len (if nat_lt (len x) (len best) then x else best) ≡ len x = ap (λ (c : Bool). len (if c then x else best)) e in omega arith)
-      by false e h = (let here = ap len is in let l : len best ≤ len x = grind (arith, nat_tests, e) in let same : len (if nat_lt (len x) (len best) then x else best) ≡ len best = ap (λ (c : Bool). len (if c then x else best)) e in omega arith)
+      by : (t : Bool) → ahead side (len x) (len best) ≡ t
+          → (ahead side (len x) (len best) ≡ true → Foremost len side (λ y. With P x y ⊎ Among y xs) (pick len side x xs))
+          → (ahead side (len x) (len best) ≡ false → Foremost len side (λ y. With P x y ⊎ Among y xs) (pick len side best xs))
+          → Foremost len side (λ y. P y ⊎ Among y (x ∷ xs)) (pick len side (if t then x else best) xs)
+      by true e g h = moved (λ y. With P x y ⊎ Among y xs) (λ y. P y ⊎ Among y (x ∷ xs)) (pick len side x xs) (λ y. in_front P x y xs) (λ y. in_rest P x y xs) (g e)
+      by false e g h = moved (λ y. With P x y ⊎ Among y xs) (λ y. P y ⊎ Among y (x ∷ xs)) (pick len side best xs) (λ y. in_front P x y xs) (λ y. in_rest P x y xs) (h e)
 
-  first_long : (best : ℤ) (xs : List ℤ) → len best ≤ len (pick len Longest best xs)
-  first_long best [] = omega arith
-  first_long best (x ∷ xs) = by (nat_lt (len best) (len x)) refl (first_long (if nat_lt (len best) (len x) then x else best) xs)
-    where
-      by : (b : Bool) → nat_lt (len best) (len x) ≡ b → len (if nat_lt (len best) (len x) then x else best) ≤ len (pick len Longest (if nat_lt (len best) (len x) then x else best) xs) → len best ≤ len (pick len Longest (if nat_lt (len best) (len x) then x else best) xs)
-      by true e h = (let l : len best < len x = grind (arith, nat_tests, e) in let same : len (if nat_lt (len best) (len x) then x else best) ≡ len x = ap (λ (c : Bool). len (if c then x else best)) e in omega arith)
-      by false e h = (let same : len (if nat_lt (len best) (len x) then x else best) ≡ len best = ap (λ (c : Bool). len (if c then x else best)) e in omega arith)
+-- The numbers of ranges.
 
-  each_long : (best : ℤ) (xs : List ℤ) (k : ℤ) → Among k xs → len k ≤ len (pick len Longest best xs)
-  each_long best [] k h = absurd h
-  each_long best (x ∷ xs) k (inr h) = each_long (if nat_lt (len best) (len x) then x else best) xs k h
-  each_long best (x ∷ xs) k (inl is) = by (nat_lt (len best) (len x)) refl (first_long (if nat_lt (len best) (len x) then x else best) xs)
-    where
-      by : (b : Bool) → nat_lt (len best) (len x) ≡ b → len (if nat_lt (len best) (len x) then x else best) ≤ len (pick len Longest (if nat_lt (len best) (len x) then x else best) xs) → len k ≤ len (pick len Longest (if nat_lt (len best) (len x) then x else best) xs)
-      by true e h = (let here = ap len is in let same : len (if nat_lt (len best) (len x) then x else best) ≡ len x = ap (λ (c : Bool). len (if c then x else best)) e in omega arith)
-      by false e h = (let here = ap len is in let l : len x ≤ len best = grind (arith, nat_tests, e) in let same : len (if nat_lt (len best) (len x) then x else best) ≡ len best = ap (λ (c : Bool). len (if c then x else best)) e in omega arith)
+-- each begins at or above the end of the one before it, or at b, and none is empty
+abbrev pub Rises : ℤ → Ranges → Type 0
+Rises b [] = Unit {0}
+Rises b (r ∷ rs) = (b ≤ℤ r.0) × (r.0 ≤ℤ r.1) × Rises r.1 rs
 
--- Something that is tried has a code no longer than that of a number, and something one no shorter.
+size_is : (r : ℤ × ℤ) → r.0 ≤ℤ r.1 → pos (size_of r) ≡ ((r.1 -ℤ r.0) +ℤ pos 1)
+size_is r h = omega (arith, ints)
 
-record Covers (len : ℤ → ℕ) (xs : List ℤ) (n : ℕ) : Type 0 where
-  low : ℤ
-  low_there : Among low xs
-  shorter : len low ≤ n
-  high : ℤ
-  high_there : Among high xs
-  longer : n ≤ len high
+from_ascends : (b x : ℤ) (n : ℕ) (c : ℤ) (ys : List ℤ) → b ≤ℤ x → b ≤ℤ c → (x +ℤ pos n) ≤ℤ (c +ℤ pos 1) → Ascends c ys → Ascends b (numbers_from x n ++ ys)
+from_ascends b x zero c ys h k l a = from_lower b c ys k a
+from_ascends b x (suc n) c ys h k l a = (h, from_ascends x (x +ℤ pos 1) n c ys (omega (arith, ints)) (omega (arith, ints)) (omega (arith, ints)) a)
 
-covers_left : (len : ℤ → ℕ) (xs ys : List ℤ) (n : ℕ) → Covers len xs n → Covers len (xs ++ ys) n
-covers_left len xs ys n c = record { low = c.low; low_there = among_left c.low xs ys c.low_there; shorter = c.shorter; high = c.high; high_there = among_left c.high xs ys c.high_there; longer = c.longer }
+numbers_ascend : (b : ℤ) (rs : Ranges) → Rises b rs → Ascends b (numbers_of rs)
+numbers_ascend b [] h = tt
+numbers_ascend b (r ∷ rs) h =
+    let first = h.0 in
+    let order = h.1 in
+    let size = size_is r h.1 in
+    from_ascends b r.0 (size_of r) r.1 (numbers_of rs) h.0 (omega (arith, ints)) (omega (arith, ints)) (numbers_ascend r.1 rs h.2)
 
-covers_right : (len : ℤ → ℕ) (xs ys : List ℤ) (n : ℕ) → Covers len ys n → Covers len (xs ++ ys) n
-covers_right len xs ys n c = record { low = c.low; low_there = among_right c.low xs ys c.low_there; shorter = c.shorter; high = c.high; high_there = among_right c.high xs ys c.high_there; longer = c.longer }
+in_from : (k x : ℤ) (n : ℕ) → Among k (numbers_from x n) → (x ≤ℤ k) × (k <ℤ (x +ℤ pos n))
+in_from k x zero h = absurd h
+in_from k x (suc n) (inl e) = (omega (arith, ints), omega (arith, ints))
+in_from k x (suc n) (inr h) =
+    let r = in_from k (x +ℤ pos 1) n h in
+    let low = r.0 in
+    let high = r.1 in
+    (omega (arith, ints), omega (arith, ints))
 
-three_cover : (len : ℤ → ℕ) (low near high : ℤ) (n : ℕ) → len near ≤ n → n ≤ max (len low) (len high) → Covers len (low ∷ near ∷ high ∷ []) n
-three_cover len low near high n a b = by (nat_lt (len low) (len high)) refl
+among_from : (k x : ℤ) (n : ℕ) → x ≤ℤ k → k <ℤ (x +ℤ pos n) → Among k (numbers_from x n)
+among_from k x zero h l = absurd (omega (arith, ints))
+among_from k x (suc n) h l = by (int_lt x k) refl (λ q. among_from k (x +ℤ pos 1) n q (omega (arith, ints)))
   where
-    by : (t : Bool) → nat_lt (len low) (len high) ≡ t → Covers len (low ∷ near ∷ high ∷ []) n
-    by true e = (let l : len low < len high = grind (arith, nat_tests, e) in record { low = near; low_there = inr (inl refl); shorter = a; high = high; high_there = inr (inr (inl refl)); longer = omega arith })
-    by false e = (let l : len high ≤ len low = grind (arith, nat_tests, e) in record { low = near; low_there = inr (inl refl); shorter = a; high = low; high_there = inl refl; longer = omega arith })
-
--- What lies between.
-
-near_in : (o a b : ℤ) (s t : Bool) → (s ≡ true → o <ℤ a) → (s ≡ false → a ≤ℤ o) → (t ≡ true → b <ℤ o) → (t ≡ false → o ≤ℤ b) → a ≤ℤ b → (a ≤ℤ (if s then a else (if t then b else o))) × ((if s then a else (if t then b else o)) ≤ℤ b)
-near_in o a b true t f g h k le = (omega (arith, ints), le)
-near_in o a b false true f g h k le = (le, omega (arith, ints))
-near_in o a b false false f g h k le = (g refl, k refl)
-
-near_between : (o : ℤ) (r : ℤ × ℤ) → r.0 ≤ℤ r.1 → (r.0 ≤ℤ nearest o r) × (nearest o r ≤ℤ r.1)
-near_between o r le = near_in o r.0 r.1 (int_lt o r.0) (int_lt r.1 o) (lt_fact o r.0) (ge_fact o r.0) (lt_fact r.1 o) (ge_fact r.1 o) le
+    by : (t : Bool) → int_lt x k ≡ t → ((x +ℤ pos 1) ≤ℤ k → Among k (numbers_from (x +ℤ pos 1) n)) → (k ≡ x) ⊎ Among k (numbers_from (x +ℤ pos 1) n)
+    by true e f = (let q = lt_fact x k e in inr (f (omega (arith, ints))))
+    by false e f = (let q = ge_fact x k e in inl (omega (arith, ints)))
 
 pub in_range : (a b x : ℤ) → a ≤ℤ x → x ≤ℤ b → (int_le a x && int_le x b) ≡ true
 in_range a b x h k = and_from (int_le a x) (int_le x b) (le_test a x h) (le_test x b k)
 
--- A key of a line is a key of no other.
+numbers_in : (b : ℤ) (rs : Ranges) → Rises b rs → (k : ℤ) → Among k (numbers_of rs) → has rs k ≡ true
+numbers_in b [] o k h = absurd h
+numbers_in b (r ∷ rs) o k h = among_either {F = has (r ∷ rs) k ≡ true} k (numbers_from r.0 (size_of r)) (numbers_of rs) h
+    (λ q. let w = in_from k r.0 (size_of r) q in
+    let high = w.1 in
+    let size = size_is r o.1 in
+    or_left (int_le r.0 k && int_le k r.1) (has rs k) (in_range r.0 r.1 k w.0 (omega (arith, ints))))
+    (λ q. or_right (int_le r.0 k && int_le k r.1) (has rs k) (numbers_in r.1 rs o.2 k q))
 
-abbrev Line : Type 0
-Line = ℤ × ℤ × ℤ
+numbers_have : (b : ℤ) (rs : Ranges) → Rises b rs → (k : ℤ) → has rs k ≡ true → Among k (numbers_of rs)
+numbers_have b [] o k h = cc
+numbers_have b (r ∷ rs) o k h = either {F = Among k (numbers_of (r ∷ rs))} (int_le r.0 k && int_le k r.1) (has rs k) h
+    (λ q. let w = between r.0 r.1 k q in
+    let high = w.1 in
+    let size = size_is r o.1 in
+    among_left k (numbers_from r.0 (size_of r)) (numbers_of rs) (among_from k r.0 (size_of r) w.0 (omega (arith, ints))))
+    (λ q. among_right k (numbers_from r.0 (size_of r)) (numbers_of rs) (numbers_have r.1 rs o.2 k q))
 
-other_off : (m l : Line) (x : ℤ) → share m l ≡ false → on_line l x ≡ true → on_line m x ≡ false
-other_off m l x h on = by (on_line m x) refl (key_sides m l h)
+rises_lower : (b c : ℤ) (rs : Ranges) → b ≤ℤ c → Rises c rs → Rises b rs
+rises_lower b c [] h o = tt
+rises_lower b c (r ∷ rs) h o = (let p = o.0 in omega (arith, ints), o.1, o.2)
+
+above_rises : (b : ℤ) (rs : Ranges) → are_ranges_above b rs ≡ true → Rises b rs
+above_rises b [] h = tt
+above_rises b (r ∷ rs) h =
+    let f = and_parts (int_lt b r.0) (int_le r.0 r.1 && are_ranges_above (r.1 +ℤ pos 1) rs) h in
+    let g = and_parts (int_le r.0 r.1) (are_ranges_above (r.1 +ℤ pos 1) rs) f.1 in
+    let low = lt_fact b r.0 f.0 in
+    (omega (arith, ints), le_fact r.0 r.1 g.0, rises_lower r.1 (r.1 +ℤ pos 1) rs (omega (arith, ints)) (above_rises (r.1 +ℤ pos 1) rs g.1))
+
+ranges_rise : (rs : Ranges) → are_ranges rs ≡ true → Rises (least rs) rs
+ranges_rise [] h = tt
+ranges_rise (r ∷ rs) h =
+    let g = and_parts (int_le r.0 r.1) (are_ranges_above (r.1 +ℤ pos 1) rs) h in
+    (self r.0, le_fact r.0 r.1 g.0, rises_lower r.1 (r.1 +ℤ pos 1) rs (omega (arith, ints)) (above_rises (r.1 +ℤ pos 1) rs g.1))
+
+range_rises : (low high : ℤ) (rs : Ranges) → low ≤ℤ high → is_range low high rs ≡ true → Rises (least rs) rs
+range_rises low high [] le h = cc
+range_rises low high (r ∷ []) le h =
+    let f = and_parts (int_eq r.0 low) (int_eq r.1 high) h in
+    let a = eq_fact r.0 low f.0 in
+    let b = eq_fact r.1 high f.1 in
+    (self r.0, omega (arith, ints), tt)
+range_rises low high (r ∷ s ∷ rs) le h = cc
+
+set_rises : (kind : NumKind) (coding : NumCoding) (items : Items) (table : Option Table) (set : Ranges) → set_fine kind coding items table set ≡ true → Rises (least set) set
+set_rises Integer coding items table set h = ranges_rise set (and_parts (are_ranges set) (integer_set_fine coding (ends set) && no_items items) h).0
+set_rises Boolean coding items table set h = range_rises (pos 0) (pos 1) set (omega (arith, ints)) (and_parts (is_range (pos 0) (pos 1) set) (no_items items) h).0
+set_rises Enumerated coding items table set h =
+    range_rises (pos 0) (pos (length items.items - 1)) set (omega (arith, ints)) (and_parts (is_range (pos 0) (pos (length items.items - 1)) set) (items_fine coding items) (and_parts (nat_lt 0 (length items.items)) (is_range (pos 0) (pos (length items.items - 1)) set && items_fine coding items) h).1).0
+set_rises Null coding items table set h = range_rises (pos 0) (pos 0) set (omega (arith, ints)) (and_parts (is_range (pos 0) (pos 0) set) (no_items items) h).0
+
+set_there : (kind : NumKind) (coding : NumCoding) (items : Items) (table : Option Table) (set : Ranges) → set_fine kind coding items table set ≡ true → Rises (least set) set → has set (least set) ≡ true
+set_there Integer coding items table [] h o = cc
+set_there Boolean coding items table [] h o = cc
+set_there Enumerated coding items table [] h o = absurd (none (nat_lt 0 (length items.items)) h)
   where
-    by : (t : Bool) → on_line m x ≡ t → (l.1 <ℤ m.0) ⊎ (m.1 <ℤ l.0) → on_line m x ≡ false
-    by false e s = e
-    by true e (inl s) =
-        let u = and_parts (int_le m.0 x) (int_le x m.1) e in
-        let w = and_parts (int_le l.0 x) (int_le x l.1) on in
-        let a = le_fact m.0 x u.0 in
-        let b = le_fact x l.1 w.1 in
-        absurd (omega (arith, ints))
-    by true e (inr s) =
-        let u = and_parts (int_le m.0 x) (int_le x m.1) e in
-        let w = and_parts (int_le l.0 x) (int_le x l.1) on in
-        let a = le_fact x m.1 u.1 in
-        let b = le_fact l.0 x w.0 in
-        absurd (omega (arith, ints))
-
-any_at : (p : Line → Bool) (before : List Line) (l : Line) (after : List Line) → list_any p (before ++ l ∷ after) ≡ false → p l ≡ false
-any_at p [] l after h = (or_parts (p l) (list_any p after) h).0
-any_at p (m ∷ before) l after h = any_at p before l after (or_parts (p m) (list_any p (before ++ l ∷ after)) h).1
-
-mapped : (before : List Line) (l : Line) (after : List Line) (x : ℤ) → all_differ share (before ++ l ∷ after) ≡ true → on_line l x ≡ true → image_in (before ++ l ∷ after) x ≡ Some (image_on l x)
-mapped [] l after x d on = rw on refl
-mapped (m ∷ before) l after x d on =
-    let f = and_parts (not (list_any (share m) (before ++ l ∷ after))) (all_differ share (before ++ l ∷ after)) d in
-    let off = other_off m l x (any_at (share m) before l after (not-true (list_any (share m) (before ++ l ∷ after)) f.0)) on in
-    rw off (mapped before l after x f.1 on)
-
--- What is tried covers each number of the set.
-
-module _ (coding : NumCoding) (varies : Varies coding) (len : ℤ → ℕ) where
-  abbrev Tried : Option Table → List (ℤ × ℤ) → List ℤ
-  Tried table rs = tried_by (origin coding) table rs
-
-  plain_cover : ((k : ℤ) → len k ≡ coding_length coding k) → (rs : List (ℤ × ℤ)) (x : ℤ) → has rs x ≡ true → Covers len (Tried None rs) (len x)
-  plain_cover is [] x h = cc
-  plain_cover is (r ∷ rs) x h = either {F = Covers len (Tried None (r ∷ rs)) (len x)} (int_le r.0 x && int_le x r.1) (has rs x) h
-      (λ q. let w = between r.0 r.1 x q in
-      let two = range_has coding varies r x w.0 w.1 in
-      let a = is x in let b = is r.0 in let c = is (nearest (origin coding) r) in let d = is r.1 in
-      let e = two.0 in let f = two.1 in
-      covers_left len (r.0 ∷ nearest (origin coding) r ∷ r.1 ∷ []) (Tried None rs) (len x) (three_cover len r.0 (nearest (origin coding) r) r.1 (len x) (omega arith) (omega arith)))
-      (λ q. covers_right len (r.0 ∷ nearest (origin coding) r ∷ r.1 ∷ []) (Tried None rs) (len x) (plain_cover is rs x q))
-
-  low_of : (a b x : ℤ) → a ≤ℤ x → b ≤ℤ x → int_max a b ≤ℤ x
-  low_of a b x h k = grind (arith, ints, nat_tests, h, k)
-
-  high_of : (a b x : ℤ) → x ≤ℤ a → x ≤ℤ b → x ≤ℤ int_min a b
-  high_of a b x h k = grind (arith, ints, nat_tests, h, k)
-
-  max_left : (a b x : ℤ) → int_max a b ≤ℤ x → a ≤ℤ x
-  max_left a b x h = grind (arith, ints, nat_tests)
-
-  max_right : (a b x : ℤ) → int_max a b ≤ℤ x → b ≤ℤ x
-  max_right a b x h = grind (arith, ints, nat_tests)
-
-  min_left : (a b x : ℤ) → x ≤ℤ int_min a b → x ≤ℤ a
-  min_left a b x h = grind (arith, ints, nat_tests)
-
-  min_right : (a b x : ℤ) → x ≤ℤ int_min a b → x ≤ℤ b
-  min_right a b x h = grind (arith, ints, nat_tests)
-
-  keeps : (a b c d : ℤ) → a ≤ℤ b → (c +ℤ (a -ℤ d)) ≤ℤ (c +ℤ (b -ℤ d))
-  keeps a b c d h = omega (arith, ints)
-
-  key_between : (low high z l0 n : ℤ) → (z +ℤ (low -ℤ l0)) ≤ℤ n → n ≤ℤ (z +ℤ (high -ℤ l0)) → (low ≤ℤ (l0 +ℤ (n -ℤ z))) × ((l0 +ℤ (n -ℤ z)) ≤ℤ high)
-  key_between low high z l0 n a b = (omega (arith, ints), omega (arith, ints))
-
-  back : (n z l0 : ℤ) → z +ℤ ((l0 +ℤ (n -ℤ z)) -ℤ l0) ≡ n
-  back n z l0 = omega (arith, ints)
-
-  on_cover : (r : ℤ × ℤ) (l : Line) → ((k : ℤ) → on_line l k ≡ true → len k ≡ coding_length coding (image_on l k)) → (x : ℤ) → r.0 ≤ℤ x → x ≤ℤ r.1 → on_line l x ≡ true → Covers len (tried_on (origin coding) r l) (len x)
-  on_cover r l is x a b on =
-      let w = and_parts (int_le l.0 x) (int_le x l.1) on in
-      let low = int_max r.0 l.0 in
-      let high = int_min r.1 l.1 in
-      let above = low_of r.0 l.0 x a (le_fact l.0 x w.0) in
-      let below = high_of r.1 l.1 x b (le_fact x l.1 w.1) in
-      let order : low ≤ℤ high = whole low x high above below in
-      let n = nearest (origin coding) (image_on l low, image_on l high) in
-      let near = near_between (origin coding) (image_on l low, image_on l high) (keeps low high l.2 l.0 order) in
-      let key = key_between low high l.2 l.0 n near.0 near.1 in
-      let on_low = in_range l.0 l.1 low (max_right r.0 l.0 low (same low)) (min_right r.1 l.1 low order) in
-      let on_high = in_range l.0 l.1 high (max_right r.0 l.0 high order) (min_right r.1 l.1 high (same high)) in
-      let on_near = in_range l.0 l.1 (nearest_key (origin coding) l low high) (max_right r.0 l.0 _ key.0) (min_right r.1 l.1 _ key.1) in
-      let two = range_has coding varies (image_on l low, image_on l high) (image_on l x) (keeps low x l.2 l.0 above) (keeps x high l.2 l.0 below) in
-      let len_x = is x on in
-      let len_low = is low on_low in
-      let len_high = is high on_high in
-      let len_near = is (nearest_key (origin coding) l low high) on_near ∙ ap (coding_length coding) (back n l.2 l.0) in
-      let e = two.0 in
-      let f = two.1 in
-      rw (le_test low high order) (three_cover len low (nearest_key (origin coding) l low high) high (len x) (omega arith) (omega arith))
-    where
-      same : (x : ℤ) → x ≤ℤ x
-      same x = omega (arith, ints)
-
-      whole : (a x b : ℤ) → a ≤ℤ x → x ≤ℤ b → a ≤ℤ b
-      whole a x b h k = omega (arith, ints)
-
-  lines_cover : (all before ls : List Line) → all ≡ before ++ ls → all_differ share all ≡ true → ((k y : ℤ) → image_in all k ≡ Some y → len k ≡ coding_length coding y)
-      → (r : ℤ × ℤ) (x y : ℤ) → r.0 ≤ℤ x → x ≤ℤ r.1 → image_in ls x ≡ Some y → Covers len (flat_map (tried_on (origin coding) r) ls) (len x)
-  lines_cover all before [] e d is r x y a b i = cc
-  lines_cover all before (l ∷ ls) e d is r x y a b i = by (on_line l x) refl i (λ q. lines_cover all (before ++ l ∷ []) ls (e ∙ sym (append_assoc before (l ∷ []) ls)) d is r x y a b q)
-    where
-      by : (t : Bool) → on_line l x ≡ t → (if t then Some (l.2 +ℤ (x -ℤ l.0)) else image_in ls x) ≡ Some y → (image_in ls x ≡ Some y → Covers len (flat_map (tried_on (origin coding) r) ls) (len x)) → Covers len (flat_map (tried_on (origin coding) r) (l ∷ ls)) (len x)
-      by true on q f = covers_left len (tried_on (origin coding) r l) (flat_map (tried_on (origin coding) r) ls) (len x)
-          (on_cover r l (λ k h. is k (image_on l k) (ap (λ z. image_in z k) e ∙ mapped before l ls k (sym (ap (all_differ share) e) ∙ d) h)) x a b on)
-      by false on q f = covers_right len (tried_on (origin coding) r l) (flat_map (tried_on (origin coding) r) ls) (len x) (f q)
-
-  table_cover : (table : Table) → all_differ share table.lines ≡ true → ((k y : ℤ) → image_in table.lines k ≡ Some y → len k ≡ coding_length coding y)
-      → (rs : List (ℤ × ℤ)) (x y : ℤ) → has rs x ≡ true → image_in table.lines x ≡ Some y → Covers len (Tried (Some table) rs) (len x)
-  table_cover table d is [] x y h i = cc
-  table_cover table d is (r ∷ rs) x y h i = either {F = Covers len (Tried (Some table) (r ∷ rs)) (len x)} (int_le r.0 x && int_le x r.1) (has rs x) h
-      (λ q. let w = between r.0 r.1 x q in covers_left len (flat_map (tried_on (origin coding) r) table.lines) (Tried (Some table) rs) (len x) (lines_cover table.lines [] table.lines refl d is r x y w.0 w.1 i))
-      (λ q. covers_right len (flat_map (tried_on (origin coding) r) table.lines) (Tried (Some table) rs) (len x) (table_cover table d is rs x y q i))
-
-  -- What is tried is permitted.
-
-  three_in : (a b k : ℤ) (n : ℤ) → a ≤ℤ b → a ≤ℤ n → n ≤ℤ b → Among k (a ∷ n ∷ b ∷ []) → (a ≤ℤ k) × (k ≤ℤ b)
-  three_in a b k n o l h (inl e) = (omega (arith, ints), omega (arith, ints))
-  three_in a b k n o l h (inr (inl e)) = (rw e l, rw e h)
-  three_in a b k n o l h (inr (inr (inl e))) = (rw e o, omega (arith, ints))
-  three_in a b k n o l h (inr (inr (inr e))) = absurd e
-
-  on_in : (r : ℤ × ℤ) (l : Line) (k : ℤ) → Among k (tried_on (origin coding) r l) → (r.0 ≤ℤ k) × (k ≤ℤ r.1)
-  on_in r l k h = by (int_le (int_max r.0 l.0) (int_min r.1 l.1)) refl h
-    where
-      low : ℤ
-      low = int_max r.0 l.0
-
-      high : ℤ
-      high = int_min r.1 l.1
-
-      by : (t : Bool) → int_le (int_max r.0 l.0) (int_min r.1 l.1) ≡ t → Among k (if t then low ∷ nearest_key (origin coding) l low high ∷ high ∷ [] else []) → (r.0 ≤ℤ k) × (k ≤ℤ r.1)
-      by true e q =
-          let order = le_fact low high e in
-          let near = near_between (origin coding) (image_on l low, image_on l high) (keeps low high l.2 l.0 order) in
-          let key = key_between low high l.2 l.0 (nearest (origin coding) (image_on l low, image_on l high)) near.0 near.1 in
-          let w = three_in low high k (nearest_key (origin coding) l low high) order key.0 key.1 q in
-          (max_left r.0 l.0 k w.0, min_left r.1 l.1 k w.1)
-      by false e q = absurd q
-
-  lines_in : (r : ℤ × ℤ) (ls : List Line) (k : ℤ) → Among k (flat_map (tried_on (origin coding) r) ls) → (r.0 ≤ℤ k) × (k ≤ℤ r.1)
-  lines_in r [] k h = absurd h
-  lines_in r (l ∷ ls) k h = among_either {F = (r.0 ≤ℤ k) × (k ≤ℤ r.1)} k (tried_on (origin coding) r l) (flat_map (tried_on (origin coding) r) ls) h (on_in r l k) (lines_in r ls k)
-
-  tried_in : (table : Option Table) (rs : List (ℤ × ℤ)) → Ordered rs → (k : ℤ) → Among k (Tried table rs) → has rs k ≡ true
-  tried_in None [] o k h = absurd h
-  tried_in (Some table) [] o k h = absurd h
-  tried_in None (r ∷ rs) o k h = among_either {F = has (r ∷ rs) k ≡ true} k (r.0 ∷ nearest (origin coding) r ∷ r.1 ∷ []) (Tried None rs) h
-      (λ q. let n = near_between (origin coding) r o.0 in let w = three_in r.0 r.1 k (nearest (origin coding) r) o.0 n.0 n.1 q in or_left (int_le r.0 k && int_le k r.1) (has rs k) (in_range r.0 r.1 k w.0 w.1))
-      (λ q. or_right (int_le r.0 k && int_le k r.1) (has rs k) (tried_in None rs o.1 k q))
-  tried_in (Some table) (r ∷ rs) o k h = among_either {F = has (r ∷ rs) k ≡ true} k (flat_map (tried_on (origin coding) r) table.lines) (Tried (Some table) rs) h
-      (λ q. let w = lines_in r table.lines k q in or_left (int_le r.0 k && int_le k r.1) (has rs k) (in_range r.0 r.1 k w.0 w.1))
-      (λ q. or_right (int_le r.0 k && int_le k r.1) (has rs k) (tried_in (Some table) rs o.1 k q))
-
--- The least of those with one length is permitted too, and has that length.
-
-record Keeps (leaf : NumLeaf) (best x : ℤ) : Type 0 where
-  there : In leaf.set x
-  alike : num_length leaf x ≡ num_length leaf best
-
-lesser_keeps : (leaf : NumLeaf) (x best : ℤ) → In leaf.set best → Keeps leaf best (lesser leaf x best)
-lesser_keeps leaf x best h = by (has leaf.set x && (nat_eq (num_length leaf x) (num_length leaf best) && int_lt x best)) refl
-  where
-    by : (t : Bool) → (has leaf.set x && (nat_eq (num_length leaf x) (num_length leaf best) && int_lt x best)) ≡ t → Keeps leaf best (if t then x else best)
-    by true e =
-        let a = and_parts (has leaf.set x) (nat_eq (num_length leaf x) (num_length leaf best) && int_lt x best) e in
-        let b = and_parts (nat_eq (num_length leaf x) (num_length leaf best)) (int_lt x best) a.1 in
-        record { there = a.0; alike = eqb-true (num_length leaf x) (num_length leaf best) b.0 }
-    by false e = record { there = h; alike = refl }
-
-least_keeps : (leaf : NumLeaf) (best : ℤ) (xs : List ℤ) → In leaf.set best → Keeps leaf best (least_of leaf best xs)
-least_keeps leaf best [] h = record { there = h; alike = refl }
-least_keeps leaf best (x ∷ xs) h =
-    let one = lesser_keeps leaf x best h in
-    let two = least_keeps leaf (lesser leaf x best) xs one.there in
-    record { there = two.there; alike = two.alike ∙ one.alike }
+    none : (b : Bool) → (b && false) ≡ true → ⊥
+    none true h = cc
+    none false h = cc
+set_there Null coding items table [] h o = cc
+set_there kind coding items table (r ∷ rs) h o = or_left (int_le r.0 r.0 && int_le r.0 r.1) (has rs r.0) (in_range r.0 r.1 r.0 (self r.0) o.1)
 
 -- Leaves that keep their rules.
 
-is_integer : (kind : NumKind) (coding : NumCoding) → Varies coding → takes kind coding ≡ true → kind ≡ Integer
-is_integer kind (CountedFrom low) v t = counted_kind kind (CountedFrom low) t refl refl refl
-is_integer kind CountedSigned v t = counted_kind kind CountedSigned t refl refl refl
-is_integer kind BcdEnded v t = counted_kind kind BcdEnded t refl refl refl
-is_integer kind (AsciiEnded end signed) v t = counted_kind kind (AsciiEnded end signed) t refl refl refl
-is_integer kind (Range low width) v t = absurd v
-is_integer kind (PosInt n) v t = absurd v
-is_integer kind (Twos n) v t = absurd v
-is_integer kind (Bcd n) v t = absurd v
-is_integer kind (Ascii n signed) v t = absurd v
-is_integer kind (Flag p q) v t = absurd v
-is_integer kind (Fixed pattern) v t = absurd v
-
-no_values_in : (kind : NumKind) (coding : NumCoding) (items : Items) (table : Option Table) (set : List (ℤ × ℤ)) → kind ≡ Integer → set_fine kind coding items table set ≡ true → items.values ≡ false
-no_values_in Integer coding items table set k h = no_values items (and_parts (integer_set_fine coding (ends set)) (no_items items) (and_parts (are_ranges set) (integer_set_fine coding (ends set) && no_items items) h).1).1
-no_values_in Boolean coding items table set k h = cc
-no_values_in Enumerated coding items table set k h = cc
-no_values_in Null coding items table set k h = cc
-
-no_set : (leaf : NumLeaf) (kind : NumKind) → set_fine kind leaf.coding leaf.items leaf.table [] ≡ true → ⊥
-no_set leaf Integer h = (let e = int_ends leaf.coding None (and_parts (integer_set_fine leaf.coding None) (no_items leaf.items) (and_parts (are_ranges []) (integer_set_fine leaf.coding None && no_items leaf.items) h).1).0 in let n = e.1 in absurd (apart e.0 n))
-  where
-    apart : (e : ℤ × ℤ) → None ≡ Some e → ⊥
-    apart e n = cc
-no_set leaf Boolean h = cc
-no_set leaf Null h = cc
-no_set leaf Enumerated h = (let f = and_parts (nat_lt 0 (length leaf.items.items)) (is_range (pos 0) (pos (length leaf.items.items - 1)) [] && items_fine leaf.coding leaf.items) h in absurd (apart f.1))
-  where
-    apart : false ≡ true → ⊥
-    apart e = cc
-
 module _ (leaf : NumLeaf) (fine : IsTrue (num_fine leaf)) where
-  ordered : Ordered leaf.set
-  ordered = set_ordered leaf.kind leaf.coding leaf.items leaf.table leaf.set (rules_of leaf fine).set
-
-  image_is : Varies leaf.coding → (x : ℤ) → image_of leaf x ≡ image_by leaf.table x
-  image_is v x = ap (λ (b : Bool). if b then item_number leaf.items.items x else image_by leaf.table x) (no_values_in leaf.kind leaf.coding leaf.items leaf.table leaf.set (is_integer leaf.kind leaf.coding v (rules_of leaf fine).kind) (rules_of leaf fine).set)
-
-  length_is : Varies leaf.coding → (x y : ℤ) → image_by leaf.table x ≡ Some y → num_length leaf x ≡ coding_length leaf.coding y
-  length_is v x y e = ap (λ o. coding_length leaf.coding (unwrap_or o (pos 0))) (image_is v x ∙ e)
-
-  lines_differ : (table : Table) → table_fine leaf.coding leaf.set (Some table) ≡ true → all_differ share table.lines ≡ true
-  lines_differ table h =
-      let a = and_parts (has_size leaf.coding) (list_all line_fine table.lines && (all_differ share table.lines && nat_eq (count (images_by (Some table) leaf.set)) (count leaf.set))) h in
-      let b = and_parts (list_all line_fine table.lines) (all_differ share table.lines && nat_eq (count (images_by (Some table) leaf.set)) (count leaf.set)) a.1 in
-      (and_parts (all_differ share table.lines) (nat_eq (count (images_by (Some table) leaf.set)) (count leaf.set)) b.1).0
-
-  covered : Varies leaf.coding → (x : ℤ) → In leaf.set x → Covers (num_length leaf) (tried_by (origin leaf.coding) leaf.table leaf.set) (num_length leaf x)
-  covered v x h = by leaf.table refl
-    where
-      image : (y : ℤ) × (image_of leaf x ≡ Some y)
-      image = has_image leaf fine x h
-
-      by : (t : Option Table) → leaf.table ≡ t → Covers (num_length leaf) (tried_by (origin leaf.coding) t leaf.set) (num_length leaf x)
-      by None e = plain_cover leaf.coding v (num_length leaf) (λ k. length_is v k k (ap (λ t. image_by t k) e)) leaf.set x h
-      by (Some table) e = table_cover leaf.coding v (num_length leaf) table (lines_differ table (ap (table_fine leaf.coding leaf.set) (sym e) ∙ (rules_of leaf fine).table))
-          (λ k y i. length_is v k y (ap (λ t. image_by t k) e ∙ i)) leaf.set x image.0 h (ap (λ t. image_by t x) (sym e) ∙ sym (image_is v x) ∙ image.1)
+  pub rises : Rises (least leaf.set) leaf.set
+  rises = set_rises leaf.kind leaf.coding leaf.items leaf.table leaf.set (rules_of leaf fine).set
 
   pub least_in : In leaf.set (least leaf.set)
-  least_in = by leaf.set ordered (λ n. no_set leaf leaf.kind (ap (set_fine leaf.kind leaf.coding leaf.items leaf.table) (sym n) ∙ (rules_of leaf fine).set))
-    where
-      by : (set : List (ℤ × ℤ)) → Ordered set → (set ≡ [] → ⊥) → In set (least set)
-      by [] o f = absurd (f refl)
-      by (r ∷ rs) o f = or_left (int_le r.0 r.0 && int_le r.0 r.1) (has rs r.0) (in_range r.0 r.1 r.0 (self r.0) o.0)
-        where
-          self : (x : ℤ) → x ≤ℤ x
-          self x = omega (arith, ints)
+  least_in = set_there leaf.kind leaf.coding leaf.items leaf.table leaf.set (rules_of leaf fine).set rises
 
-  picked_permitted : (side : Side) → None ≡ fixed_width leaf.coding → In leaf.set (picked_of side leaf)
-  picked_permitted side e = picked (num_length leaf) side (In leaf.set) (least leaf.set) (tried_by (origin leaf.coding) leaf.table leaf.set) least_in (tried_in leaf.coding (varies_if leaf.coding e) (num_length leaf) leaf.table leaf.set ordered)
+  permitted_there : (y : ℤ) → (y ≡ least leaf.set) ⊎ Among y (numbers_of leaf.set) → In leaf.set y
+  permitted_there y (inl e) = ap (has leaf.set) e ∙ least_in
+  permitted_there y (inr h) = numbers_in (least leaf.set) leaf.set rises y h
+
+  -- it is the best number
+  pub best_number : (side : Side) → IsBestNumber side leaf (number_at side leaf)
+  unfolding number_at
+  best_number side =
+      let found = pick_foremost (num_length leaf) side (λ y. y ≡ least leaf.set) (least leaf.set) (least leaf.set) (numbers_of leaf.set) (alone (num_length leaf) side (least leaf.set)) (self (least leaf.set)) (numbers_ascend (least leaf.set) leaf.set rises) in
+      record {
+        permitted = permitted_there _ found.there;
+        extreme = λ y h. found.extreme y (inr (numbers_have (least leaf.set) leaf.set rises y h));
+        least = λ y h e. found.least y (inr (numbers_have (least leaf.set) leaf.set rises y h)) e;
+      }
 
   -- the number is permitted
   pub number_permitted : (side : Side) → In leaf.set (number_at side leaf)
-  number_permitted side = by (fixed_width leaf.coding) refl
-    where
-      by : (o : Option ℕ) → o ≡ fixed_width leaf.coding → In leaf.set (number_by o side leaf)
-      by (Some w) e = least_in
-      by None e = (least_keeps leaf (picked_of side leaf) (firsts_by (origin leaf.coding) leaf.table leaf.set (steps leaf.coding)) (picked_permitted side e)).there
+  number_permitted side = (best_number side).permitted
 
   -- no code is shorter than that of the one, and none longer than that of the other
   pub lengths_between : (x : ℤ) → In leaf.set x → (num_length leaf (number_at Shortest leaf) ≤ num_length leaf x) × (num_length leaf x ≤ num_length leaf (number_at Longest leaf))
-  lengths_between x h = by (fixed_width leaf.coding) refl
+  lengths_between x h = (low ((best_number Shortest).extreme x h), high ((best_number Longest).extreme x h))
     where
-      by : (o : Option ℕ) → o ≡ fixed_width leaf.coding → (num_length leaf (number_by o Shortest leaf) ≤ num_length leaf x) × (num_length leaf x ≤ num_length leaf (number_by o Longest leaf))
-      by (Some w) e =
-          let one = fixed_is leaf.coding w (unwrap_or (image_of leaf x) (pos 0)) e in
-          let two = fixed_is leaf.coding w (unwrap_or (image_of leaf (least leaf.set)) (pos 0)) e in
-          (omega arith, omega arith)
-      by None e =
-          let c = covered (varies_if leaf.coding e) x h in
-          let low = each_short (num_length leaf) (least leaf.set) (tried_by (origin leaf.coding) leaf.table leaf.set) c.low c.low_there in
-          let high = each_long (num_length leaf) (least leaf.set) (tried_by (origin leaf.coding) leaf.table leaf.set) c.high c.high_there in
-          let a = c.shorter in
-          let b = c.longer in
-          let firsts = firsts_by (origin leaf.coding) leaf.table leaf.set (steps leaf.coding) in
-          let short = (least_keeps leaf (picked_of Shortest leaf) firsts (picked_permitted Shortest e)).alike in
-          let long = (least_keeps leaf (picked_of Longest leaf) firsts (picked_permitted Longest e)).alike in
-          (omega arith, omega arith)
+      low : nat_lt (num_length leaf x) (num_length leaf (number_at Shortest leaf)) ≡ false → num_length leaf (number_at Shortest leaf) ≤ num_length leaf x
+      low e = grind (arith, nat_tests, e)
+
+      high : nat_lt (num_length leaf (number_at Longest leaf)) (num_length leaf x) ≡ false → num_length leaf x ≤ num_length leaf (number_at Longest leaf)
+      high e = grind (arith, nat_tests, e)
+
+  -- no other is
+  pub one_best : (side : Side) (x : ℤ) → IsBestNumber side leaf x → x ≡ number_at side leaf
+  one_best side x is =
+      let best = best_number side in
+      let same = alike side (num_length leaf x) (num_length leaf (number_at side leaf)) (best.extreme x is.permitted) (is.extreme (number_at side leaf) best.permitted) in
+      let low = is.least (number_at side leaf) best.permitted (sym same) in
+      let high = best.least x is.permitted same in
+      omega (arith, ints)

@@ -5,7 +5,8 @@ mod BestReach
 mod BestSettled
 mod BestWritten
 mod Chosen
-mod Codes
+-- for acn_extreme_numbers
+pub mod Codes
 mod Finding
 mod Homed
 mod Numbers

@@ -1,16 +1,8 @@
--- Numbers of a leaf that have a shortest and a longest code: what is tried are the ends of the ranges and what is nearest to where
--- codes grow from, by lines of the table where there is one. Of the numbers with a code of that length the least serves: the first of
--- a range or of a line, or one whose code has another length than that of the number before it. (This profile's own.)
-use Rattle.std.specs.Prelude.{ℕ, ℤ, pos, negsuc, ◌+ℤ◌, ◌-ℤ◌, int_le, int_lt, nat_lt, nat_eq, ◌&&◌, Bool, List, [], ◌∷◌, ◌++◌, map, Option, Some, None, if◌then◌else◌}
-use Rattle.std.specs.Int.{int_max, int_min}
-use Rattle.std.specs.List.{flat_map}
-use Rattle.acn_num.specs.Ranges.{Ranges, has}
-use Rattle.acn_grammar.specs.Interval.{fixed_width, nearest, origin}
+-- The number of a leaf that has a shortest code, or a longest; of several the least. (This profile's own.)
+use Rattle.std.specs.Prelude.{◌≡◌, ◌≤ℤ◌, ℕ, zero, suc, ℤ, pos, ◌+ℤ◌, nat_lt, Bool, false, List, [], ◌∷◌, ◌++◌, if◌then◌else◌}
+use Rattle.acn_num.specs.Ranges.{Ranges, In, size_of}
 use Rattle.acn_grammar.specs.Length.{least, num_length}
-use Rattle.acn_grammar.specs.declared.node.NumCoding.{NumCoding}
-use Rattle.acn_grammar.specs.declared.node.NumCoding.TheVariants.{Range, CountedFrom, CountedSigned, PosInt, Twos, Bcd, BcdEnded, Ascii, AsciiEnded, Flag, Fixed}
 use Rattle.acn_grammar.specs.declared.node.NumLeaf.{NumLeaf}
-use Rattle.acn_grammar.specs.declared.node.Table.{Table}
 use Rattle.acn_extreme_laws.specs.declared.side.Side.{Side}
 use Rattle.acn_extreme_laws.specs.declared.side.Side.TheVariants.{Shortest, Longest}
 
@@ -19,69 +11,29 @@ abbrev pub ahead : Side → ℕ → ℕ → Bool
 ahead Shortest a b = nat_lt a b
 ahead Longest a b = nat_lt b a
 
--- the image of a key of a line
-abbrev pub image_on : (ℤ × ℤ × ℤ) → ℤ → ℤ
-image_on line x = line.2 +ℤ (x -ℤ line.0)
+-- it is permitted, no permitted number has a code whose length is nearer to this side, and of those with a code of its length it is the least
+pub record IsBestNumber (side : Side) (leaf : NumLeaf) (x : ℤ) : Type 0 where
+  pub permitted : In leaf.set x
+  pub extreme : (y : ℤ) → In leaf.set y → ahead side (num_length leaf y) (num_length leaf x) ≡ false
+  pub least : (y : ℤ) → In leaf.set y → num_length leaf y ≡ num_length leaf x → x ≤ℤ y
 
--- the key on a line between two others whose image is nearest to a number
-abbrev pub nearest_key : ℤ → (ℤ × ℤ × ℤ) → (low high : ℤ) → ℤ
-nearest_key x line low high = line.0 +ℤ (nearest x (image_on line low, image_on line high) -ℤ line.2)
+-- The same as a function.
 
-abbrev pub tried_on : ℤ → ℤ × ℤ → (ℤ × ℤ × ℤ) → List ℤ
-tried_on x r line =
-    let low = int_max r.0 line.0 in
-    let high = int_min r.1 line.1 in
-    if int_le low high then low ∷ nearest_key x line low high ∷ high ∷ [] else []
-
-abbrev pub tried_by : ℤ → Option Table → Ranges → List ℤ
-tried_by x None rs = flat_map (λ r. r.0 ∷ nearest x r ∷ r.1 ∷ []) rs
-tried_by x (Some table) rs = flat_map (λ r. flat_map (tried_on x r) table.lines) rs
-
+-- the first of these with a length that none is nearer to this side than
 abbrev pub pick : (ℤ → ℕ) → Side → (best : ℤ) → List ℤ → ℤ
 pick len side best [] = best
 pick len side best (x ∷ xs) = pick len side (if ahead side (len x) (len best) then x else best) xs
 
--- The least of the numbers whose codes have one length.
+-- so many numbers, from this one on
+abbrev pub numbers_from : ℤ → ℕ → List ℤ
+numbers_from x zero = []
+numbers_from x (suc n) = x ∷ numbers_from (x +ℤ pos 1) n
 
--- the numbers that have another count of digits than the numbers before them
-abbrev pub digit_steps : List ℤ
-digit_steps = negsuc 999999999999999998 ∷ negsuc 99999999999999998 ∷ negsuc 9999999999999998 ∷ negsuc 999999999999998 ∷ negsuc 99999999999998 ∷ negsuc 9999999999998 ∷ negsuc 999999999998 ∷ negsuc 99999999998 ∷ negsuc 9999999998 ∷ negsuc 999999998 ∷ negsuc 99999998 ∷ negsuc 9999998 ∷ negsuc 999998 ∷ negsuc 99998 ∷ negsuc 9998 ∷ negsuc 998 ∷ negsuc 98 ∷ negsuc 8 ∷ pos 10 ∷ pos 100 ∷ pos 1000 ∷ pos 10000 ∷ pos 100000 ∷ pos 1000000 ∷ pos 10000000 ∷ pos 100000000 ∷ pos 1000000000 ∷ pos 10000000000 ∷ pos 100000000000 ∷ pos 1000000000000 ∷ pos 10000000000000 ∷ pos 100000000000000 ∷ pos 1000000000000000 ∷ pos 10000000000000000 ∷ pos 100000000000000000 ∷ pos 1000000000000000000 ∷ pos 10000000000000000000 ∷ []
+-- all numbers of ranges
+abbrev pub numbers_of : Ranges → List ℤ
+numbers_of [] = []
+numbers_of (r ∷ rs) = numbers_from r.0 (size_of r) ++ numbers_of rs
 
--- how far from the origin numbers lie whose codes have other lengths than those of the numbers before them
-abbrev pub steps : NumCoding → List ℤ
-steps (CountedFrom low) = pos 256 ∷ pos 65536 ∷ pos 16777216 ∷ pos 4294967296 ∷ pos 1099511627776 ∷ pos 281474976710656 ∷ pos 72057594037927936 ∷ []
-steps CountedSigned = negsuc 36028797018963967 ∷ negsuc 140737488355327 ∷ negsuc 549755813887 ∷ negsuc 2147483647 ∷ negsuc 8388607 ∷ negsuc 32767 ∷ negsuc 127 ∷ pos 128 ∷ pos 32768 ∷ pos 8388608 ∷ pos 2147483648 ∷ pos 549755813888 ∷ pos 140737488355328 ∷ pos 36028797018963968 ∷ []
-steps BcdEnded = digit_steps
-steps (AsciiEnded end signed) = digit_steps
-steps _ = []
-
--- the keys whose images are these, where the one key has the one image
-abbrev pub keys_from : (key image : ℤ) → List ℤ → List ℤ
-keys_from key image ys = map (λ y. key +ℤ (y -ℤ image)) ys
-
-abbrev pub line_keys : List ℤ → (ℤ × ℤ × ℤ) → List ℤ
-line_keys ys line = line.0 ∷ keys_from line.0 line.2 ys
-
-abbrev pub firsts_by : ℤ → Option Table → Ranges → List ℤ → List ℤ
-firsts_by x None rs ys = keys_from x (pos 0) ys
-firsts_by x (Some table) rs ys = map (λ r. r.0) rs ++ flat_map (line_keys ys) table.lines
-
--- the lesser, where it is permitted and its code has the same length
-abbrev pub lesser : NumLeaf → (x best : ℤ) → ℤ
-lesser leaf x best = if has leaf.set x && (nat_eq (num_length leaf x) (num_length leaf best) && int_lt x best) then x else best
-
-abbrev pub least_of : NumLeaf → (best : ℤ) → List ℤ → ℤ
-least_of leaf best [] = best
-least_of leaf best (x ∷ xs) = least_of leaf (lesser leaf x best) xs
-
-abbrev pub picked_of : Side → NumLeaf → ℤ
-picked_of side leaf = pick (num_length leaf) side (least leaf.set) (tried_by (origin leaf.coding) leaf.table leaf.set)
-
--- where all codes have one width the least number serves
-abbrev pub number_by : Option ℕ → Side → NumLeaf → ℤ
-number_by (Some width) side leaf = least leaf.set
-number_by None side leaf = least_of leaf (picked_of side leaf) (firsts_by (origin leaf.coding) leaf.table leaf.set (steps leaf.coding))
-
--- a number of the leaf whose code is a shortest, or a longest
-abbrev pub number_at : Side → NumLeaf → ℤ
-number_at side leaf = number_by (fixed_width leaf.coding) side leaf
+-- the first of all permitted numbers, from the least on, that has a shortest code, or a longest
+unfoldable pub number_at : Side → NumLeaf → ℤ
+number_at side leaf = pick (num_length leaf) side (least leaf.set) (numbers_of leaf.set)

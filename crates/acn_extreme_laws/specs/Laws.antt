@@ -1,11 +1,14 @@
 -- Laws of the definitions, as contracts name them.
-use Rattle.std.specs.Prelude.{◌≡◌, ℕ, ◌≤◌, true, Bool, List, [], length, Option, Some, None}
+use Rattle.std.specs.Prelude.{◌≡◌, ℕ, ◌≤◌, true, Bool, IsTrue, List, [], length, Option, Some, None}
 use Rattle.acn_grammar.specs.Code.{Mode}
 use Rattle.acn_grammar.specs.Grammar.{Grammar, Fields, Data, node, seq}
 use Rattle.acn_grammar.specs.Spell.{Spell}
 use Rattle.acn_grammar.specs.Tree.{holds}
 use Rattle.acn_grammar.specs.declared.bounds.Bounds.{Bounds}
+use Rattle.acn_grammar.specs.Leaves.{num_fine}
+use Rattle.acn_grammar.specs.declared.node.NumLeaf.{NumLeaf}
 use Rattle.acn_extreme_laws.specs.Best.{Agree, Way, best}
+use Rattle.acn_extreme_laws.specs.Codes.{IsBestNumber, number_at}
 use Rattle.acn_extreme_laws.specs.declared.side.Side.{Side}
 use Rattle.acn_extreme_laws.specs.Reach.{reach, from_to, tests_can}
 use Rattle.acn_extreme_laws.specs.OneUse.{weight, fields_weight, Settled}
@@ -71,6 +74,10 @@ Ordered (r ∷ rs) = (r.0 ≤ℤ r.1) × Ordered rs
 -- the least and the greatest number of ranges are in them
 abbrev pub EndsAreMembers : Type 0
 EndsAreMembers = (rs : Ranges) (e : ℤ × ℤ) → Ordered rs → ends rs ≡ Some e → (has rs e.0 ≡ true) × (has rs e.1 ≡ true)
+
+-- a best number of a leaf is the one that the walk takes
+abbrev pub OneNumberIsBest : Type 0
+OneNumberIsBest = (leaf : NumLeaf) (side : Side) (x : ℤ) → IsTrue (num_fine leaf) → IsBestNumber side leaf x → x ≡ number_at side leaf
 
 -- Values that can be written.
 

@@ -1,4 +1,4 @@
-ghost use Rattle.acn_extreme_laws.specs.Laws.{BestIsExtreme, BestIsWritten, BestReaches, EndsAreMembers, FirstUnsingleIsFound, MeetableIsWritten, NoBestIsRefused, OneUseIsMeetable, RepeatedTextsHaveNoEnd, SingleIsOneUse, SpellingsLieWithinReach, TestsCanBeMet};
+ghost use Rattle.acn_extreme_laws.specs.Laws.{BestIsExtreme, BestIsWritten, BestReaches, EndsAreMembers, FirstUnsingleIsFound, MeetableIsWritten, NoBestIsRefused, OneNumberIsBest, OneUseIsMeetable, RepeatedTextsHaveNoEnd, SingleIsOneUse, SpellingsLieWithinReach, TestsCanBeMet};
 
 use acn_packet_laws::{
     accepted_is_sound, bounds_hold, each_node_is_sound, each_number_has_a_code,
@@ -38,6 +38,11 @@ pub fn repeated_texts_have_no_end()
 /// The least and the greatest number of ranges are in them.
 pub fn ends_are_members()
     ensures { EndsAreMembers }
+{}
+
+/// A number of a leaf is the one that the walk takes where it is the least of those with a shortest code, or with a longest.
+pub fn one_number_is_best()
+    ensures { OneNumberIsBest }
 {}
 
 /// A value that meets the tree is written where its counts are permitted and what each occurrence asks of its slots can be met.

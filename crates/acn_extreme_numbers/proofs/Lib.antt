@@ -1,3 +1,6 @@
+mod Changes
+mod Covering
+mod Least
 mod Parts
 mod Picking
 mod Stepping

@@ -22,7 +22,8 @@ use Rattle.acn_grammar.proofs.FineLeaves.{rules_of}
 use Rattle.acn_grammar.proofs.HasImage.{set_ordered, Ordered}
 use Rattle.acn_grammar.proofs.RangeEnds.{first_in}
 use Rattle.acn_grammar.proofs.WholeTests.{le_fact, lt_fact, ge_fact, le_test, lt_test}
-use Rattle.acn_extreme_laws.specs.Codes.{pick, ahead, tried_by, tried_on, nearest_key, image_on}
+use Rattle.acn_extreme_laws.specs.Codes.{pick, ahead}
+use Rattle.acn_extreme_numbers.specs.Tries.{tried_by, tried_on, nearest_key, image_on}
 use Rattle.acn_extreme_laws.specs.declared.side.Side.{Side}
 use Rattle.acn_extreme_numbers.specs.Picked.{IsPart, AreParts, picked}
 
@@ -54,7 +55,7 @@ near_in o a b true t f g h k le = (omega (arith, ints), le)
 near_in o a b false true f g h k le = (le, omega (arith, ints))
 near_in o a b false false f g h k le = (g refl, k refl)
 
-near_between : (o : ℤ) (r : ℤ × ℤ) → r.0 ≤ℤ r.1 → (r.0 ≤ℤ nearest o r) × (nearest o r ≤ℤ r.1)
+pub near_between : (o : ℤ) (r : ℤ × ℤ) → r.0 ≤ℤ r.1 → (r.0 ≤ℤ nearest o r) × (nearest o r ≤ℤ r.1)
 near_between o r le = near_in o r.0 r.1 (int_lt o r.0) (int_lt r.1 o) (lt_fact o r.0) (ge_fact o r.0) (lt_fact r.1 o) (ge_fact r.1 o) le
 
 self : (x : ℤ) → x ≤ℤ x
@@ -205,6 +206,7 @@ plain_origin (Flag p q) h = refl
 plain_origin (Fixed pattern) h = refl
 
 pub record Tabled (leaf : NumLeaf) (table : Table) : Type 0 where
+  pub size : has_size leaf.coding ≡ true
   pub lines : list_all line_fine table.lines ≡ true
   pub origin_is : origin leaf.coding ≡ pos 0
 
@@ -213,7 +215,7 @@ tabled leaf table fine e =
     let f = ap (table_fine leaf.coding leaf.set) (sym e) ∙ (rules_of leaf fine).table in
     let a = and_parts (has_size leaf.coding) (list_all line_fine table.lines && (all_differ share table.lines && nat_eq (count (images_by (Some table) leaf.set)) (count leaf.set))) f in
     let b = and_parts (list_all line_fine table.lines) (all_differ share table.lines && nat_eq (count (images_by (Some table) leaf.set)) (count leaf.set)) a.1 in
-    record { lines = b.0; origin_is = plain_origin leaf.coding a.0 }
+    record { size = a.0; lines = b.0; origin_is = plain_origin leaf.coding a.0 }
 
 pub tabled_tried : (leaf : NumLeaf) (table : Table) (lines : List (ℤ × ℤ × ℤ)) (ranges : Ranges) → leaf.table ≡ Some table → origin leaf.coding ≡ pos 0 → lines ≡ table.lines → ranges ≡ leaf.set
     → flat_map (λ r. flat_map (tried_on (pos 0) r) lines) ranges ≡ tried_by (origin leaf.coding) leaf.table leaf.set

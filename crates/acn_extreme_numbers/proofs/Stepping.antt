@@ -1,9 +1,9 @@
 -- The least of the numbers whose codes have one length, a part at a time.
-use Rattle.std.proofs.Common.{◌≡◌, ℕ, ◌^◌, ℤ, pos, neg_ℤ, true, ◌&&◌, ◌||◌, List, [], ◌∷◌, ◌++◌, Option, Some, refl, sym, ap, ◌∙◌, arith, IsTrue, length, get_or, drop, ◌<◌, ◌+◌}
+use Rattle.std.proofs.Common.{◌≡◌, ℕ, ◌^◌, ℤ, pos, neg_ℤ, true, ◌&&◌, ◌||◌, List, [], ◌∷◌, ◌++◌, Option, Some, refl, sym, ap, ◌∙◌, arith, IsTrue, length, get_or, drop, subst, ◌<◌, ◌+◌}
 use Rattle.std.proofs.lemmas.Bool.{and_parts}
 use Rattle.std.proofs.lemmas.Int.{ints}
 use Rattle.std.proofs.lemmas.List.{drop_more}
-use Rattle.std.specs.Prelude.{◌<ℤ◌, int_le, int_lt, map, if◌then◌else◌}
+use Rattle.std.specs.Prelude.{◌<ℤ◌, ◌≤ℤ◌, int_le, int_lt, map, if◌then◌else◌}
 use Rattle.std.specs.List.{flat_map, list_all}
 use Rattle.acn_num.specs.Ranges.{Ranges, has}
 use Rattle.acn_grammar.specs.Images.{images_by, ends}
@@ -20,7 +20,7 @@ use Rattle.acn_grammar.proofs.FineLeaves.{rules_of}
 use Rattle.acn_grammar.proofs.LeafLengths.{counted_kind, int_ends, is_plain, some_ends}
 use Rattle.acn_grammar.proofs.WholeTests.{either, eq_fact, le_fact, lt_fact}
 use Rattle.acn_grammar.proofs.Within.{ends-has}
-use Rattle.acn_extreme_laws.specs.Codes.{steps, line_keys, firsts_by, lesser, least_of}
+use Rattle.acn_extreme_numbers.specs.Tries.{steps, line_keys, firsts_by, lesser, least_of}
 use Rattle.acn_extreme_numbers.proofs.Picking.{least_in, is_number_from}
 
 least-append : (leaf : NumLeaf) (best : ℤ) (xs ys : List ℤ) → least_of leaf best (xs ++ ys) ≡ least_of leaf (least_of leaf best xs) ys
@@ -61,6 +61,31 @@ below_top low high h = either {F = high <ℤ pos (2 ^ 64)} (int_lt high (pos (2 
 
 some_one : (x y : ℤ × ℤ) → Some x ≡ Some y → x ≡ y
 some_one x y e = cc
+
+-- numbers that are counted from a number aren't below it
+low_by : (low : ℤ) (kind : NumKind) (items : Items) (table : Option Table) (set : List (ℤ × ℤ)) → takes kind (CountedFrom low) ≡ true → set_fine kind (CountedFrom low) items table set ≡ true → table_fine (CountedFrom low) set table ≡ true
+    → can_write_all (CountedFrom low) (ends (if items.values then map (λ named. (named.1, named.1)) items.items else images_by table set)) ≡ true → (x : ℤ) → has set x ≡ true → low ≤ℤ x
+low_by low kind items table set t s f w x h =
+    let p = is_plain kind (CountedFrom low) items table set (counted_kind kind (CountedFrom low) t refl refl refl) refl s f in
+    let e = int_ends (CountedFrom low) (ends set) p.2 in
+    let all : ends (if items.values then map (λ named. (named.1, named.1)) items.items else images_by table set) ≡ ends set = rw (p.0, p.1) in
+    let v = some_ends (CountedFrom low) (ends (if items.values then map (λ named. (named.1, named.1)) items.items else images_by table set)) w in
+    let pair : v.0 ≡ e.0 = some_one v.0 e.0 (sym v.1 ∙ (all ∙ e.1)) in
+    let first : low ≡ e.0.0 = eq_fact low v.0.0 v.2 ∙ ap (λ z. z.0) pair in
+    let inside = ends-has set x e.0 h e.1 in
+    let c = inside.0 in
+    omega (arith, ints)
+
+pub counted_low : (leaf : NumLeaf) → IsTrue (num_fine leaf) → (low : ℤ) → leaf.coding ≡ CountedFrom low → (x : ℤ) → has leaf.set x ≡ true → low ≤ℤ x
+counted_low leaf fine low is =
+    let r = rules_of leaf fine in
+    by leaf.coding is r.kind r.set r.table r.writes
+  where
+    by : (coding : NumCoding) → coding ≡ CountedFrom low → takes leaf.kind coding ≡ true → set_fine leaf.kind coding leaf.items leaf.table leaf.set ≡ true → table_fine coding leaf.set leaf.table ≡ true
+        → can_write_all coding (ends (if leaf.items.values then map (λ named. (named.1, named.1)) leaf.items.items else images_by leaf.table leaf.set)) ≡ true → (x : ℤ) → has leaf.set x ≡ true → low ≤ℤ x
+    by coding e t s f w = subst (λ (c : NumCoding). takes leaf.kind c ≡ true → set_fine leaf.kind c leaf.items leaf.table leaf.set ≡ true → table_fine c leaf.set leaf.table ≡ true
+        → can_write_all c (ends (if leaf.items.values then map (λ named. (named.1, named.1)) leaf.items.items else images_by leaf.table leaf.set)) ≡ true → (x : ℤ) → has leaf.set x ≡ true → low ≤ℤ x) (sym e)
+        (low_by low leaf.kind leaf.items leaf.table leaf.set) t s f w
 
 origin_by : (coding : NumCoding) (kind : NumKind) (items : Items) (table : Option Table) (set : List (ℤ × ℤ)) → takes kind coding ≡ true → set_fine kind coding items table set ≡ true → table_fine coding set table ≡ true
     → can_write_all coding (ends (if items.values then map (λ named. (named.1, named.1)) items.items else images_by table set)) ≡ true → has set (least set) ≡ true → is_number (origin coding) ≡ true

@@ -9,6 +9,7 @@ ghost use Rattle.acn_grammar.specs.Leaves.{num_fine, line_fine, is_number as in_
 ghost use Rattle.acn_grammar.specs.Length.{least, num_length};
 ghost use Rattle.acn_extreme_laws.specs.Codes as codes;
 ghost use Rattle.acn_extreme_numbers.specs.Picked.{IsPart, AreParts, picked};
+ghost use Rattle.acn_extreme_numbers.specs.Tries as tries;
 
 use acn_extreme_laws::Side;
 use acn_ints::code_length;
@@ -178,7 +179,7 @@ fn with_ranges(leaf: &NumLeaf, side: Side, best: Best, ranges: &[(i128, i128)]) 
     requires fine { IsTrue (num_fine leaf.now) }
     requires best { In leaf.now.set best.number }
     requires parts { AreParts leaf.now.set ranges.now }
-    ensures number { result.number ≡ picked leaf.now side best.number (codes.tried_by (spans.origin leaf.now.coding) None ranges.now) }
+    ensures number { result.number ≡ picked leaf.now side best.number (tries.tried_by (spans.origin leaf.now.coding) None ranges.now) }
     ensures permitted { In leaf.now.set result.number }
 {
     let mut so_far = best;
@@ -204,7 +205,7 @@ fn nearest_key(line: &(i128, i128, i128), low: &i128, high: &i128) -> i128
     requires first { line.now.0 ≤ℤ low.now }
     requires order { low.now ≤ℤ high.now }
     requires last { high.now ≤ℤ line.now.1 }
-    ensures { result ≡ codes.nearest_key (pos 0) line.now low.now high.now }
+    ensures { result ≡ tries.nearest_key (pos 0) line.now low.now high.now }
 {
     let least = shifted(&line.2, &line.0, low);
     let greatest = shifted(&line.2, &line.0, high);
@@ -222,7 +223,7 @@ fn with_line(
     requires best { In leaf.now.set best.number }
     requires part { IsPart leaf.now.set range.now }
     requires line { line_fine line.now ≡ true }
-    ensures number { result.number ≡ picked leaf.now side best.number (codes.tried_on (pos 0) range.now line.now) }
+    ensures number { result.number ≡ picked leaf.now side best.number (tries.tried_on (pos 0) range.now line.now) }
     ensures permitted { In leaf.now.set result.number }
 {
     let low = greater(&range.0, &line.0);
@@ -246,7 +247,7 @@ fn with_lines(
     requires best { In leaf.now.set best.number }
     requires part { IsPart leaf.now.set range.now }
     requires lines { list_all line_fine lines.now ≡ true }
-    ensures number { result.number ≡ picked leaf.now side best.number (flat_map (codes.tried_on (pos 0) range.now) lines.now) }
+    ensures number { result.number ≡ picked leaf.now side best.number (flat_map (tries.tried_on (pos 0) range.now) lines.now) }
     ensures permitted { In leaf.now.set result.number }
 {
     let mut so_far = best;
@@ -268,7 +269,7 @@ fn with_images(
     requires best { In leaf.now.set best.number }
     requires parts { AreParts leaf.now.set ranges.now }
     requires lines { list_all line_fine lines.now ≡ true }
-    ensures number { result.number ≡ picked leaf.now side best.number (flat_map (λ r. flat_map (codes.tried_on (pos 0) r) lines.now) ranges.now) }
+    ensures number { result.number ≡ picked leaf.now side best.number (flat_map (λ r. flat_map (tries.tried_on (pos 0) r) lines.now) ranges.now) }
     ensures permitted { In leaf.now.set result.number }
 {
     let mut so_far = best;
@@ -292,7 +293,7 @@ fn least_number(set: &RangeSet) -> i128
 fn with_tried(leaf: &NumLeaf, side: Side, best: Best) -> Best
     requires fine { IsTrue (num_fine leaf.now) }
     requires best { In leaf.now.set best.number }
-    ensures number { result.number ≡ picked leaf.now side best.number (codes.tried_by (spans.origin leaf.now.coding) leaf.now.table leaf.now.set) }
+    ensures number { result.number ≡ picked leaf.now side best.number (tries.tried_by (spans.origin leaf.now.coding) leaf.now.table leaf.now.set) }
     ensures permitted { In leaf.now.set result.number }
 {
     match &leaf.table {
@@ -303,7 +304,7 @@ fn with_tried(leaf: &NumLeaf, side: Side, best: Best) -> Best
 
 // How far from the origin codes get another length.
 fn steps(coding: &NumCoding) -> &'static [i128]
-    ensures steps { result.now ≡ codes.steps coding.now }
+    ensures steps { result.now ≡ tries.steps coding.now }
     ensures numbers { list_all in_numbers result.now ≡ true }
 {
     match coding {
@@ -329,7 +330,7 @@ fn is_lesser(leaf: &NumLeaf, x: &i128, best: &i128) -> bool
 fn lesser(leaf: &NumLeaf, best: Best, x: &i128) -> Best
     requires fine { IsTrue (num_fine leaf.now) }
     requires best { In leaf.now.set best.number }
-    ensures number { result.number ≡ codes.lesser leaf.now x.now best.number }
+    ensures number { result.number ≡ tries.lesser leaf.now x.now best.number }
     ensures permitted { In leaf.now.set result.number }
 {
     if leaf.set.holds(*x) {
@@ -350,7 +351,7 @@ fn with_steps(leaf: &NumLeaf, best: Best, key: &i128, image: &i128, steps: &[i12
     requires key { in_numbers key.now ≡ true }
     requires image { in_numbers image.now ≡ true }
     requires numbers { list_all in_numbers steps.now ≡ true }
-    ensures number { result.number ≡ codes.least_of leaf.now best.number (codes.keys_from key.now image.now steps.now) }
+    ensures number { result.number ≡ tries.least_of leaf.now best.number (tries.keys_from key.now image.now steps.now) }
     ensures permitted { In leaf.now.set result.number }
 {
     let mut so_far = best;
@@ -365,7 +366,7 @@ fn with_steps(leaf: &NumLeaf, best: Best, key: &i128, image: &i128, steps: &[i12
 fn with_lows(leaf: &NumLeaf, best: Best, ranges: &[(i128, i128)]) -> Best
     requires fine { IsTrue (num_fine leaf.now) }
     requires best { In leaf.now.set best.number }
-    ensures number { result.number ≡ codes.least_of leaf.now best.number (map (λ r. r.0) ranges.now) }
+    ensures number { result.number ≡ tries.least_of leaf.now best.number (map (λ r. r.0) ranges.now) }
     ensures permitted { In leaf.now.set result.number }
 {
     let mut so_far = best;
@@ -381,7 +382,7 @@ fn with_line_keys(leaf: &NumLeaf, best: Best, line: &(i128, i128, i128), steps: 
     requires best { In leaf.now.set best.number }
     requires line { line_fine line.now ≡ true }
     requires numbers { list_all in_numbers steps.now ≡ true }
-    ensures number { result.number ≡ codes.least_of leaf.now best.number (codes.line_keys steps.now line.now) }
+    ensures number { result.number ≡ tries.least_of leaf.now best.number (tries.line_keys steps.now line.now) }
     ensures permitted { In leaf.now.set result.number }
 {
     let first = lesser(leaf, best, &line.0);
@@ -393,7 +394,7 @@ fn with_keys(leaf: &NumLeaf, best: Best, lines: &[(i128, i128, i128)], steps: &[
     requires best { In leaf.now.set best.number }
     requires lines { list_all line_fine lines.now ≡ true }
     requires numbers { list_all in_numbers steps.now ≡ true }
-    ensures number { result.number ≡ codes.least_of leaf.now best.number (flat_map (codes.line_keys steps.now) lines.now) }
+    ensures number { result.number ≡ tries.least_of leaf.now best.number (flat_map (tries.line_keys steps.now) lines.now) }
     ensures permitted { In leaf.now.set result.number }
 {
     let mut so_far = best;
@@ -407,7 +408,7 @@ fn with_keys(leaf: &NumLeaf, best: Best, lines: &[(i128, i128, i128)], steps: &[
 fn least_alike(leaf: &NumLeaf, best: Best) -> Best
     requires fine { IsTrue (num_fine leaf.now) }
     requires best { In leaf.now.set best.number }
-    ensures number { result.number ≡ codes.least_of leaf.now best.number (codes.firsts_by (spans.origin leaf.now.coding) leaf.now.table leaf.now.set (codes.steps leaf.now.coding)) }
+    ensures number { result.number ≡ tries.least_of leaf.now best.number (tries.firsts_of leaf.now) }
     ensures permitted { In leaf.now.set result.number }
 {
     let steps = steps(&leaf.coding);
@@ -423,8 +424,7 @@ fn least_alike(leaf: &NumLeaf, best: Best) -> Best
 /// The least number of the leaf with a shortest code, or with a longest.
 pub fn number_at(side: Side, leaf: &NumLeaf) -> i128
     requires { IsTrue (num_fine leaf.now) }
-    ensures number { result ≡ codes.number_at side leaf.now }
-    ensures permitted { In leaf.now.set result }
+    ensures { codes.IsBestNumber side leaf.now result }
 {
     let least = Best {
         number: least_number(&leaf.set),

@@ -14,7 +14,7 @@ ghost use Rattle.acn_extremes.specs.Ways.{AreSizes, ends_of as ends_told, value_
 use crate::characters::character_by;
 use crate::slots::met_with;
 use crate::ways::{SizeEnds, Way, behind, behind_parts};
-use acn_extreme_laws::Side;
+use acn_extreme_laws::{Side, one_number_is_best};
 use acn_extreme_numbers::number_at;
 use acn_ints::code_length;
 use acn_num::{NoMemory, RangeSet, Row};
@@ -77,6 +77,7 @@ pub fn best_number(
     requires { IsTrue (num_fine leaf.now) }
     ensures { IfOk result (λ w. Some (value_way w) ≡ best.form_best (grammar_of slots.now.root.now) side (num leaf.now) at) }
 {
+    one_number_is_best();
     let x = number_at(side, leaf);
     let length = code_length(leaf, x);
     Ok(Way {

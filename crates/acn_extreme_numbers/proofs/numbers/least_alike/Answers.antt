@@ -2,7 +2,7 @@ use Rattle.std.proofs.Common.{ℤ, ap, ◌∙◌}
 use Rattle.std.specs.Prelude.{map}
 use Rattle.std.specs.List.{flat_map, list_all}
 use Rattle.acn_grammar.specs.Leaves.{line_fine}
-use Rattle.acn_extreme_laws.specs.Codes.{line_keys, least_of}
+use Rattle.acn_extreme_numbers.specs.Tries.{line_keys, least_of}
 use Rattle.acn_extreme_numbers.proofs.Picking.{tabled}
 use Rattle.acn_extreme_numbers.proofs.Stepping.{firsts_are, least_both, origin_is_number}
 use Rattle.acn_extreme_numbers.proofs.numbers.least_alike.Goals as goal

@@ -1,7 +1,7 @@
 use Rattle.std.proofs.Common.{ℤ}
 use Rattle.std.specs.Prelude.{pos}
 use Rattle.std.specs.List.{flat_map}
-use Rattle.acn_extreme_laws.specs.Codes.{tried_on}
+use Rattle.acn_extreme_numbers.specs.Tries.{tried_on}
 use Rattle.acn_extreme_numbers.proofs.Picking.{picked_turn, parts_turn}
 use Rattle.acn_extreme_numbers.proofs.numbers.with_images.Goals as goal
 

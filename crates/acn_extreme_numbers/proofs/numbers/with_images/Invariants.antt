@@ -2,7 +2,7 @@ use Rattle.std.proofs.Common.{◌≡◌, drop}
 use Rattle.std.specs.Prelude.{pos}
 use Rattle.std.specs.List.{flat_map}
 use Rattle.acn_num.specs.Ranges.{In}
-use Rattle.acn_extreme_laws.specs.Codes.{tried_on}
+use Rattle.acn_extreme_numbers.specs.Tries.{tried_on}
 use Rattle.acn_extreme_numbers.specs.Picked.{AreParts, picked}
 use Rattle.acn_extreme_numbers.proofs.numbers.with_images.Given as goal
 

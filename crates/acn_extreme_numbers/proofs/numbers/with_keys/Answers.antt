@@ -1,5 +1,5 @@
 use Rattle.std.specs.Prelude.{pos}
-use Rattle.acn_extreme_laws.specs.Codes.{line_keys}
+use Rattle.acn_extreme_numbers.specs.Tries.{line_keys}
 use Rattle.acn_extreme_numbers.proofs.Picking.{fine_turn}
 use Rattle.acn_extreme_numbers.proofs.Stepping.{least_parts_turn}
 use Rattle.acn_extreme_numbers.proofs.numbers.with_keys.Goals as goal

@@ -2,7 +2,7 @@ use Rattle.std.proofs.Common.{◌≡◌, true, drop}
 use Rattle.std.specs.List.{flat_map, list_all}
 use Rattle.acn_num.specs.Ranges.{In}
 use Rattle.acn_grammar.specs.Leaves.{line_fine}
-use Rattle.acn_extreme_laws.specs.Codes.{line_keys, least_of}
+use Rattle.acn_extreme_numbers.specs.Tries.{line_keys, least_of}
 use Rattle.acn_extreme_numbers.proofs.numbers.with_keys.Given as goal
 
 abbrev pub invariant-loop-line : goal.invariant-loop-line

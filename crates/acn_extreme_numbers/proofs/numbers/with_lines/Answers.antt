@@ -1,5 +1,5 @@
 use Rattle.std.specs.Prelude.{pos}
-use Rattle.acn_extreme_laws.specs.Codes.{tried_on}
+use Rattle.acn_extreme_numbers.specs.Tries.{tried_on}
 use Rattle.acn_extreme_numbers.proofs.Picking.{picked_turn, fine_turn}
 use Rattle.acn_extreme_numbers.proofs.numbers.with_lines.Goals as goal
 

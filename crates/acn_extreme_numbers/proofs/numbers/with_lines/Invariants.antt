@@ -3,7 +3,7 @@ use Rattle.std.specs.Prelude.{pos}
 use Rattle.std.specs.List.{flat_map, list_all}
 use Rattle.acn_num.specs.Ranges.{In}
 use Rattle.acn_grammar.specs.Leaves.{line_fine}
-use Rattle.acn_extreme_laws.specs.Codes.{tried_on}
+use Rattle.acn_extreme_numbers.specs.Tries.{tried_on}
 use Rattle.acn_extreme_numbers.specs.Picked.{picked}
 use Rattle.acn_extreme_numbers.proofs.numbers.with_lines.Given as goal
 

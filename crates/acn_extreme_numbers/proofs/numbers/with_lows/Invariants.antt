@@ -1,7 +1,7 @@
 use Rattle.std.proofs.Common.{◌≡◌, drop}
 use Rattle.std.specs.Prelude.{map}
 use Rattle.acn_num.specs.Ranges.{In}
-use Rattle.acn_extreme_laws.specs.Codes.{least_of}
+use Rattle.acn_extreme_numbers.specs.Tries.{least_of}
 use Rattle.acn_extreme_numbers.proofs.numbers.with_lows.Given as goal
 
 abbrev pub invariant-loop-range : goal.invariant-loop-range

@@ -1,7 +1,7 @@
 use Rattle.std.proofs.Common.{◌≡◌, None, drop}
 use Rattle.acn_num.specs.Ranges.{In}
 use Rattle.acn_grammar.specs.Interval.{origin}
-use Rattle.acn_extreme_laws.specs.Codes.{tried_by}
+use Rattle.acn_extreme_numbers.specs.Tries.{tried_by}
 use Rattle.acn_extreme_numbers.specs.Picked.{AreParts, picked}
 use Rattle.acn_extreme_numbers.proofs.numbers.with_ranges.Given as goal
 

@@ -2,7 +2,7 @@ use Rattle.std.proofs.Common.{rules, FitsSigned, ℤ, pos, ap, ◌∙◌}
 use Rattle.std.proofs.lemmas.Int.{to_z-of_z}
 use Rattle.std.specs.Int.{w128}
 use Rattle.std.specs.Prelude.{◌+ℤ◌, ◌-ℤ◌}
-use Rattle.acn_extreme_laws.specs.Codes.{lesser}
+use Rattle.acn_extreme_numbers.specs.Tries.{lesser}
 use Rattle.acn_extreme_numbers.proofs.Stepping.{least_turn, numbers_turn}
 use Rattle.acn_extreme_numbers.proofs.numbers.with_steps.Goals as goal
 

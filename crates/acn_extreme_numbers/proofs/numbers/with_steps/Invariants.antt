@@ -2,7 +2,7 @@ use Rattle.std.proofs.Common.{◌≡◌, true, drop}
 use Rattle.std.specs.List.{list_all}
 use Rattle.acn_num.specs.Ranges.{In}
 use Rattle.acn_grammar.specs.Leaves.{is_number}
-use Rattle.acn_extreme_laws.specs.Codes.{keys_from, least_of}
+use Rattle.acn_extreme_numbers.specs.Tries.{keys_from, least_of}
 use Rattle.acn_extreme_numbers.proofs.numbers.with_steps.Given as goal
 
 abbrev pub invariant-loop-step : goal.invariant-loop-step
