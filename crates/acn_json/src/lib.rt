@@ -16,6 +16,6 @@ pub use laws::lines_give_the_value;
 pub use members::may_be_absent;
 pub use read::{MOST_JSON_BYTES, from_line};
 pub use strings::{bits_of, characters_of, is_same, item_of, octets_of};
-pub use text::{put, put_bits, put_octet, put_quoted};
+pub use text::{all_plain, digit, put, put_bits, put_octet, put_quoted};
 pub use trouble::Trouble;
-pub use write::{put_comma, put_key, put_null, to_line, write_number};
+pub use write::{item_name, put_comma, put_key, put_null, to_line, write_number};

@@ -40,7 +40,8 @@ pub fn put_number(x: &i128, out: &mut Vec<u8>) -> Result<(), NoMemory>
     put(buffer.format(*x).as_bytes(), out)
 }
 
-fn digit(n: u8) -> u8
+/// A hexadecimal digit, with a lower case letter.
+pub fn digit(n: u8) -> u8
     requires { n < 16 }
     ensures { result ≡ digit_char n }
 {
@@ -104,7 +105,8 @@ fn is_plain(octet: u8) -> bool
     octet > 0x1f && (octet != b'"' && octet != b'\\')
 }
 
-fn all_plain(text: &[u8]) -> bool
+/// Whether each octet stands for itself in a string.
+pub fn all_plain(text: &[u8]) -> bool
     ensures { result ≡ list_all (λ o. nat_lt 31 o && (not (o == 34) && not (o == 92))) text.now }
 {
     for octet in text {

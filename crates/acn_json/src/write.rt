@@ -58,7 +58,8 @@ pub fn put_key(name: &[u8], out: &mut Vec<u8>) -> Result<(), NoMemory>
     put_octet(b':', out)
 }
 
-fn item_name(items: &[(Name, i128)], at: u32) -> &[u8]
+/// The name of the item of a number.
+pub fn item_name(items: &[(Name, i128)], at: u32) -> &[u8]
     ensures { result.now ≡ lines.item_name items.now at }
 {
     match items.get(at as usize) {

@@ -8,10 +8,10 @@ use Rattle.serde_json.specs.Data.{Num, unsigned, negative}
 use Rattle.serde_json.specs.Data as json
 use Rattle.serde_json.specs.Find.{as_integer}
 use Rattle.serde_json.specs.Read.{number_of, is_integer}
-use Rattle.acn_grammar.specs.Grammar.{Data, int, boolean, null, octet_string, bit_string, characters}
-use Rattle.acn_grammar.specs.View.{data_of}
+use Rattle.acn_grammar.specs.Grammar.{Data, int, boolean, null, octet_string, bit_string, characters, list_of}
+use Rattle.acn_grammar.specs.View.{data_of, elements_view}
 use Rattle.acn_grammar.specs.declared.node.NumKind.TheVariants.{Integer, Boolean, Null}
-use Rattle.acn_grammar.specs.declared.value.Value.{Value, Int, Octets, Bits, Text, the_lemmas}
+use Rattle.acn_grammar.specs.declared.value.Value.{Value, Int, Octets, Bits, Text, List as List_value, the_lemmas}
 use Rattle.acn_json.specs.Reads.{num_from}
 use Rattle.acn_lines.specs.Taken.{LeafTaken}
 
@@ -68,3 +68,6 @@ view_bits bs = search (rules, the_lemmas)
 
 pub view_text : (cs : List ℕ) → data_of (Text cs) ≡ characters cs
 view_text cs = search (rules, the_lemmas)
+
+pub view_list : (vs : List Value) → data_of (List_value vs) ≡ list_of (elements_view vs)
+view_list vs = search (rules, the_lemmas)

@@ -1,4 +1,5 @@
-mod Digits
+mod Alternatives
+mod GoingOn
 mod LeafLaw
 mod MemberTurns
 mod MembersLaw

@@ -9,7 +9,7 @@ use Rattle.acn_grammar.specs.declared.node.Presence.{Presence}
 use Rattle.acn_grammar.specs.declared.value.Value.{Value}
 use Rattle.acn_grammar.proofs.Views.{view_component}
 use Rattle.acn_lines.specs.Names.{Differ, NamesDiffer, FieldsNamesDiffer}
-use Rattle.acn_lines.specs.Order.{field_at, place_of, IsOrder, IsFieldOrder}
+use Rattle.acn_lines.specs.Order.{field_at, place_of, IsNodeOrder, IsFieldOrder}
 use Rattle.acn_lines.specs.Taken.{IsTaken, MembersTaken, component_count}
 use Rattle.acn_lines.specs.declared.order.Order.{Order}
 use Rattle.acn_lines.proofs.MembersLaw.{IsNamed, fill, fill-view, place-within, members_more}
@@ -20,7 +20,7 @@ pub component-at : (fs : List Field) (k : ℕ) (f : Field) (own : List ℕ) (n :
     → field_at (fields_view fs) k ≡ Some (a_component own (grammar_of n) presence default slot)
 component-at fs k f own n presence default slot h e is = field-here fs k f h e ∙ ap Some (ap field_of is ∙ view_component own n presence default slot)
 
-pub order-inside : (f : Field) (own : List ℕ) (n : Node) (presence : Presence) (default : Option (List ℕ)) (slot : Option ℕ) (o : Order) → f ≡ Component own n presence default slot → IsFieldOrder (field_of f) o → IsOrder (grammar_of n) o
+pub order-inside : (f : Field) (own : List ℕ) (n : Node) (presence : Presence) (default : Option (List ℕ)) (slot : Option ℕ) (o : Order) → f ≡ Component own n presence default slot → IsFieldOrder (field_of f) o → IsNodeOrder (grammar_of n) o
 order-inside f own n presence default slot o is h = subst (λ x. IsFieldOrder x o) (ap field_of is ∙ view_component own n presence default slot) h
 
 abbrev NamesAt : Option OneField → Type 0

@@ -33,7 +33,7 @@ view_bits_form sizing = search (rules, node_lemmas)
 view_text_form : (leaf : TextLeaf) → form_of (Text_body leaf) ≡ text leaf
 view_text_form leaf = search (rules, node_lemmas)
 
-view_list_form : (sizing : Sizing) (m : Node) → form_of (List_body sizing m) ≡ list sizing (grammar_of m)
+pub view_list_form : (sizing : Sizing) (m : Node) → form_of (List_body sizing m) ≡ list sizing (grammar_of m)
 view_list_form sizing m = search (rules, node_lemmas)
 
 view_choice_form : (c : ChoiceNode) → form_of (Choice_body c) ≡ choice (alternatives_view (out-Choice c).alternatives) (out-Choice c).rule
@@ -42,9 +42,9 @@ view_choice_form c = search (rules, node_lemmas)
 view_contained_form : (sizing : Sizing) (m : Node) → form_of (Contained_body sizing m) ≡ contained sizing (grammar_of m)
 view_contained_form sizing m = search (rules, node_lemmas)
 
-if_some : {P Q : Value → Type 0} (r : Option Value) → ((v : Value) → P v → Q v) → IfSome r P → IfSome r Q
+pub if_some : {A : Type 0} {P Q : A → Type 0} (r : Option A) → ((x : A) → P x → Q x) → IfSome r P → IfSome r Q
 if_some None f h = tt
-if_some (Some v) f h = f v h
+if_some (Some x) f h = f x h
 
 -- what is taken at a form is taken at a node of the form
 at_form : (n : Node) (form : Form) (r : Option Value) (old new : List Token) → form_of n.body ≡ form → IfSome r (λ v. (align : ℕ) → IsTaken (node align form) (data_of v) old new) → IfSome r (λ v. IsTaken (grammar_of n) (data_of v) old new)

@@ -11,7 +11,7 @@ use Rattle.acn_grammar.specs.declared.value.Value.{Value}
 use Rattle.acn_json.specs.Lines.{json_of}
 use Rattle.acn_json.proofs.Texts.{members-turn}
 use Rattle.acn_lines.specs.Names.{NamesDiffer, AlternativesNamesDiffer}
-use Rattle.acn_lines.specs.Order.{field_at, place_at, member_at, HasKey, IsOrder, IsFieldOrder, AreFieldOrders, AreAlternativeOrders, field_json}
+use Rattle.acn_lines.specs.Order.{field_at, place_at, member_at, HasKey, IsNodeOrder, IsFieldOrder, AreFieldOrders, AreAlternativeOrders, field_json}
 use Rattle.acn_lines.specs.declared.order.Order.{Order}
 
 -- Places.
@@ -90,14 +90,14 @@ alternatives-within (x ∷ xs) [] k h n = absurd h
 alternatives-within (x ∷ xs) (o ∷ os) zero h n = omega arith
 alternatives-within (x ∷ xs) (o ∷ os) (suc k) h n = (let rest = alternatives-within xs os k h.1 (omega arith) in omega arith)
 
-first_alternative : (x : Alternative) (xs : List Alternative) (o : Order) (os : List Order) → AreAlternativeOrders (alternatives_view (x ∷ xs)) (o ∷ os) → IsOrder (grammar_of x.node) o
+first_alternative : (x : Alternative) (xs : List Alternative) (o : Order) (os : List Order) → AreAlternativeOrders (alternatives_view (x ∷ xs)) (o ∷ os) → IsNodeOrder (grammar_of x.node) o
 first_alternative x xs o os h = search (rules, node_lemmas)
 
-pub alternative-here : (as' : List Alternative) (os : List Order) (k : ℕ) (a : Alternative) (o : Order) → AreAlternativeOrders (alternatives_view as') os → k < length as' → a ≡ get_or as' k a → o ≡ get_or os k o → IsOrder (grammar_of a.node) o
+pub alternative-here : (as' : List Alternative) (os : List Order) (k : ℕ) (a : Alternative) (o : Order) → AreAlternativeOrders (alternatives_view as') os → k < length as' → a ≡ get_or as' k a → o ≡ get_or os k o → IsNodeOrder (grammar_of a.node) o
 alternative-here [] os k a o h n e i = absurd (omega arith)
 alternative-here (x ∷ xs) [] k a o h n e i = absurd h
 alternative-here (x ∷ xs) (p ∷ ps) zero a o h n e i =
-    subst (λ y. IsOrder (grammar_of y.node) o) (sym e) (subst (λ y. IsOrder (grammar_of x.node) y) (sym i) (first_alternative x xs p ps h))
+    subst (λ y. IsNodeOrder (grammar_of y.node) o) (sym e) (subst (λ y. IsNodeOrder (grammar_of x.node) y) (sym i) (first_alternative x xs p ps h))
 alternative-here (x ∷ xs) (p ∷ ps) (suc k) a o h n e i = alternative-here xs ps k a o h.1 (omega arith) e i
 
 first_names : (x : Alternative) (xs : List Alternative) → AlternativesNamesDiffer (alternatives_view (x ∷ xs)) → NamesDiffer (grammar_of x.node)

@@ -1,5 +1,5 @@
 -- The order in which the members of objects are printed, made once for all values of a tree. (This profile's own.)
-use Rattle.std.specs.Prelude.{◌≡◌, ℕ, zero, suc, List, [], ◌∷◌, ◌++◌, Option, Some, None}
+use Rattle.std.specs.Prelude.{◌≡◌, IsTrue, ℕ, zero, suc, List, [], ◌∷◌, ◌++◌, Option, Some, None}
 use Rattle.json.specs.Print.{quoted}
 use Rattle.serde_json.specs.Data.{Members, no_members, member}
 use Rattle.serde_json.specs.Data as json
@@ -7,6 +7,8 @@ use Rattle.acn_grammar.specs.Grammar.{Grammar, Form, Fields, Alternatives, Data,
 use Rattle.acn_grammar.specs.View.{OneField, a_component, an_inserted}
 use Rattle.acn_json.specs.Lines.{json_of, fields_json}
 use Rattle.acn_lines.specs.declared.order.Order.{Order, out-Order}
+use Rattle.acn_json.specs.RoundTrip.{HasTextNames}
+use Rattle.acn_lines.specs.declared.order.TreeOrder.{TreeOrder}
 use Rattle.acn_lines.specs.declared.turns.Turn.{Turn}
 
 -- the field of a number
@@ -66,32 +68,36 @@ AreTurns fs ts = AreKeyed fs ts × ((ps : Places) → in_order fs ts ps ≡ fiel
 
 abbrev mutual
   -- what is kept of a node; a list and a string that contains a value keep what is kept of the node inside
-  pub IsOrder : Grammar → Order → Type 0
-  IsOrder (node align form) o = IsFormOrder form o
+  pub IsNodeOrder : Grammar → Order → Type 0
+  IsNodeOrder (node align form) o = IsFormOrder form o
 
   pub IsFormOrder : Form → Order → Type 0
   IsFormOrder (seq fields home) o = AreTurns fields (out-Order o).turns × AreFieldOrders fields (out-Order o).inside
-  IsFormOrder (list sizing g) o = IsOrder g o
+  IsFormOrder (list sizing g) o = IsNodeOrder g o
   IsFormOrder (choice cases rule) o = AreAlternativeOrders cases (out-Order o).inside
-  IsFormOrder (contained sizing g) o = IsOrder g o
+  IsFormOrder (contained sizing g) o = IsNodeOrder g o
   IsFormOrder _ o = Unit {0}
 
   -- one for each field
   pub AreFieldOrders : Fields → List Order → Type 0
   AreFieldOrders no_fields os = Unit {0}
-  AreFieldOrders (component name g presence default own fs) (o ∷ os) = IsOrder g o × AreFieldOrders fs os
+  AreFieldOrders (component name g presence default own fs) (o ∷ os) = IsNodeOrder g o × AreFieldOrders fs os
   AreFieldOrders (inserted name g slot fs) (o ∷ os) = AreFieldOrders fs os
   AreFieldOrders _ [] = ⊥
 
   -- one for each alternative
   pub AreAlternativeOrders : Alternatives → List Order → Type 0
   AreAlternativeOrders no_alternatives os = Unit {0}
-  AreAlternativeOrders (alternative name g tests more) (o ∷ os) = IsOrder g o × AreAlternativeOrders more os
+  AreAlternativeOrders (alternative name g tests more) (o ∷ os) = IsNodeOrder g o × AreAlternativeOrders more os
   AreAlternativeOrders _ [] = ⊥
+
+-- what is kept of a tree
+abbrev pub IsOrder : Grammar → TreeOrder → Type 0
+IsOrder g o = IsNodeOrder g o.nodes × (IsTrue o.text_names → HasTextNames g)
 
 -- what is kept of a field; of one that ACN inserts, nothing
 abbrev pub IsFieldOrder : OneField → Order → Type 0
-IsFieldOrder (a_component name g presence default own) o = IsOrder g o
+IsFieldOrder (a_component name g presence default own) o = IsNodeOrder g o
 IsFieldOrder (an_inserted name g slot) o = Unit {0}
 
 -- the JSON of the value of a component

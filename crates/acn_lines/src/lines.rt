@@ -1,6 +1,6 @@
 //! What lines of a tree need beside it.
 
-ghost use Rattle.std.specs.Prelude.{◌≡◌, ◌≤◌, ◌++◌, IfOk, OnOk, OnErr, IsTrue, length};
+ghost use Rattle.std.specs.Prelude.{◌≡◌, ◌≤◌, ◌++◌, IfOk, IfSome, Ok, OnOk, OnErr, IsTrue, length};
 ghost use Rattle.acn_grammar.specs.Shaped.{fits};
 ghost use Rattle.acn_grammar.specs.View.{grammar_of, data_of};
 ghost use Rattle.acn_json.specs.Answers.{Gives};
@@ -10,13 +10,15 @@ ghost use Rattle.acn_json.specs.Reads.{line_gives};
 ghost use Rattle.acn_json.specs.declared.read.TheConstants.{MOST_JSON_BYTES};
 ghost use Rattle.acn_lines.specs.Order.{IsOrder};
 
-use crate::order::{Order, order_of};
+use crate::order::{TreeOrder, order_of};
+use crate::printed::printed_value;
 use crate::put::put_node;
 use crate::room::Room;
 use crate::take::take_line;
 use acn_grammar::Value;
 use acn_json::{JsonFault, from_line};
 use acn_num::NoMemory;
+use acn_printed::has_text_names;
 use acn_tree::Tree;
 use std::alloc::Global;
 
@@ -24,7 +26,7 @@ use std::alloc::Global;
 /// are printed, and the texts of their keys.
 #[derive(Drop)]
 pub struct Lines {
-    order: Order,
+    order: TreeOrder,
 }
 
 impl Lines {
@@ -32,8 +34,11 @@ impl Lines {
     pub fn new(alloc: Global, tree: &Tree) -> Result<Lines, NoMemory>
         ensures { IfOk result (λ lines. IsOrder (grammar_of tree.now.root) lines.order) }
     {
-        let order = order_of(alloc, tree.root())?;
-        Ok(Lines { order })
+        let nodes = order_of(alloc, tree.root())?;
+        let text_names = has_text_names(tree.root());
+        Ok(Lines {
+            order: TreeOrder { nodes, text_names },
+        })
     }
 
     /// Puts the line of a value at the end of a buffer, without the line's end: the text that `to_line` of `acn_json` gives.
@@ -43,12 +48,12 @@ impl Lines {
         ensures added { OnOk result (line.new.items ≡ line.old.items ++ line_of (grammar_of tree.now.root) (data_of value.now)) }
         ensures kept { OnErr result (Kept line.old.items line.new.items) }
     {
-        put_node(tree.root(), &self.order, value, line)
+        put_node(tree.root(), &self.order.nodes, value, line)
     }
 
-    /// The value that a line of JSON gives to the tree, or its first fault: the answer of `from_line` of `acn_json`. A line whose
-    /// members come in the order in which `put` puts them is read the fastest; any other order costs little more, and a fault
-    /// costs a second walk.
+    /// The value that a line of JSON gives to the tree, or its first fault: the answer of `from_line` of `acn_json`. A line that
+    /// `put` would put is read the fastest: it is compared, and not parsed. Of any other line it costs little more if its members
+    /// come in another order, and a fault costs a second walk.
     pub fn take(
         &self,
         alloc: Global,
@@ -61,9 +66,41 @@ impl Lines {
         ensures gives { Gives data_of result (line_gives (grammar_of tree.now.root) line.now) }
         ensures shaped { IfOk result (λ v. IsTrue (fits (grammar_of tree.now.root) (data_of v))) }
     {
-        match take_line(alloc, tree, &self.order, room, line) {
+        match self.printed(alloc, tree, line) {
+            Some(value) => Ok(value),
+            None => self.parsed(alloc, tree, room, line),
+        }
+    }
+
+    // The same for a line that wasn't printed.
+    fn parsed(
+        &self,
+        alloc: Global,
+        tree: &Tree,
+        room: &mut Room,
+        line: &[u8],
+    ) -> Result<Value, JsonFault>
+        requires order { IsOrder (grammar_of tree.now.root) self.now.order }
+        requires few { length line.now ≤ MOST_JSON_BYTES }
+        ensures gives { Gives data_of result (line_gives (grammar_of tree.now.root) line.now) }
+        ensures shaped { IfOk result (λ v. IsTrue (fits (grammar_of tree.now.root) (data_of v))) }
+    {
+        match take_line(alloc, tree, &self.order.nodes, room, line) {
             Some(value) => Ok(value),
             None => from_line(alloc, tree, line),
+        }
+    }
+
+    // The value of a line that was printed.
+    fn printed(&self, alloc: Global, tree: &Tree, line: &[u8]) -> Option<Value>
+        requires { IsOrder (grammar_of tree.now.root) self.now.order }
+        ensures gives { IfSome result (λ v. Ok (data_of v) ≡ line_gives (grammar_of tree.now.root) line.now) }
+        ensures shaped { IfSome result (λ v. IsTrue (fits (grammar_of tree.now.root) (data_of v))) }
+    {
+        if self.order.text_names {
+            printed_value(alloc, tree, &self.order.nodes, line)
+        } else {
+            None
         }
     }
 }

@@ -20,6 +20,13 @@ pub struct Order {
     pub inside: Row<Order>,
 }
 
+/// What is kept of a tree: what is kept of its root, and whether its names are UTF-8 for sure.
+#[derive(Drop)]
+pub struct TreeOrder {
+    pub nodes: Order,
+    pub text_names: bool,
+}
+
 // Of a node in which no object is.
 fn nothing(alloc: Global) -> Order {
     Order {
@@ -32,7 +39,7 @@ fn nothing(alloc: Global) -> Order {
 #[cycle(order)]
 pub fn order_of(alloc: Global, node: &Node) -> Result<Order, NoMemory>
     requires { names.NamesDiffer (grammar_of node.now) }
-    ensures { IfOk result (λ o. spec.IsOrder (grammar_of node.now) o) }
+    ensures { IfOk result (λ o. spec.IsNodeOrder (grammar_of node.now) o) }
 {
     match &node.body {
         Body::Num(_) => Ok(nothing(alloc)),

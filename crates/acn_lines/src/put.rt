@@ -1,7 +1,6 @@
 //! The text of a value, put at the end of a buffer.
 
 ghost use Rattle.std.specs.Prelude.{◌≡◌, ◌++◌, ◌∷◌, [], OnOk, OnErr, IfOk, option_map, Some, false, ◌<◌};
-ghost use Rattle.std.specs.Char.{digit_char};
 ghost use Rattle.json.specs.Print.{quoted, escape};
 ghost use Rattle.hex.specs.Hex.{encode_lower};
 ghost use Rattle.serde_json.specs.Data.{Members, no_members};
@@ -15,15 +14,10 @@ ghost use Rattle.acn_lines.specs.declared.order.Order.{out-Order};
 use crate::order::Order;
 use crate::turns::Turn;
 use acn_grammar::{Alternative, Body, Field, Node, Value};
-use acn_json::{put, put_bits, put_comma, put_key, put_null, put_octet, put_quoted, write_number};
+use acn_json::{
+    digit, put, put_bits, put_comma, put_key, put_null, put_octet, put_quoted, write_number,
+};
 use acn_num::NoMemory;
-
-fn digit(n: u8) -> u8
-    requires { n < 16 }
-    ensures { result ≡ digit_char n }
-{
-    if n < 10 { b'0' + n } else { (b'a' - 10) + n }
-}
 
 // Puts the two hexadecimal digits of an octet, which stand for themselves in a string.
 fn put_pair(octet: u8, line: &mut Vec<u8>) -> Result<(), NoMemory>
@@ -64,8 +58,8 @@ fn value_in(place: &Option<Value>) -> Option<&Value>
     }
 }
 
-// The value in the place of a number, if one is there.
-fn value_at(places: &[Option<Value>], at: usize) -> Option<&Value>
+/// The value in the place of a number, if one is there.
+pub fn value_at(places: &[Option<Value>], at: usize) -> Option<&Value>
     ensures { option_map (λ v. data_of v.now) result ≡ spec.place_at (places_view places.now) at }
 {
     match places.get(at) {
@@ -82,7 +76,7 @@ pub fn put_node(
     value: &Value,
     line: &mut Vec<u8>,
 ) -> Result<(), NoMemory>
-    requires { spec.IsOrder (grammar_of node.now) order.now }
+    requires { spec.IsNodeOrder (grammar_of node.now) order.now }
     ensures added { OnOk result (line.new.items ≡ line.old.items ++ compact_text (lines.json_of (grammar_of node.now) (data_of value.now))) }
     ensures kept { OnErr result (Kept line.old.items line.new.items) }
 {
@@ -217,7 +211,7 @@ fn put_array(
     elements: &[Value],
     line: &mut Vec<u8>,
 ) -> Result<(), NoMemory>
-    requires { spec.IsOrder (grammar_of element.now) order.now }
+    requires { spec.IsNodeOrder (grammar_of element.now) order.now }
     ensures added { OnOk result (line.new.items ≡ line.old.items ++ 91 ∷ items_text false (lines.each_json (lines.json_of (grammar_of element.now)) (elements_view elements.now))) }
     ensures kept { OnErr result (Kept line.old.items line.new.items) }
 {

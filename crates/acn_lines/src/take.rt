@@ -32,7 +32,7 @@ use std::alloc::Global;
 // Takes the value of a node.
 #[cycle(take)]
 fn take_node(alloc: Global, node: &Node, order: &Order, reader: &mut Reader<'_>) -> Option<Value>
-    requires order { spec.IsOrder (grammar_of node.now) order.now }
+    requires order { spec.IsNodeOrder (grammar_of node.now) order.now }
     requires names { names.NamesDiffer (grammar_of node.now) }
     ensures { IfSome result (λ v. taken.IsTaken (grammar_of node.now) (data_of v) reader.old reader.new) }
 {
@@ -152,7 +152,7 @@ fn take_member(
 
 #[cycle(take)]
 fn take_list(alloc: Global, element: &Node, order: &Order, reader: &mut Reader<'_>) -> Option<Value>
-    requires order { spec.IsOrder (grammar_of element.now) order.now }
+    requires order { spec.IsNodeOrder (grammar_of element.now) order.now }
     requires names { names.NamesDiffer (grammar_of element.now) }
     ensures { IfSome result (λ v. (align : ℕ) (sizing : Sizing) → taken.IsTaken (grammar.node align (grammar.list sizing (grammar_of element.now))) (data_of v) reader.old reader.new) }
 {
@@ -169,7 +169,7 @@ fn take_elements(
     order: &Order,
     reader: &mut Reader<'_>,
 ) -> Option<Row<Value>>
-    requires order { spec.IsOrder (grammar_of element.now) order.now }
+    requires order { spec.IsNodeOrder (grammar_of element.now) order.now }
     requires names { names.NamesDiffer (grammar_of element.now) }
     ensures { IfSome result (λ vs. taken.AreTaken (grammar_of element.now) (elements_view vs) reader.old reader.new) }
 {
@@ -206,8 +206,8 @@ fn take_alternative(
     }
 }
 
-// The value of an alternative. A number beyond 32 bits names none: so many alternatives would take more than 500 GB.
-fn alternative_of(alloc: Global, at: usize, inside: Value) -> Option<Value>
+/// The value of an alternative. A number beyond 32 bits names none: so many alternatives would take more than 500 GB.
+pub fn alternative_of(alloc: Global, at: usize, inside: Value) -> Option<Value>
     ensures { IfSome result (λ v. data_of v ≡ grammar.alt at (data_of inside)) }
 {
     let Ok(at) = u32::try_from(at) else {
@@ -227,7 +227,7 @@ pub fn take_line(
     room: &mut Room,
     line: &[u8],
 ) -> Option<Value>
-    requires { spec.IsOrder (grammar_of tree.now.root) order.now }
+    requires { spec.IsNodeOrder (grammar_of tree.now.root) order.now }
     ensures { IfSome result (λ v. Ok (data_of v) ≡ line_gives (grammar_of tree.now.root) line.now) }
 {
     let Ok(text) = std::str::from_utf8(line) else {

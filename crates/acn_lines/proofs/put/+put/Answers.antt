@@ -1,26 +1,13 @@
-use Rattle.std.proofs.Common.{◌≡◌, ℕ, zero, suc, ◌<◌, ◌≤◌, List, [], ◌∷◌, ◌++◌, length, get_or, refl, ap, Result, Ok, Err, OnErr, append_assoc, ◌∙◌, arith, rules}
+use Rattle.std.proofs.Common.{◌≡◌, ℕ, ◌<◌, List, ◌++◌, length, get_or, ap, Result, Ok, Err, OnErr, append_assoc, ◌∙◌, arith, rules}
 use Rattle.std.proofs.lemmas.Grind.{common_steps}
-use Rattle.serde_json.specs.Data.{no_members, member}
-use Rattle.acn_grammar.specs.Grammar.{Data}
-use Rattle.acn_grammar.specs.View.{grammar_of, alternatives_view, field_of, fields_view, places_view, data_of}
-use Rattle.acn_grammar.specs.declared.node.Alternative.{Alternative}
+use Rattle.acn_grammar.specs.View.{field_of, fields_view, places_view, data_of}
 use Rattle.acn_grammar.specs.declared.node.Body.{the_lemmas as node_lemmas}
 use Rattle.acn_grammar.proofs.Views.{view_seq, view_node, view_seq_form}
 use Rattle.acn_json.specs.Kept.{Kept}
-use Rattle.acn_json.specs.Lines.{json_of, alternative_json}
 use Rattle.acn_lines.specs.Order.{field_at, place_at}
+use Rattle.acn_lines.proofs.Alternatives.{alternative-at, alternative-past}
 use Rattle.acn_lines.proofs.Parts.{field-here, field-within, orders-within, order-here, alternatives-within, alternative-here, turn-text}
 use Rattle.acn_lines.proofs.put.+put.Goals as goal
-
-alternative-at : (as' : List Alternative) (i : ℕ) (a : Alternative) (d : Data) → i < length as' → alternative_json (alternatives_view as') i d ≡ member (get_or as' i a).name (json_of (grammar_of (get_or as' i a).node) d) no_members
-alternative-at [] i a d h = absurd (omega arith)
-alternative-at (x ∷ xs) zero a d h = search (rules, node_lemmas)
-alternative-at (x ∷ xs) (suc i) a d h = alternative-at xs i a d (omega arith)
-
-alternative-past : (as' : List Alternative) (i : ℕ) (d : Data) → length as' ≤ i → alternative_json (alternatives_view as') i d ≡ no_members
-alternative-past [] i d h = refl
-alternative-past (x ∷ xs) zero d h = absurd (omega arith)
-alternative-past (x ∷ xs) (suc i) d h = alternative-past xs i d (omega arith)
 
 kept_behind : {old mid new : List ℕ} (text : List ℕ) → mid ≡ old ++ text → Kept mid new → Kept old new
 kept_behind {old} text added kept = record {

@@ -1,6 +1,6 @@
 use Rattle.std.proofs.Common.{◌<◌, arith}
 use Rattle.std.proofs.lemmas.Grind.{common_steps}
-use Rattle.acn_lines.proofs.Digits.{pair-is}
+use Rattle.acn_printed.proofs.Digits.{pair-is}
 use Rattle.acn_lines.proofs.put.put_pair.Goals as goal
 
 pub returns-clause-added : goal.returns-clause-added

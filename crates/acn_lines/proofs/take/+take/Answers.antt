@@ -1,15 +1,15 @@
-use Rattle.std.proofs.Common.{◌≡◌, ◌++◌, ◌∷◌, [], List, Some, length, refl, sym, ap, subst, ◌∙◌, arith, rules, append_assoc, append-nil}
+use Rattle.std.proofs.Common.{◌≡◌, ◌++◌, ◌∷◌, [], Some, length, refl, sym, ap, subst, ◌∙◌, arith, rules, append_assoc, append-nil}
 use Rattle.std.proofs.lemmas.Grind.{common_steps}
 use Rattle.json.specs.Token.{Token}
-use Rattle.acn_grammar.specs.Grammar.{no_elements, node, seq, list, record_of, list_of}
+use Rattle.acn_grammar.specs.Grammar.{no_elements, node, seq, list, record_of}
 use Rattle.acn_grammar.specs.View.{grammar_of, data_of, fields_view, places_view, elements_view, alternatives_view}
 use Rattle.acn_grammar.specs.declared.node.Body.{the_lemmas as node_lemmas}
-use Rattle.acn_grammar.specs.declared.value.Value.{Value, List as List_value, the_lemmas as value_lemmas}
 use Rattle.acn_grammar.proofs.Views.{view_seq}
 use Rattle.acn_grammar.proofs.Characters.{same_name-is}
 use Rattle.acn_lines.specs.Names.{NamesDiffer}
-use Rattle.acn_lines.specs.Order.{IsOrder}
+use Rattle.acn_lines.specs.Order.{IsNodeOrder}
 use Rattle.acn_lines.specs.Taken.{IsTaken, AreTaken, MembersTaken}
+use Rattle.acn_lines.proofs.LeafLaw.{view_list}
 use Rattle.acn_lines.proofs.MemberTurns.{component-at, order-inside, names-inside, place-there, member-taken}
 use Rattle.acn_lines.proofs.MembersLaw.{keyed_at, placed_at, members_end, record_taken}
 use Rattle.acn_lines.proofs.NodesLaw.{num_node, octets_node, bits_node, text_node, seq_node, choice_node, contained_node, choice_made}
@@ -134,9 +134,6 @@ take_member-returns-in_ok-value-in-Component-clause-member t c =
 
 -- Lists.
 
-view_list : (vs : List Value) → data_of (List_value vs) ≡ list_of (elements_view vs)
-view_list vs = search (rules, value_lemmas)
-
 pub take_list-returns : goal.take_list-returns
 take_list-returns t c = λ align sizing.
     let g = grammar_of c.args.element.now in
@@ -194,7 +191,7 @@ take_alternative-take_node-requires t c =
     let a = c.index-alternatives-at.result in (
       search (rules, node_lemmas),
       (
-        subst (λ y. IsOrder (grammar_of y.node) c.index-inside-at.result) c.index-alternatives-at.is (alternative-here as' c.args.inside.now c.in_ok-at.at a c.index-inside-at.result c.requires.inside (omega arith) c.index-alternatives-at.is c.index-inside-at.is),
+        subst (λ y. IsNodeOrder (grammar_of y.node) c.index-inside-at.result) c.index-alternatives-at.is (alternative-here as' c.args.inside.now c.in_ok-at.at a c.index-inside-at.result c.requires.inside (omega arith) c.index-alternatives-at.is c.index-inside-at.is),
         subst (λ y. NamesDiffer (grammar_of y.node)) c.index-alternatives-at.is (alternative-names as' c.in_ok-at.at a c.requires.names (omega arith) c.index-alternatives-at.is),
       ),
     )

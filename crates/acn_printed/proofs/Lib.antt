@@ -1,0 +1,5 @@
+-- for acn_lines
+pub mod Digits
+-- for acn_lines
+pub mod Pieces
+mod Strings
