@@ -119,6 +119,9 @@ whole_less gaps gaps' xs xs' pool pool' s i w b p q g r l =
 pub less_ended : (xs xs' : List Spot) (s i : ℕ) → Distinct xs → has_spot s xs ≡ true → i ≡ place s xs → xs' ≡ remove xs i → has_spot s xs' ≡ false
 less_ended xs xs' s i d b p q = ap (has_spot s) (q ∙ (ap (remove xs) p ∙ remove-place s xs b)) ∙ has_spot-without s xs d
 
+pub less_slots : (xs xs' : List Spot) (s i : ℕ) → has_spot s xs ≡ true → i ≡ place s xs → xs' ≡ remove xs i → xs' ≡ without s xs
+less_slots xs xs' s i b p q = q ∙ (ap (remove xs) p ∙ remove-place s xs b)
+
 pub less_few : (xs xs' : List Spot) (s i : ℕ) → has_spot s xs ≡ true → i ≡ place s xs → xs' ≡ remove xs i → length xs' + 1 ≡ length xs
 less_few xs xs' s i b p q = ap (λ z. length z + 1) (q ∙ (ap (remove xs) p ∙ remove-place s xs b)) ∙ length-without s xs b
 

@@ -152,6 +152,24 @@ module _ (most : ℕ) (t : Table) (s : ℕ) (k : ℤ) where
   room_kept pool p h f n = absurd (not_both (among (avoided_on s t.avoided) k) (ap (λ z. among (avoided_on s z) k) (sym p) ∙ h) n)
 
   module _ (e : Spot) (h : spot_of s t.spots ≡ Some e) (f : e.fixed ≡ false) (few : AreFew t.avoided) (pool : List (ℕ × ℤ)) (p : pool ≡ t.avoided) (n : among (avoided_on s pool) k ≡ false) where
+    -- there is none where so many are kept
+    pub no_room : (length pool < most → length (avoided_on s pool) < MOST_AVOIDED → ⊥) → HasRoom most t s k → ⊥
+    no_room full r =
+        let room = r (ap is_fixed h ∙ f) (ap (λ z. among (avoided_on s z) k) (sym p) ∙ n) in
+        full (subst (λ z. length z < most) (sym p) room.0) (subst (λ z. length (avoided_on s z) < MOST_AVOIDED) (sym p) room.1)
+
+    pub no_room_here : (count : ℕ) → count ≡ length (avoided_on s pool) → nat_lt count 64 ≡ false → HasRoom most t s k → ⊥
+    no_room_here count c l = no_room (λ _ few. not_below few)
+      where
+        not_below : length (avoided_on s pool) < MOST_AVOIDED → ⊥
+        not_below few = grind (arith, nat_tests)
+
+    pub no_room_at_all : nat_lt (length pool) most ≡ false → HasRoom most t s k → ⊥
+    no_room_at_all l = no_room (λ short _. not_below short)
+      where
+        not_below : length pool < most → ⊥
+        not_below short = grind (arith, nat_tests)
+
     pub full_here : (count : ℕ) → count ≡ length (avoided_on s pool) → nat_lt count 64 ≡ false → (set : List (ℤ × ℤ)) (wanted : List Ask) → Keeps set wanted t s → TooMany wanted k
     full_here count c l = too_many t s k e h f few (ap (λ z. among (avoided_on s z) k) (sym p) ∙ n) (many count c l)
       where

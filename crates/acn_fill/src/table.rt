@@ -107,6 +107,7 @@ impl<'p, const S: usize, const A: usize> Fills<'p, S, A> {
     pub fn can_avoid(&self, slot: u32, k: i128) -> bool
         requires begun { begun self.now slot ≡ true }
         ensures room { result ≡ true → HasRoom A self.now slot k }
+        ensures none { result ≡ false → HasRoom A self.now slot k → ⊥ }
         ensures full { result ≡ false → MOST_AVOIDED * S ≤ A → (set : List (ℤ × ℤ)) (wanted : List Wanted) → Keeps set wanted self.now slot → TooMany wanted k }
     {
         self.has_room(slot, &k)
@@ -115,6 +116,7 @@ impl<'p, const S: usize, const A: usize> Fills<'p, S, A> {
     fn has_room(&self, slot: u32, k: &i128) -> bool
         requires begun { begun self.now slot ≡ true }
         ensures room { result ≡ true → HasRoom A self.now slot k.now }
+        ensures none { result ≡ false → HasRoom A self.now slot k.now → ⊥ }
         ensures full { result ≡ false → MOST_AVOIDED * S ≤ A → (set : List (ℤ × ℤ)) (wanted : List Wanted) → Keeps set wanted self.now slot → TooMany wanted k.now }
     {
         let pool = self.avoided.as_slice();
@@ -262,6 +264,7 @@ impl<'p, const S: usize, const A: usize> Fills<'p, S, A> {
         ensures ended { begun self.new slot ≡ false }
         ensures others { (t : ℕ) → nat_eq t slot ≡ false → SameAt t self.old self.new }
         ensures rest { (t : ℕ) → nat_eq t slot ≡ false → SameSpot t self.old self.new }
+        ensures slots { self.new.spots ≡ without slot self.old.spots }
         ensures gaps { self.new.gaps ≡ remove self.old.gaps (place slot self.old.spots) }
         ensures few { length self.new.spots + 1 ≡ length self.old.spots }
     {
@@ -279,6 +282,7 @@ impl<'p, const S: usize, const A: usize> Fills<'p, S, A> {
         ensures ended { begun self.new slot ≡ false }
         ensures others { (t : ℕ) → nat_eq t slot ≡ false → SameAt t self.old self.new }
         ensures rest { (t : ℕ) → nat_eq t slot ≡ false → SameSpot t self.old self.new }
+        ensures slots { self.new.spots ≡ without slot self.old.spots }
         ensures gaps { self.new.gaps ≡ remove self.old.gaps (place slot self.old.spots) }
         ensures few { length self.new.spots + 1 ≡ length self.old.spots }
     {

@@ -1,9 +1,9 @@
 use Rattle.std.proofs.Common.{rules, FitsSigned, ◌≡◌, length, true, get_or, remove, sym, ap, ◌∙◌}
 use Rattle.std.proofs.lemmas.Int.{to_z-of_z}
 use Rattle.std.specs.Int.{w128}
-use Rattle.acn_fill.specs.Table.{Table, has_spot, place, avoided_on}
+use Rattle.acn_fill.specs.Table.{Table, has_spot, place, avoided_on, without}
 use Rattle.acn_fill.proofs.Spots.{spot-here, kept_at, remove-length}
-use Rattle.acn_fill.proofs.Changes.{whole_less, less_ended, less_few, less_others, less_rest}
+use Rattle.acn_fill.proofs.Changes.{whole_less, less_ended, less_few, less_others, less_rest, less_slots}
 use Rattle.acn_fill.proofs.table.Fills.finish.Goals as goal
 
 pub invariant_of-self : goal.invariant_of-self
@@ -68,3 +68,10 @@ returns-clause-few g c =
     let same : c.self.inside.spots.items ≡ old.spots = ap (λ (z : Table). z.spots) c.self.view_is in
     let found' : c.place_of-i.result ≡ place c.args.slot c.self.inside.spots.items = cc in
     less_few old.spots c.remove-spot.new.self.items c.args.slot c.place_of-i.result c.requires.begun (found' ∙ ap (place c.args.slot) same) (c.remove-spot.ensures.items ∙ ap (λ z. remove z c.place_of-i.result) same)
+
+pub returns-clause-slots : goal.returns-clause-slots
+returns-clause-slots g c =
+    let xs = c.self.inside.spots.items in
+    let begun : has_spot c.args.slot xs ≡ true = ap (λ (z : Table). has_spot c.args.slot z.spots) c.self.view_is ∙ c.requires.begun in
+    let found : c.place_of-i.result ≡ place c.args.slot xs = cc in
+    less_slots xs c.remove-spot.new.self.items c.args.slot c.place_of-i.result begun found c.remove-spot.ensures.items ∙ ap (λ (z : Table). without c.args.slot z.spots) c.self.view_is

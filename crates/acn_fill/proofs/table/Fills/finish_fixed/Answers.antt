@@ -1,7 +1,7 @@
 use Rattle.std.proofs.Common.{◌≡◌, length, true, remove, sym, ap, ◌∙◌}
-use Rattle.acn_fill.specs.Table.{Table, has_spot, place, avoided_on}
+use Rattle.acn_fill.specs.Table.{Table, has_spot, place, avoided_on, without}
 use Rattle.acn_fill.proofs.Spots.{remove-length}
-use Rattle.acn_fill.proofs.Changes.{whole_less, less_ended, less_others, less_rest}
+use Rattle.acn_fill.proofs.Changes.{whole_less, less_ended, less_others, less_rest, less_slots}
 use Rattle.acn_fill.proofs.table.Fills.finish_fixed.Goals as goal
 
 pub invariant_of-self : goal.invariant_of-self
@@ -47,3 +47,10 @@ returns-clause-gaps g c =
     let same : xs ≡ old.spots = ap (λ (z : Table). z.spots) c.self.view_is in
     let found' : i ≡ place c.args.slot xs = cc in
     c.unskip.ensures ∙ (ap (λ (z : Table). remove z.gaps i) c.self.view_is ∙ ap (remove old.gaps) (found' ∙ ap (place c.args.slot) same))
+
+pub returns-clause-slots : goal.returns-clause-slots
+returns-clause-slots g c =
+    let xs = c.self.inside.spots.items in
+    let begun : has_spot c.args.slot xs ≡ true = ap (λ (z : Table). has_spot c.args.slot z.spots) c.self.view_is ∙ c.requires.begun in
+    let found : c.place_of-i.result ≡ place c.args.slot xs = cc in
+    less_slots xs c.remove.new.self.items c.args.slot c.place_of-i.result begun found c.remove.ensures.items ∙ ap (λ (z : Table). without c.args.slot z.spots) c.self.view_is
