@@ -22,7 +22,7 @@ use Rattle.acn_events.specs.Laws.{EventsAreInOrder, first_state}
 use Rattle.acn_events.specs.Marks.{Mark, marked, first_mark, ask_on, Right, AllRight}
 use Rattle.acn_events.specs.Steps.{Overflows, Stops}
 use Rattle.acn_events.proofs.Keeping.{kept_keeps}
-use Rattle.acn_events.proofs.Standing.{Stands, first_stands, stands_on}
+use Rattle.acn_events.proofs.Standing.{Stands, base_depth, first_stands, stands_on}
 use Rattle.acn_event_limits.specs.Laws.{largest, LargestTablesHaveRoom}
 use Rattle.acn_event_limits.proofs.Limits.{few_compared}
 use Rattle.acn_event_limits.proofs.Members.{Member, each_of_both, holds_member, member_among, member_holds, never, no_longer, numbers_differ, slots_differ}
@@ -126,7 +126,10 @@ module _ (root : Grammar) (none : (f : CheckFault) → Undecodable root f → �
   has_room (notes path s set x) p m r home f h stands o = no_more_slots s p.known m r.0 stands.known home o
   has_room (wants path s a) p m r home f h stands o = avoids_few path s a p m r f h stands o
   has_room (fills s) p m r home f h stands o = o
-  has_room (enters rule) p m r home f h stands o = o
+  has_room (enters rule) p m r home f h stands o =
+      let few = r.0 in
+      let many = (base_depth m.contents p.outer stands.contents).1 in
+      absurd (omega (arith, few, many, o))
   has_room (closes path sizing k) p m r home f h stands o = o
 
   never_full : (es : List Event) (p : Mark) (m n : State) → AllRight root es p → AllHoused es p.known → AllSourced (nodes_of root) es → Comes p → Stands root size p m → Stops largest es m n full → ⊥

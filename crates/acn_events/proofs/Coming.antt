@@ -28,7 +28,7 @@ use Rattle.acn_events.specs.Marks.{Mark, marked, ends, reach, depth_of, size_of,
 use Rattle.acn_events.specs.Steps.{Can, CanEnter, CanClose, Room, GapFits}
 use Rattle.acn_events.proofs.Keeping.{kept_keeps}
 use Rattle.acn_events.proofs.Right.{domain_is}
-use Rattle.acn_events.proofs.Standing.{Stands, AllStand, GapStands, hole_width, stands_at, octets_are}
+use Rattle.acn_events.proofs.Standing.{Stands, AllStand, GapStands, base_depth, hole_width, stands_at, octets_are}
 
 -- A leaf that keeps its rules permits a number.
 
@@ -50,12 +50,6 @@ some_in leaf fine = by leaf.set (rules_of leaf fine).set (set_ordered leaf.kind 
     by (r ∷ rs) h o = (r.0, or_left (int_le r.0 r.0 && int_le r.0 r.1) (has rs r.0) (rw (le_test r.0 r.0 (omega (arith, ints)), le_test r.0 r.1 o.0) refl))
 
 -- The place of the writer.
-
-pub base_depth : (fs : List Frame) (os : List (ℕ × SizeRule)) → AllStand fs os → (base_of fs ≡ depth_of os) × (length fs ≡ length os)
-base_depth [] [] h = (refl, refl)
-base_depth [] (o ∷ os) h = absurd h
-base_depth (f ∷ fs) [] h = absurd h
-base_depth (f ∷ fs) (o ∷ os) h = let r = base_depth fs os h.2 in let a = h.0 in let b = r.0 in (omega (arith, a, b), ap suc r.1)
 
 pub moved_by : (e : Event) (p : Mark) (root : Grammar) → Right root e p → reach (marked e p) ≡ reach p + size_of e p.at
 moved_by (aligns a) p root r = omega arith

@@ -6,9 +6,9 @@ use Rattle.acn_events.specs.Events.{events}
 use Rattle.acn_events.specs.Laws.{EventsAreInOrder, StopsKeepWhatIsLater, first_state}
 use Rattle.acn_events.specs.Marks.{Mark, marked, ends, first_mark, depth_of, reach, AllRight}
 use Rattle.acn_events.specs.Steps.{Class, Stops}
-use Rattle.acn_events.proofs.Coming.{base_depth, reach_grows}
+use Rattle.acn_events.proofs.Coming.{reach_grows}
 use Rattle.acn_events.proofs.Packets.{Behind, behind_none, behind_on, behind_then}
-use Rattle.acn_events.proofs.Standing.{Stands, first_stands, stands_on}
+use Rattle.acn_events.proofs.Standing.{Stands, base_depth, first_stands, stands_on}
 
 -- where the writer stands, of those that end behind so many bits
 record Halted (m n : State) (all : ℕ) : Type 0 where

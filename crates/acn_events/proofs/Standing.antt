@@ -35,7 +35,7 @@ use Rattle.acn_text.specs.Steps.{size_bits}
 use Rattle.acn_text.specs.Texts.{SlotSays, TextCode, given_size}
 use Rattle.acn_events.specs.Event.{Event, Frame, State, aligns, copies, begins, puts, sizes, codes, texts, opens, notes, wants, fills, enters, closes, base_of, position, octets_in, leaf_of, leaves_without}
 use Rattle.acn_events.specs.Laws.{first_state}
-use Rattle.acn_events.specs.Marks.{Mark, first_mark, marked, start_of, rest_of, Right, AllRight, CanBeClosed, OpensRight, ends}
+use Rattle.acn_events.specs.Marks.{Mark, first_mark, marked, start_of, rest_of, Right, AllRight, CanBeClosed, OpensRight, ends, depth_of}
 use Rattle.acn_events.specs.Steps.{put, entered, tail_of, IsBegun, Ends, Room, Can, Opens, Notes, FillsGap, Closes, Does, Step, Run, gap_of}
 use Rattle.acn_events.proofs.Keeping.{Kept, kept_one, kept_noted, kept_opened, kept_ended, same_begun, same_gap}
 use Rattle.acn_events.proofs.Right.{domain_is}
@@ -144,6 +144,12 @@ abbrev pub AllStand : List Frame → List (ℕ × SizeRule) → Type 0
 AllStand [] [] = Unit {0}
 AllStand (f ∷ fs) (o ∷ os) = (f.base ≡ base_of fs + o.0) × FrameStands o.1 f × AllStand fs os
 AllStand _ _ = ⊥
+
+pub base_depth : (fs : List Frame) (os : List (ℕ × SizeRule)) → AllStand fs os → (base_of fs ≡ depth_of os) × (length fs ≡ length os)
+base_depth [] [] h = (refl, refl)
+base_depth [] (o ∷ os) h = absurd h
+base_depth (f ∷ fs) [] h = absurd h
+base_depth (f ∷ fs) (o ∷ os) h = let r = base_depth fs os h.2 in let a = h.0 in let b = r.0 in (omega (arith, a, b), ap suc r.1)
 
 pub record Stands (root : Grammar) (size : ℕ) (p : Mark) (m : State) : Type 0 where
   pub long : length m.buf ≡ size

@@ -204,7 +204,7 @@ Run (e ∷ es) m n = (next : State) × Step e m next × Run es next n
 
 -- Halts.
 
--- how many slots a table has room for, and how many numbers to avoid
+-- how many slots a table has room for, as many as contents have, and how many numbers to avoid
 pub record Class : Type 0 where
   pub slots : ℕ
   pub avoided : ℕ
@@ -241,11 +241,12 @@ abbrev pub Miscounts : Event → State → (path : List ℕ) → (octets : ℕ) 
 Miscounts (closes path sizing n) m at k = (at ≡ path) × (k ≡ octets_in m) × (has sizing.sizes (pos k) ≡ false)
 Miscounts _ m at k = ⊥
 
--- the table is full
+-- the table is full, or as many contents are begun as there is room for
 abbrev pub Overflows : Class → Event → State → Type 0
 Overflows c (opens s leaf) m = AllBegun c.slots m.table
 Overflows c (notes path s set x) m = AllBegun c.slots m.table
 Overflows c (wants path s a) m = Avoids c s a m
+Overflows c (enters rule) m = c.slots ≤ length m.contents
 Overflows c _ m = ⊥
 
 module _ (c : Class) where

@@ -28,7 +28,7 @@ use acn_packet_laws::{accepted_is_sound, lengths_are_told};
 use acn_plan::Plan;
 use acn_writer::{Halt, Writer};
 
-/// The smallest table has room for so many open slots.
+/// The smallest table has room for so many open slots, and as many contents have room beside it.
 const FEW_SLOTS: usize = 4;
 
 /// And for so many numbers to avoid.

@@ -62,6 +62,20 @@ slot_filled {N} {S} {A} old new slot g leaf x wanted b is found width passed kee
   same_buffer = f.writes.same_buffer;
 }
 
+-- a slot with its own number is ended
+pub slot_ended : {N S A : ℕ} (old new : Writer N S A) (slot : ℕ) → begun old.slots.table slot ≡ true → gap_at old.slots.table slot ≡ Some None → Ends slot old.slots.table new.slots.table → new.slots.leaves ≡ old.slots.leaves → new.cursor ≡ old.cursor → new.contents ≡ old.contents
+    → Comes (λ path. fills slot) old new
+slot_ended old new slot b is e leaves k c =
+    let next =
+    same_state (bits new.cursor.buf.now) (bits old.cursor.buf.now) new.cursor.at old.cursor.at new.slots.table new.slots.table new.slots.leaves old.slots.leaves new.contents old.contents (ap (λ (z : WriteCursor _). bits z.buf.now) k) (ap (λ (z : WriteCursor _). z.at) k) refl leaves c in
+    record {
+      step = λ path. record {
+        can = (b, subst (λ (o : Option (Option Gap)). GapFits slot o (state_of old)) (sym is) tt);
+        does = (e, subst (λ (o : Option (Option Gap)). FillsGap slot o (state_of old) (state_of new)) (sym is) next);
+      };
+      same_buffer = ap (λ (z : WriteCursor _). z.buf.ghost_name) k;
+    }
+
 -- the hole that is given back is the one whose end was told
 pub same_end : (o : Option (Option Gap)) (g h : Gap) (end : ℕ) → o ≡ Some (Some g) → end ≡ g.place + g.width → o ≡ Some (Some h) → end ≡ h.place + h.width
 same_end o g h end a e b = e ∙ ap (λ (z : Gap). z.place + z.width) (one_gap (sym a ∙ b))

@@ -137,3 +137,6 @@ with_gap (Some g) h = (g, refl)
 pub without_gap : (o : Option Gap) → is_some o ≡ false → o ≡ None
 without_gap None h = refl
 without_gap (Some g) h = cc
+
+pub same_gap : {a b : Gap} → Some a ≡ Some b → a ≡ b
+same_gap e = cc

@@ -3,6 +3,7 @@ mod Breaches
 mod Buffers
 mod Endings
 mod FrameLists
+mod Frames
 -- for acn_pack
 pub mod Joining
 mod LeafLists

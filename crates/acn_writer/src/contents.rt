@@ -2,23 +2,21 @@ ghost use Rattle.std.specs.Prelude.{◌≡◌, ◌<◌, [], ◌∷◌, length, S
 ghost use Rattle.acn_bits.specs.Overwrite.{Gap};
 ghost use Rattle.acn_events.specs.Event.{base_of};
 ghost use Rattle.acn_events.specs.Steps.{gap_of, tail_of};
-ghost use Rattle.acn_num.specs.declared.limits.TheConstants.{MOST_STEPS};
 ghost use Rattle.acn_writer.specs.Contents.{gap_shown};
 
 use crate::frame::Opening;
 use acn_bits::{Hole, Holes};
-use acn_num::MOST_STEPS;
 use arrayvec::ArrayVec;
 use std::marker::Model;
 
 /// Contents that aren't ended: where each begins, and the hole for its size where that stands in
-/// front.
-pub struct Contents {
-    openings: ArrayVec<Opening, MOST_STEPS>,
-    holes: Holes<MOST_STEPS>,
+/// front. There is room for `S` of them.
+pub struct Contents<const S: usize> {
+    openings: ArrayVec<Opening, S>,
+    holes: Holes<S>,
 }
 
-impl Model for Contents {
+impl<const S: usize> Model for Contents<S> {
     ghost use Rattle.std.specs.Prelude.{◌≡◌, List};
     ghost use Rattle.acn_events.specs.Event.{Frame};
     ghost use Rattle.acn_fill.specs.Table.{have_holes};
@@ -31,9 +29,9 @@ impl Model for Contents {
     ghost invariant = { λ c. have_holes c.holes ≡ are_sized c.openings.items };
 }
 
-impl Contents {
+impl<const S: usize> Contents<S> {
     /// None are begun.
-    pub fn new() -> Contents
+    pub fn new() -> Contents<S>
         ensures { result ≡ [] }
     {
         Contents {
@@ -78,7 +76,7 @@ impl Contents {
 
     /// Begins contents behind the hole for their size.
     pub fn enter(&mut self, base: u64, hole: Hole)
-        requires { length self.old < MOST_STEPS }
+        requires { length self.old < S }
         ensures { self.new ≡ record { base = base; gap = Some hole } ∷ self.old }
     {
         self.openings.push(Opening { base, sized: true });
@@ -87,7 +85,7 @@ impl Contents {
 
     /// Begins contents whose size doesn't stand in front.
     pub fn enter_bare(&mut self, base: u64)
-        requires { length self.old < MOST_STEPS }
+        requires { length self.old < S }
         ensures { self.new ≡ record { base = base; gap = None } ∷ self.old }
     {
         self.openings.push(Opening { base, sized: false });

@@ -16,7 +16,8 @@ pub enum Halt {
     Miscounts {
         octets: u64,
     },
-    /// The table has no room for one slot more, or for one number to avoid more.
+    /// There is no room for one slot more, for one number to avoid more, or for contents in those
+    /// that are begun.
     Full,
     /// The event can't come here.
     Lost,

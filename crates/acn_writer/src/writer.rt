@@ -30,8 +30,8 @@ use acn_num::{MOST_STEPS, RangeSet};
 use acn_text::put_text;
 
 /// A writer in place: a buffer's writer, the table of open slots with the leaf of each that has a
-/// hole, and the contents that aren't ended. There is room for `S` slots, and for `A` numbers to
-/// avoid on all of them.
+/// hole, and the contents that aren't ended. There is room for `S` slots and for `S` contents, and
+/// for `A` numbers to avoid on all slots.
 ///
 /// Each event either comes to pass or halts, and where it halts nothing is changed. Since the
 /// writer keeps holes it can't be dropped: `finish` ends it where nothing is begun, and `abandon`
@@ -39,7 +39,7 @@ use acn_text::put_text;
 pub struct Writer<'b, 'p, const N: usize, const S: usize, const A: usize> {
     cursor: WriteCursor<'b, N>,
     slots: Slots<'p, S, A>,
-    contents: Contents,
+    contents: Contents<S>,
     ghost long: { length (bits_of cursor.buf.now) ≡ 8 * N },
 }
 
@@ -92,6 +92,11 @@ impl<'b, 'p, const N: usize, const S: usize, const A: usize> Writer<'b, 'p, N, S
     {
         if align == 0 {
             return Err(Halt::Lost);
+        }
+        if align == 1 {
+            // No bits: it shows that the place lies in the buffer.
+            self.cursor.put(0, 0);
+            return Ok(());
         }
         let position = self.position();
         let count = padding(align, position);
@@ -306,6 +311,9 @@ impl<'b, 'p, const N: usize, const S: usize, const A: usize> Writer<'b, 'p, N, S
         ensures ran { OnOk result (Comes (λ path. enters rule.now) self.old self.new) }
         ensures halted { IfErr result (λ why. HaltsFor (λ path. enters rule.now) self.old self.new why) }
     {
+        if self.contents.depth() >= S {
+            return Err(Halt::Full);
+        }
         if self.contents.depth() >= MOST_STEPS {
             return Err(Halt::Lost);
         }
@@ -473,7 +481,10 @@ fn end_slot<'p, const N: usize, const S: usize, const A: usize>(
 }
 
 // Ends all contents, and fills the holes for their sizes with zeros.
-fn end_contents<const N: usize>(cursor: &mut WriteCursor<'_, N>, contents: &mut Contents)
+fn end_contents<const N: usize, const S: usize>(
+    cursor: &mut WriteCursor<'_, N>,
+    contents: &mut Contents<S>,
+)
     requires { AllPassed contents.old (place_of cursor.old) }
     ensures ended { contents.new ≡ [] }
     ensures behind { KeepsBehind cursor.old cursor.new }
@@ -484,7 +495,10 @@ fn end_contents<const N: usize>(cursor: &mut WriteCursor<'_, N>, contents: &mut 
 }
 
 // Ends the innermost contents, and fills the hole for their size with zeros.
-fn end_innermost<const N: usize>(cursor: &mut WriteCursor<'_, N>, contents: &mut Contents)
+fn end_innermost<const N: usize, const S: usize>(
+    cursor: &mut WriteCursor<'_, N>,
+    contents: &mut Contents<S>,
+)
     requires some { 0 < length contents.old }
     requires passed { AllPassed contents.old (place_of cursor.old) }
     ensures passed { AllPassed contents.new (place_of cursor.new) }

@@ -798,3 +798,10 @@ pack_contained-returns-clause-packs g t c =
     let back = c.in_ok-pack_child.ensures.path in
     subst (λ (q : List ℕ). Packs whole c.args.w.now c.close.new.self q c.close.result) (sym back)
     (last_one whole (λ path. closes path s octets') c.args.w.now c.align.new.self c.close.new.self p c.close.result (then_one whole last' (λ path. aligns 8) p c.args.w.now c.pack_child.new.w c.align.new.self within c.in_ok-align.ensures.ran) (close_ran (λ k path. closes path s k) c.align.new.self c.close.new.self c.close.result c.close.ensures.ran octets') (close_halted (λ k path. closes path s k) c.align.new.self c.close.new.self c.close.result c.close.ensures.halted octets'))
+
+-- The search doesn't get so far down in what is required of the writer's size.
+pub pack_contained-close-requires : goal.pack_contained-close-requires
+pack_contained-close-requires g t c = c.requires-raw.1.1.1.1.1.0
+
+pub pack_elements-put_end-requires : goal.pack_elements-put_end-requires
+pack_elements-put_end-requires g t c = c.requires-raw.1.1.1.1.1.0

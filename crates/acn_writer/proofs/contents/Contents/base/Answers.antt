@@ -5,7 +5,7 @@ use Rattle.acn_writer.proofs.FrameLists.{at_end, no_opening}
 use Rattle.acn_writer.proofs.contents.Contents.base.Goals as goal
 
 pub returns : goal.returns
-returns c =
+returns g c =
     let xs = c.as_slice-openings.result.now in
     let gs = c.self.inside.holes in
     let same = c.as_slice-openings.ensures.value in

@@ -5,7 +5,7 @@ use Rattle.acn_writer.proofs.FrameLists.{at_end, no_opening, one_gap, with_gap, 
 use Rattle.acn_writer.proofs.contents.Contents.hole.Goals as goal
 
 pub shown-requires : goal.shown-requires
-shown-requires c =
+shown-requires g c =
     let xs = c.as_slice-openings.result.now in
     let gs = c.self.inside.holes in
     let same = c.as_slice-openings.ensures.value in
@@ -14,7 +14,7 @@ shown-requires c =
     (search rules, (g.0, e.0.hole ∙ ap Some g.1))
 
 pub returns-then-openings-count : goal.returns-then-openings-count
-returns-then-openings-count c =
+returns-then-openings-count g c =
     let xs = c.as_slice-openings.result.now in
     let gs = c.self.inside.holes in
     let same = c.as_slice-openings.ensures.value in
@@ -22,7 +22,7 @@ returns-then-openings-count c =
     ap gap_of (sym c.self.view_is) ∙ (ap (λ z. gap_of (frames_of z gs)) (sym same) ∙ (ap gap_of e.1 ∙ one_gap (sym e.0.hole ∙ c.shown.ensures)))
 
 pub returns : goal.returns
-returns c =
+returns g c =
     let xs = c.as_slice-openings.result.now in
     let gs = c.self.inside.holes in
     let same = c.as_slice-openings.ensures.value in

@@ -1,6 +1,8 @@
-use Rattle.std.proofs.Common.{refl, subst}
+use Rattle.std.proofs.Common.{rules, refl, subst}
 use Rattle.acn_grammar.specs.Asks.{Ask}
+use Rattle.acn_fill.specs.Table.{OneMore}
 use Rattle.acn_writer.specs.Halts.{AsksHalt}
+use Rattle.acn_writer.proofs.Frames.{closed_asking}
 use Rattle.acn_writer.proofs.Endings.{asking_halts}
 use Rattle.acn_writer.proofs.writer.Writer.close_asking.Goals as goal
 
@@ -8,3 +10,8 @@ pub returns-in-Err-clause-halted : goal.returns-in-Err-clause-halted
 returns-in-Err-clause-halted g c sizing n is permitted =
     let halts = subst (λ (a : Ask). AsksHalt g.row.S g.row.A c.args.slot a c.args.self.now.slots.table c.in-Err.why) c.equal-ask.ensures c.in-Err.ensures.halted in
     asking_halts c.args.self.now _ c.args.slot c.args.octets n sizing c.in-Err.why is c.requires permitted halts refl c.in-Err.ensures.same refl
+
+pub returns-in-Ok-clause-ran : goal.returns-in-Ok-clause-ran
+returns-in-Ok-clause-ran g c sizing n is permitted =
+    let more = subst (λ (a : Ask). OneMore c.args.slot a c.args.self.now.slots.table c.ask.new.self.table) c.equal-ask.ensures c.in-Ok.ensures.more in
+    closed_asking c.args.self.now _ sizing c.args.slot c.args.octets n is c.requires permitted (search rules) (search rules) c.in-Ok.ensures.begun more c.in-Ok.ensures.leaves refl c.leave_bare.ensures

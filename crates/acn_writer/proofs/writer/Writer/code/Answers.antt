@@ -1,4 +1,4 @@
-use Rattle.std.proofs.Common.{refl, sym, ◌∙◌}
+use Rattle.std.proofs.Common.{rules, refl, sym, ◌∙◌}
 use Rattle.std.specs.Int.{w128}
 use Rattle.std.proofs.lemmas.Int.{to_z-of_z}
 use Rattle.acn_grammar.specs.Length.{num_length}
@@ -24,3 +24,6 @@ returns-clause-ran g c =
     let plain = to_z-of_z w128 c.args.x c.ranges.x in
     let code = rw plain at c.put_num.ensures.code in
     number_coded c.args.self.now _ refl refl c.args.leaf.now c.args.x c.requires code
+
+pub put_num-requires : goal.put_num-requires
+put_num-requires g c = (search rules, (c.requires, (sym c.holds.ensures ∙ c.if-not-holds.false, c.has_room_for_code.ensures.room c.if-not-has_room_for_code.false)))

@@ -5,7 +5,7 @@ use Rattle.acn_num.specs.Ranges.{In}
 use Rattle.acn_bits.specs.Writing.{Fills}
 use Rattle.acn_grammar.specs.Code.{Code, Written}
 use Rattle.acn_fill.specs.Table.{gap_at}
-use Rattle.acn_writer.proofs.Endings.{same_end, slot_filled}
+use Rattle.acn_writer.proofs.Endings.{same_end, slot_ended, slot_filled}
 use Rattle.acn_writer.proofs.writer.Writer.fill.Goals as goal
 
 pub fill_num-requires : goal.fill_num-requires
@@ -33,3 +33,6 @@ returns-else-end-at-clause-ran g c =
     let plain = to_z-of_z w128 c.end_opened-hole.result.number (record { sfits = search rules }) in
     let f = subst (λ (z : ℤ). Fills (Code Written leaf z) hole.place c.args.self.now.cursor c.fill_num.new.cur) plain c.fill_num.ensures in
     slot_filled c.args.self.now _ c.args.slot hole leaf c.end_opened-hole.result.number e.some.0 b e.hole e.leaf e.width passed e.some.1 e.least e.fine f e.ended e.leaves refl
+
+pub returns-in-None-clause-ran : goal.returns-in-None-clause-ran
+returns-in-None-clause-ran g c = slot_ended c.args.self.now _ c.args.slot (sym c.is_begun.ensures ∙ c.if-not-is_begun.false) c.in-None.ensures c.end_noted.ensures.ended c.end_noted.ensures.leaves refl refl
