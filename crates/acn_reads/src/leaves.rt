@@ -57,6 +57,7 @@ pub fn read_leaf(
     requires named { FormItemsNamed (num leaf.now) }
     ensures read { IfOk result (λ v. Reads (λ bs. (x : ℤ) × NumberOf leaf.now.kind (data_of v) x × Code Any leaf.now x bs) cur.old cur.new) }
     ensures fails { IfErr result (λ e. Tells e (Named inside from (Refused leaf.now cur.old.rest))) }
+    ensures fault { IfErr result IsFault }
 {
     match read_num(cur, leaf) {
         Ok(x) => Ok(number_value(leaf, &x)),
@@ -112,6 +113,7 @@ pub fn read_number(
     ensures read { IfOk result (λ v. (root : Grammar) (t : Env) → Fine root t → NodeRead root (a_node align (num leaf.now)) (data_of v) t t cur.old cur.new) }
     ensures fails { IfErr result (λ e. Tells e (λ r at. (root : Grammar) (t : Env) → Fine root t → NodeStops root (a_node align (num leaf.now)) inside (path.old ++ k ∷ []) t cur.old path.new r at)) }
     ensures path { OnOk result (path.new ≡ path.old) }
+    ensures fault { IfErr result IsFault }
 {
     match read_code(cur, align, leaf, inside) {
         Ok(x) => Ok(number_value(leaf, &x)),

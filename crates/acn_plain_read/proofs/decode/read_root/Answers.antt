@@ -17,4 +17,4 @@ pub returns-in-Ok-clause-front : goal.returns-in-Ok-clause-front
 returns-in-Ok-clause-front c = root_front (grammar_of c.args.root.now) (bits c.args.bytes.now) (data_of c.in-Ok.value) c.new-slots.result c.read_node.new.slots c.new-cur.result c.read_node.new.cur c.at-used.result c.requires.sound c.new-slots.ensures (begins_at c.args.bytes.now c.new-cur.result c.new-cur.ensures) c.at-used.ensures c.in-Ok.ensures.read
 
 pub returns-clause-fault : goal.returns-clause-fault
-returns-clause-fault c = c.refusal.ensures (grammar_of c.args.root.now) (bits c.args.bytes.now) (tells_map c.in-Err.stop _ _ (λ q at s. root_fails (grammar_of c.args.root.now) (bits c.args.bytes.now) c.new-slots.result c.new-path.result c.new-cur.result _ q at c.requires.sound c.new-slots.ensures c.new-path.ensures (begins_at c.args.bytes.now c.new-cur.result c.new-cur.ensures) s) c.in-Err.ensures.fails)
+returns-clause-fault c = c.refusal.ensures.told (grammar_of c.args.root.now) (bits c.args.bytes.now) (tells_map c.in-Err.stop _ _ (λ q at s. root_fails (grammar_of c.args.root.now) (bits c.args.bytes.now) c.new-slots.result c.new-path.result c.new-cur.result _ q at c.requires.sound c.new-slots.ensures c.new-path.ensures (begins_at c.args.bytes.now c.new-cur.result c.new-cur.ensures) s) c.in-Err.ensures.fails)

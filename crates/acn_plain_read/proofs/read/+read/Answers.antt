@@ -52,7 +52,7 @@ read_component-returns-in_ok-note-in-Ok-clause-read t c place name default fs =
     let r = c.requires.ready in
     let yes' : there_now c.args.presence.now c.args.slots.now c.args.flags.now.rest ≡ true = ap (λ x. there_now c.args.presence.now x c.args.flags.now.rest) (sym c.items.ensures) ∙ (sym c.is_there.ensures.there ∙ c.if-is_there.true) in
     subst (λ (x : List (ℕ × ℤ)). Turn (grammar_of c.args.root.now) (record { path = c.args.path.now; place = place; inside = c.args.inside }) c.args.cur.now.origin c.args.k (suc c.args.k) (component name (grammar_of c.args.node.now) c.args.presence.now default c.args.slot fs) fs (Some (data_of c.in-Ok.value) ∷ []) c.args.slots.now x c.args.flags.now.rest c.is_there.new.flags.rest c.args.cur.now c.read_present.new.cur)
-    (sym (c.in_ok-note-in-Ok.ensures ∙ ap (λ (x : ℤ). noted_by c.args.slot x c.read_present.new.slots) (to_z-of_z w128 c.number.result (record { sfits = search rules }) ∙ c.number.ensures)))
+    (sym (c.in_ok-note-in-Ok.ensures.noted ∙ ap (λ (x : ℤ). noted_by c.args.slot x c.read_present.new.slots) (to_z-of_z w128 c.number.result (record { sfits = search rules }) ∙ c.number.ensures)))
     (component_read (grammar_of c.args.root.now) (record { path = c.args.path.now; place = place; inside = c.args.inside }) c.args.cur.now.origin c.args.k name (grammar_of c.args.node.now) c.args.presence.now default c.args.slot fs r.1 (data_of c.in-Ok.value) c.args.slots.now c.read_present.new.slots c.args.flags.now.rest c.is_there.new.flags.rest c.args.cur.now c.read_present.new.cur (suc (length c.args.path.now)) r.0 r.2 c.requires.named
     c.is_there.ensures.flags (λ env f. (there_told (grammar_of c.args.root.now) r.2.known c.args.slots.now env c.args.presence.now c.args.flags.now.rest r.2.noted.has r.2.is.0 f).0 yes') c.in-Ok.ensures.read)
 
@@ -182,7 +182,7 @@ pub read_seq-returns-in_ok-forget-in-Ok-read_fields-clause-read : goal.read_seq-
 read_seq-returns-in_ok-forget-in-Ok-read_fields-clause-read t c =
     let count : c.count_of.result ≡ presence_count (fields_view c.args.seq.now.fields) = c.count_of.ensures ∙ ap (λ x. presence_count (fields_view x)) c.items.ensures in
     seq_read_at (grammar_of c.args.root.now) (record { path = c.args.path.now; place = c.args.from; inside = c.args.inside }) c.window.new.self.origin (length c.items-in-Ok.result.now) (length c.args.path.now) _ c.args.seq.now.fields c.items-in-Ok.result.now c.args.seq.now.home c.items-in-Ok-read_fields.result.now c.in-Ok-read_fields.places _ c.args.slots.now c.read_fields.new.slots c.read_fields.new.slots c.forget.new.numbers c.args.cur.now c.window.new.self c.read_fields.new.cur c.in-Ok.window c.count_of.result _
-    (view_seq_form c.args.seq.now) (view_seq c.in-Ok-read_fields.places) c.items-in-Ok.ensures c.items-in-Ok-read_fields.ensures refl (c.in_ok-forget-in-Ok-read_fields.ensures {u = tt}) count c.in-Ok.ensures.within c.in-Ok.ensures.window c.in-Ok.ensures.moved c.requires.ready (c.in-Ok-read_fields.ensures.read c.args.from)
+    (view_seq_form c.args.seq.now) (view_seq c.in-Ok-read_fields.places) c.items-in-Ok.ensures c.items-in-Ok-read_fields.ensures refl c.in_ok-forget-in-Ok-read_fields.ensures.left count c.in-Ok.ensures.within c.in-Ok.ensures.window c.in-Ok.ensures.moved c.requires.ready (c.in-Ok-read_fields.ensures.read c.args.from)
 
 pub read_seq-returns-in-Err-read_fields-clause-fails : goal.read_seq-returns-in-Err-read_fields-clause-fails
 read_seq-returns-in-Err-read_fields-clause-fails t c =

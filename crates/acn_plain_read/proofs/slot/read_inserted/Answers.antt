@@ -29,7 +29,7 @@ returns-in_ok-note-in-Ok-clause-read c place name fs flags =
     let root = grammar_of c.args.root.now in
     let turn = inserted_read (grammar_of c.args.root.now) (record { path = c.args.path.now; place = place; inside = c.args.inside }) c.args.cur.now.origin c.args.k name c.args.node.now.align c.leaf_of.result.now c.args.slot c.in-Ok.x fs r.1 c.args.slots.now flags c.args.cur.now c.read_code.new.cur (suc (length c.args.path.now)) r.0
     (subst (λ (g : Grammar). FieldsStand (grammar_of c.args.root.now) (suc (length c.args.path.now)) (inserted [] g c.args.slot r.1) c.args.slots.now r.0) e r.2) (subst ItemsNamed e c.requires.named) c.requires.fine c.in-Ok.ensures.read in
-    subst (λ (t : List (ℕ × ℤ)). Turn (grammar_of c.args.root.now) (record { path = c.args.path.now; place = place; inside = c.args.inside }) c.args.cur.now.origin c.args.k (suc c.args.k) (inserted name (grammar_of c.args.node.now) c.args.slot fs) fs [] c.args.slots.now t flags flags c.args.cur.now c.read_code.new.cur) (sym (c.in_ok-note-in-Ok.ensures ∙ ap (λ (z : ℤ). noted_by c.args.slot z c.args.slots.now) (to_z-of_z w128 c.in-Ok.x (record { sfits = search rules }))))
+    subst (λ (t : List (ℕ × ℤ)). Turn (grammar_of c.args.root.now) (record { path = c.args.path.now; place = place; inside = c.args.inside }) c.args.cur.now.origin c.args.k (suc c.args.k) (inserted name (grammar_of c.args.node.now) c.args.slot fs) fs [] c.args.slots.now t flags flags c.args.cur.now c.read_code.new.cur) (sym (c.in_ok-note-in-Ok.ensures.noted ∙ ap (λ (z : ℤ). noted_by c.args.slot z c.args.slots.now) (to_z-of_z w128 c.in-Ok.x (record { sfits = search rules }))))
     (subst (λ (g : Grammar). Turn (grammar_of c.args.root.now) (record { path = c.args.path.now; place = place; inside = c.args.inside }) c.args.cur.now.origin c.args.k (suc c.args.k) (inserted name g c.args.slot fs) fs [] c.args.slots.now (noted_by c.args.slot c.in-Ok.x c.args.slots.now) flags flags c.args.cur.now c.read_code.new.cur) (sym e) turn)
 
 pub returns-in-Err-clause-fails : goal.returns-in-Err-clause-fails

@@ -30,12 +30,12 @@ returns-in-Ok-clause-alone c root e =
 pub returns-in-Err-clause-fault : goal.returns-in-Err-clause-fault
 returns-in-Err-clause-fault c root e =
     subst (λ (g : Grammar). Refuses g (bits c.args.bytes.now) c.refusal.result) (its_root c.args.plan.now.steps c.steps-steps.result.now root c.steps-steps.ensures.same e)
-    (c.refusal.ensures (root_of c.steps-steps.result.now) (bits c.args.bytes.now) (halts_tells c.in-Err.stop _ _ c.in-Err.ensures.fails))
+    (c.refusal.ensures.told (root_of c.steps-steps.result.now) (bits c.args.bytes.now) (halts_tells c.in-Err.stop _ _ c.in-Err.ensures.fails))
 
 pub returns-in-Err-clause-only : goal.returns-in-Err-clause-only
 returns-in-Err-clause-only c root e =
     subst (λ (g : Grammar). OnlyFault g (bits c.args.bytes.now) c.refusal.result) (its_root c.args.plan.now.steps c.steps-steps.result.now root c.steps-steps.ensures.same e)
-    (only_fault (root_of c.steps-steps.result.now) (bits c.args.bytes.now) c.refusal.result c.steps-steps.ensures.made.accepted c.fronts_exclude_failures.ensures c.one_failure.ensures (c.refusal.ensures (root_of c.steps-steps.result.now) (bits c.args.bytes.now) (halts_tells c.in-Err.stop _ _ c.in-Err.ensures.fails)))
+    (only_fault (root_of c.steps-steps.result.now) (bits c.args.bytes.now) c.refusal.result c.steps-steps.ensures.made.accepted c.fronts_exclude_failures.ensures c.one_failure.ensures (c.refusal.ensures.told (root_of c.steps-steps.result.now) (bits c.args.bytes.now) (halts_tells c.in-Err.stop _ _ c.in-Err.ensures.fails)))
 
 pub returns-in-Ok-clause-front_rests : goal.returns-in-Ok-clause-front_rests
 returns-in-Ok-clause-front_rests c root e =
@@ -46,4 +46,4 @@ returns-in-Ok-clause-front_rests c root e =
 pub returns-in-Err-clause-fault_rests : goal.returns-in-Err-clause-fault_rests
 returns-in-Err-clause-fault_rests c root e =
     subst (λ (g : Grammar). RefuseRests g (bits c.args.bytes.now) c.refusal.result) (its_root c.args.plan.now.steps c.steps-steps.result.now root c.steps-steps.ensures.same e)
-    (refuse_rests (root_of c.steps-steps.result.now) (bits c.args.bytes.now) c.refusal.result c.faults_rest_on_bits.ensures c.steps-steps.ensures.made.accepted (c.refusal.ensures (root_of c.steps-steps.result.now) (bits c.args.bytes.now) (halts_tells c.in-Err.stop _ _ c.in-Err.ensures.fails)))
+    (refuse_rests (root_of c.steps-steps.result.now) (bits c.args.bytes.now) c.refusal.result c.faults_rest_on_bits.ensures c.steps-steps.ensures.made.accepted (c.refusal.ensures.told (root_of c.steps-steps.result.now) (bits c.args.bytes.now) (halts_tells c.in-Err.stop _ _ c.in-Err.ensures.fails)))
