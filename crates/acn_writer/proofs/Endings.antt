@@ -26,7 +26,7 @@ use Rattle.acn_writer.specs.Slots.{OpenSlots}
 use Rattle.acn_writer.specs.declared.halt.Halt.{Halt}
 use Rattle.acn_writer.specs.declared.halt.Halt.TheVariants.{Breaks, Full, Lost, Miscounts, Unmet}
 use Rattle.acn_writer.specs.declared.writer.Writer.{Writer}
-use Rattle.acn_writer.proofs.Tables.{one_gap}
+use Rattle.acn_writer.proofs.LeafLists.{same_some}
 
 -- What follows from what an answer says.
 
@@ -78,7 +78,7 @@ slot_ended old new slot b is e leaves k c =
 
 -- the hole that is given back is the one whose end was told
 pub same_end : (o : Option (Option Gap)) (g h : Gap) (end : ℕ) → o ≡ Some (Some g) → end ≡ g.place + g.width → o ≡ Some (Some h) → end ≡ h.place + h.width
-same_end o g h end a e b = e ∙ ap (λ (z : Gap). z.place + z.width) (one_gap (sym a ∙ b))
+same_end o g h end a e b = e ∙ ap (λ (z : Gap). z.place + z.width) (same_some (same_some (sym a ∙ b)))
 
 -- Contents end.
 

@@ -123,9 +123,6 @@ pub some_begun : (fs : List Frame) (g : Gap) → gap_of fs ≡ Some g → 0 < le
 some_begun [] g h = cc
 some_begun (f ∷ fs) g h = omega arith
 
-pub one_gap : {a b : Option Gap} → Some a ≡ Some b → a ≡ b
-one_gap e = cc
-
 pub none_kept : (gs : List (Option Gap)) (os : List Opening) → have_holes gs ≡ are_sized os → frames_of os gs ≡ [] → gs ≡ []
 none_kept [] os h e = refl
 none_kept (g ∷ gs) os h e = (let a = holes_long os (g ∷ gs) h in let b = sym (frames_long os (g ∷ gs) h) ∙ ap length e in absurd (omega (arith, a, b)))
@@ -137,6 +134,3 @@ with_gap (Some g) h = (g, refl)
 pub without_gap : (o : Option Gap) → is_some o ≡ false → o ≡ None
 without_gap None h = refl
 without_gap (Some g) h = cc
-
-pub same_gap : {a b : Gap} → Some a ≡ Some b → a ≡ b
-same_gap e = cc

@@ -12,6 +12,9 @@ pub truth : {F : Type 0} (b : Bool) → (b ≡ true → F) → (b ≡ false → 
 truth true f g = f refl
 truth false f g = g refl
 
+pub same_some : {A : Type 0} {a b : A} → Some a ≡ Some b → a ≡ b
+same_some e = cc
+
 pub if_yes : {A : Type 0} (b : Bool) (x y : A) → b ≡ true → (if b then x else y) ≡ x
 if_yes b x y e = rw e refl
 

@@ -15,7 +15,7 @@ use Rattle.acn_events.proofs.Keeping.{same_begun, same_gap}
 use Rattle.acn_writer.specs.Leaves.{end_of, has_leaf, leaf_place, leaves_in}
 use Rattle.acn_writer.specs.Slots.{HasLeaf, HaveLeaves, Tied, hole_count}
 use Rattle.acn_writer.specs.declared.leaf.SlotLeaf.{SlotLeaf}
-use Rattle.acn_writer.proofs.LeafLists.{truth, if_yes, if_no, eq_turn, eq_here, has_of_leaf, less_leaves, less_are, less_length, leaf_left, end_left, leaf_place_in}
+use Rattle.acn_writer.proofs.LeafLists.{truth, if_yes, if_no, eq_turn, eq_here, has_of_leaf, less_leaves, less_are, less_length, leaf_left, end_left, leaf_place_in, same_some}
 use denote.Bor.{Bor}
 
 long_frames : (xs : List Spot) → length (frames xs) ≡ length xs
@@ -25,9 +25,6 @@ long_frames (e ∷ es) = ap suc (long_frames es)
 same_keeps : (set : List (ℤ × ℤ)) (wanted : List Ask) (s : ℕ) (old new : Table) → SameAt s old new → Keeps set wanted old s → Keeps set wanted new s
 same_keeps set wanted s old new same k =
     subst (λ (z : List ℤ). KeepsSpot set wanted (spot_of s new.spots) z) (sym same.avoided) (subst (λ (o : Option Spot). KeepsSpot set wanted o (avoided_on s old.avoided)) (sym same.spot) k)
-
-pub one_gap : {a b : Gap} → Some (Some a) ≡ Some (Some b) → a ≡ b
-one_gap e = cc
 
 -- Counts.
 
@@ -100,7 +97,7 @@ tied_opened s leaf g old new es es' e is slot found end fine width keeps b f h =
       count = ap suc h.count ∙ sym (ap hole_count b.holes ∙ count_push old.gaps g);
       paired = begun_paired s (Some g) old new f b.holes h.paired;
       have = λ t g' c q. truth {F = HasLeaf t g' new (entry ∷ es)} (nat_eq t s)
-          (λ y. subst (λ (z : ℕ). HasLeaf z g' new (entry ∷ es)) (sym (eqb-true t s y)) (mine g' (one_gap (sym b.own ∙ (ap (gap_at new) (sym (eqb-true t s y)) ∙ q)))))
+          (λ y. subst (λ (z : ℕ). HasLeaf z g' new (entry ∷ es)) (sym (eqb-true t s y)) (mine g' (same_some (same_some (sym b.own ∙ (ap (gap_at new) (sym (eqb-true t s y)) ∙ q))))))
           (λ n. other t g' n c q);
     }))
   where

@@ -104,9 +104,8 @@ pack_body-pack_seq-requires g t c κs within =
     let root = root_of c.args.steps.now in
     let k = length c.args.path.now in
     let s = c.args.step.now in
-    let u = c.requires.there in
     let e = form_by c.args.steps.now c.args.this s (acts.Seq c.in-Seq.home) c.in-Seq.is ∙ ap (seq (fields_at c.args.steps.now (c.args.this + 1) s.next)) (sym c.items.ensures) in
-    (omega (arith, u), (within, (search rules, (search rules, (search rules, (search rules, (c.requires.made, ((made_nested c.args.steps.now c.requires.made c.args.this s c.requires.is).within, form_as root k (form_at c.args.steps.now c.args.this s) (seq (fields_at c.args.steps.now (c.args.this + 1) s.next) c.items.result.now) e c.requires.sound))))))))
+    (omega (arith, c.requires.there), (within, (search rules, (search rules, (search rules, (search rules, (c.requires.made, ((made_nested c.args.steps.now c.requires.made c.args.this s c.requires.is).within, form_as root k (form_at c.args.steps.now c.args.this s) (seq (fields_at c.args.steps.now (c.args.this + 1) s.next) c.items.result.now) e c.requires.sound))))))))
 
 pub pack_body-returns-in-Seq-clause-packs : goal.pack_body-returns-in-Seq-clause-packs
 pack_body-returns-in-Seq-clause-packs g t c =
@@ -122,9 +121,8 @@ pack_body-pack_list-requires g t c κs within =
     let root = root_of c.args.steps.now in
     let k = length c.args.path.now in
     let s = c.args.step.now in
-    let u = c.requires.there in
     let inside = child_inside c.args.steps.now c.args.this s (acts.List c.in-List.sizing) (made_nested c.args.steps.now c.requires.made) c.requires.is c.in-List.is (λ x. x) in
-    (omega (arith, u), (within, (search rules, (search rules, (search rules, (search rules, (c.requires.made, (inside, form_as root k (form_at c.args.steps.now c.args.this s) (list c.in-List.sizing (node_at c.args.steps.now (c.args.this + 1))) (form_by c.args.steps.now c.args.this s (acts.List c.in-List.sizing) c.in-List.is) c.requires.sound))))))))
+    (omega (arith, c.requires.there), (within, (search rules, (search rules, (search rules, (search rules, (c.requires.made, (inside, form_as root k (form_at c.args.steps.now c.args.this s) (list c.in-List.sizing (node_at c.args.steps.now (c.args.this + 1))) (form_by c.args.steps.now c.args.this s (acts.List c.in-List.sizing) c.in-List.is) c.requires.sound))))))))
 
 pub pack_body-returns-in-List-clause-packs : goal.pack_body-returns-in-List-clause-packs
 pack_body-returns-in-List-clause-packs g t c =
@@ -139,9 +137,8 @@ pack_body-pack_choice-requires g t c κs within =
     let root = root_of c.args.steps.now in
     let k = length c.args.path.now in
     let s = c.args.step.now in
-    let u = c.requires.there in
     let same : (other : Step) → StepAt c.args.steps.now c.args.this other → s ≡ other = λ other h. same_step c.args.steps.now c.args.this s other c.requires.is h in
-    (omega (arith, u), (within, (search rules, (search rules, (search rules, (search rules, (c.requires.made, (c.requires.there, ((λ other h. subst (λ x. x.act ≡ acts.Choice c.in-Choice.rule) (same other h) c.in-Choice.is), (λ other h. subst (λ x. FormIsSound root k (form_at c.args.steps.now c.args.this x)) (same other h) c.requires.sound))))))))))
+    (omega (arith, c.requires.there), (within, (search rules, (search rules, (search rules, (search rules, (c.requires.made, (c.requires.there, ((λ other h. subst (λ x. x.act ≡ acts.Choice c.in-Choice.rule) (same other h) c.in-Choice.is), (λ other h. subst (λ x. FormIsSound root k (form_at c.args.steps.now c.args.this x)) (same other h) c.requires.sound))))))))))
 
 pub pack_body-returns-in-Choice-clause-packs : goal.pack_body-returns-in-Choice-clause-packs
 pack_body-returns-in-Choice-clause-packs g t c = c.pack_choice.ensures.packs c.args.step.now c.requires.is
@@ -151,9 +148,8 @@ pack_body-pack_contained-requires g t c κs within =
     let root = root_of c.args.steps.now in
     let k = length c.args.path.now in
     let s = c.args.step.now in
-    let u = c.requires.there in
     let inside = child_inside c.args.steps.now c.args.this s (acts.Contained c.in-Contained.sizing) (made_nested c.args.steps.now c.requires.made) c.requires.is c.in-Contained.is (λ x. x) in
-    (omega (arith, u), (within, (search rules, (search rules, (search rules, (search rules, (c.requires.made, (inside, form_as root k (form_at c.args.steps.now c.args.this s) (contained c.in-Contained.sizing (node_at c.args.steps.now (c.args.this + 1))) (form_by c.args.steps.now c.args.this s (acts.Contained c.in-Contained.sizing) c.in-Contained.is) c.requires.sound))))))))
+    (omega (arith, c.requires.there), (within, (search rules, (search rules, (search rules, (search rules, (c.requires.made, (inside, form_as root k (form_at c.args.steps.now c.args.this s) (contained c.in-Contained.sizing (node_at c.args.steps.now (c.args.this + 1))) (form_by c.args.steps.now c.args.this s (acts.Contained c.in-Contained.sizing) c.in-Contained.is) c.requires.sound))))))))
 
 pub pack_body-returns-in-Contained-clause-packs : goal.pack_body-returns-in-Contained-clause-packs
 pack_body-returns-in-Contained-clause-packs g t c =
@@ -276,13 +272,11 @@ pack_fields-loop-this-preserved g t c =
     let s = c.at-step.result.now in
     let up = (made_nested c.args.steps.now c.requires.made l.this s c.at-step.ensures).behind in
     let more = fields_more c.args.steps.now l.this c.args.end s c.at-step.ensures c.loop-this-test.true up in
-    let e = l.invariant.from in
-    let f = l.invariant.few in
     let fs = fields_at c.args.steps.now s.next c.args.end in
     let one = field_by s.place (node_at c.args.steps.now l.this) in
     record {
-      from = omega (arith, up, e);
-      few = omega (arith, up, f);
+      from = omega (arith, up, l.invariant.from);
+      few = omega (arith, up, l.invariant.few);
       within = subst (λ (o : Option ℕ). IfSome o (λ n. n ≤ length c.args.places.now)) c.in-Ok-Some.field-0-is c.in-Ok-Some.ensures.within;
       path = c.in-Ok-Some.ensures.path ∙ l.invariant.path;
       sound = rest_sound root (suc (length c.args.path.now)) s.place (node_at c.args.steps.now l.this) fs (subst (λ (x : Fields). FieldsAreSound root (suc (length c.args.path.now)) x) more l.invariant.sound);
@@ -620,11 +614,9 @@ pack_chosen-pack_case-requires g t c κs within =
     let act = c.requires.is s c.at-step.ensures in
     let sound = form_as root k (form_at c.args.steps.now c.args.this s) (choice cases c.args.rule) (form_by c.args.steps.now c.args.this s (acts.Choice c.args.rule) act) (c.requires.sound s c.at-step.ensures) in
     let here = c.in-Some.ensures.there in
-    let from = here.from in
-    let u = c.requires.there in
     let itemed : (other : Step) → StepAt c.args.steps.now c.in-Some.case other → IsItemed root c.args.rule other.place = λ other h. subst (λ x. IsItemed root c.args.rule x.place) (same_step c.args.steps.now c.in-Some.case here.step other here.at h)
     (is_itemed root k cases c.args.rule (case_items c.args.steps.now (c.args.this + 1) s.next) c.args.i _ here.step.place sound (λ slot e. made_itemed c.args.steps.now c.requires.made c.args.this s slot c.at-step.ensures (act ∙ ap acts.Choice e)) here.is refl here.item) in
-    (omega (arith, from, u), (within, (search rules, (search rules, (search rules, (search rules, (c.requires.made, (inside c.args.steps.now c.in-Some.case here.step here.at, (nth_sound root (suc k) cases c.args.i _ (cases_sound root k cases c.args.rule sound) here.is, itemed)))))))))
+    (omega (arith, here.from, c.requires.there), (within, (search rules, (search rules, (search rules, (search rules, (c.requires.made, (inside c.args.steps.now c.in-Some.case here.step here.at, (nth_sound root (suc k) cases c.args.i _ (cases_sound root k cases c.args.rule sound) here.is, itemed)))))))))
 
 pub pack_chosen-returns-in_err-put_index-clause-packs : goal.pack_chosen-returns-in_err-put_index-clause-packs
 pack_chosen-returns-in_err-put_index-clause-packs g t c s h =
@@ -795,8 +787,7 @@ pack_contained-returns-clause-packs g t c =
     let octets' = octets_for (bit_length n 0 d) in
     let last' = closes p s octets' ∷ [] in
     let within = then_some whole inner (aligns 8 ∷ last') c.args.w.now c.enter.new.self c.pack_child.new.w (then_one whole (inner ++ aligns 8 ∷ last') (λ path. enters s.rule) p c.args.w.now c.args.w.now c.enter.new.self (begin whole c.args.w.now) c.in_ok-enter.ensures.ran) c.in_ok-pack_child.ensures.packs in
-    let back = c.in_ok-pack_child.ensures.path in
-    subst (λ (q : List ℕ). Packs whole c.args.w.now c.close.new.self q c.close.result) (sym back)
+    subst (λ (q : List ℕ). Packs whole c.args.w.now c.close.new.self q c.close.result) (sym c.in_ok-pack_child.ensures.path)
     (last_one whole (λ path. closes path s octets') c.args.w.now c.align.new.self c.close.new.self p c.close.result (then_one whole last' (λ path. aligns 8) p c.args.w.now c.pack_child.new.w c.align.new.self within c.in_ok-align.ensures.ran) (close_ran (λ k path. closes path s k) c.align.new.self c.close.new.self c.close.result c.close.ensures.ran octets') (close_halted (λ k path. closes path s k) c.align.new.self c.close.new.self c.close.result c.close.ensures.halted octets'))
 
 -- The search doesn't get so far down in what is required of the writer's size.

@@ -1,7 +1,8 @@
 use Rattle.std.proofs.Common.{rules, ◌-◌, length, Some, sym, ap, ◌∙◌, arith}
 use Rattle.acn_events.specs.Steps.{gap_of}
 use Rattle.acn_writer.specs.Contents.{are_sized, frames_of}
-use Rattle.acn_writer.proofs.FrameLists.{at_end, no_opening, one_gap, with_gap, without_gap}
+use Rattle.acn_writer.proofs.FrameLists.{at_end, no_opening, with_gap, without_gap}
+use Rattle.acn_writer.proofs.LeafLists.{same_some}
 use Rattle.acn_writer.proofs.contents.Contents.hole.Goals as goal
 
 pub shown-requires : goal.shown-requires
@@ -19,7 +20,7 @@ returns-then-openings-count g c =
     let gs = c.self.inside.holes in
     let same = c.as_slice-openings.ensures.value in
     let e = at_end xs gs (length xs - 1) no_opening (omega (arith, c.if-count-eq0.false)) (c.self.invariant ∙ ap are_sized (sym same)) in
-    ap gap_of (sym c.self.view_is) ∙ (ap (λ z. gap_of (frames_of z gs)) (sym same) ∙ (ap gap_of e.1 ∙ one_gap (sym e.0.hole ∙ c.shown.ensures)))
+    ap gap_of (sym c.self.view_is) ∙ (ap (λ z. gap_of (frames_of z gs)) (sym same) ∙ (ap gap_of e.1 ∙ same_some (sym e.0.hole ∙ c.shown.ensures)))
 
 pub returns : goal.returns
 returns g c =

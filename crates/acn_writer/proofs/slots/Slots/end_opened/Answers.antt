@@ -8,8 +8,8 @@ use Rattle.acn_events.specs.Event.{leaf_of, leaves_without}
 use Rattle.acn_writer.specs.Leaves.{has_leaf, leaf_place, leaves_in}
 use Rattle.acn_writer.specs.Slots.{OpenSlots}
 use Rattle.acn_writer.specs.declared.leaf.SlotLeaf.{SlotLeaf}
-use Rattle.acn_writer.proofs.LeafLists.{leaf_at, less_leaves}
-use Rattle.acn_writer.proofs.Tables.{one_gap, tied_filled, hole_leaf}
+use Rattle.acn_writer.proofs.LeafLists.{leaf_at, less_leaves, same_some}
+use Rattle.acn_writer.proofs.Tables.{tied_filled, hole_leaf}
 use denote.Bor.{Bor}
 use Rattle.acn_writer.proofs.slots.Slots.end_opened.Goals as goal
 
@@ -103,7 +103,7 @@ returns-clause-width g c =
     let found : e.leaf ≡ Some l.0 = ap (λ (z : SlotLeaf). z.leaf) (c.remove-entry.ensures.value ∙ ap (λ (k : ℕ). get_or items k e) at) ∙ l.1 in
     let w = c.self.invariant.have s c.requires.hole.0 b hole in
     let same : w.leaf ≡ c.in-Some.leaf.now = one_leaf (sym w.of_slot ∙ (l.2 ∙ ap (λ (z : Bor NumLeaf). Some z.now) (one_bor (sym found ∙ c.in-Some.is)))) in
-    ap width_of (sym same) ∙ (w.width ∙ ap (λ (z : Gap). Some z.width) (one_gap (sym hole ∙ c.finish-hole.ensures.hole)))
+    ap width_of (sym same) ∙ (w.width ∙ ap (λ (z : Gap). Some z.width) (same_some (same_some (sym hole ∙ c.finish-hole.ensures.hole))))
 
 pub returns-clause-some : goal.returns-clause-some
 returns-clause-some g c =

@@ -2,7 +2,7 @@ use Rattle.std.proofs.Common.{rules, ◌≡◌, ◌+◌, ◌-◌, ◌*◌, ◌^�
 use Rattle.std.specs.Prelude.{option_map}
 use Rattle.acn_bits.specs.Overwrite.{Gap}
 use Rattle.acn_writer.specs.Contents.{gap_shown}
-use Rattle.acn_writer.proofs.FrameLists.{same_gap}
+use Rattle.acn_writer.proofs.LeafLists.{same_some}
 use Rattle.acn_writer.proofs.Frames.{closed_sized, sized_lost}
 use Rattle.acn_writer.proofs.writer.Writer.close_sized.Goals as goal
 
@@ -13,18 +13,18 @@ returns-then-not-fits-clause-halted g c sizing n is permitted =
 pub returns-then-hole-width-clause-halted : goal.returns-then-hole-width-clause-halted
 returns-then-hole-width-clause-halted g c sizing n is permitted =
     let shown = c.hole.ensures ∙ ap (option_map gap_shown) c.in-Some.is in
-    sized_lost c.args.self.now sizing c.args.low c.args.width c.args.octets n is c.requires (λ s. (let same = ap (λ (z : Gap). z.width) (same_gap (sym s.is ∙ shown)) in let wide = s.wide in omega (arith, same, wide, c.if-hole-width.true)))
+    sized_lost c.args.self.now sizing c.args.low c.args.width c.args.octets n is c.requires (λ s. (let same = ap (λ (z : Gap). z.width) (same_some (sym s.is ∙ shown)) in let wide = s.wide in omega (arith, same, wide, c.if-hole-width.true)))
 
 pub returns-then-not-is_passed-clause-halted : goal.returns-then-not-is_passed-clause-halted
 returns-then-not-is_passed-clause-halted g c sizing n is permitted =
     let shown = c.hole.ensures ∙ ap (option_map gap_shown) c.in-Some.is in
     let late = c.is_passed.ensures.no c.if-not-is_passed.true in
-    sized_lost c.args.self.now sizing c.args.low c.args.width c.args.octets n is c.requires (λ s. (let same = ap (λ (z : Gap). z.place + z.width) (same_gap (sym s.is ∙ shown)) in let passed = s.passed in omega (arith, same, passed, late)))
+    sized_lost c.args.self.now sizing c.args.low c.args.width c.args.octets n is c.requires (λ s. (let same = ap (λ (z : Gap). z.place + z.width) (same_some (sym s.is ∙ shown)) in let passed = s.passed in omega (arith, same, passed, late)))
 
 pub fill-requires : goal.fill-requires
 fill-requires g c =
     let hole = c.leave-hole.result in
-    let same = same_gap (sym c.leave-hole.ensures.hole ∙ (c.hole.ensures ∙ ap (option_map gap_shown) c.in-Some.is)) in
+    let same = same_some (sym c.leave-hole.ensures.hole ∙ (c.hole.ensures ∙ ap (option_map gap_shown) c.in-Some.is)) in
     let end = ap (λ (z : Gap). z.place + z.width) same in
     let wide = ap (λ (z : Gap). z.width) same in
     let late = c.is_passed.ensures.yes c.if-not-is_passed.false in
@@ -35,7 +35,7 @@ fill-requires g c =
 pub returns-else-not-is_passed-clause-ran : goal.returns-else-not-is_passed-clause-ran
 returns-else-not-is_passed-clause-ran g c sizing n is permitted =
     let hole = c.leave-hole.result in
-    let same = same_gap (sym c.leave-hole.ensures.hole ∙ (c.hole.ensures ∙ ap (option_map gap_shown) c.in-Some.is)) in
+    let same = same_some (sym c.leave-hole.ensures.hole ∙ (c.hole.ensures ∙ ap (option_map gap_shown) c.in-Some.is)) in
     let end = ap (λ (z : Gap). z.place + z.width) same in
     let wide = ap (λ (z : Gap). z.width) same in
     let late = c.is_passed.ensures.yes c.if-not-is_passed.false in

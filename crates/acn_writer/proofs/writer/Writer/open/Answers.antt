@@ -6,6 +6,7 @@ use Rattle.acn_events.specs.Event.{opens}
 use Rattle.acn_events.specs.Steps.{IsBegun, Room}
 use Rattle.acn_writer.specs.Answers.{state_of}
 use Rattle.acn_writer.specs.declared.halt.Halt.TheVariants.{Full, Lost}
+use Rattle.acn_writer.proofs.LeafLists.{same_some}
 use Rattle.acn_writer.proofs.States.{halts_still, room_lost, slot_opened}
 use Rattle.acn_writer.proofs.writer.Writer.open.Goals as goal
 
@@ -22,13 +23,10 @@ pub returns-then-not-has_room_for_hole-clause-halted : goal.returns-then-not-has
 returns-then-not-has_room_for_hole-clause-halted g c =
     let known : width_of c.args.leaf.now ≡ Some c.in-Some.width = search rules in
     halts_still (λ path. opens c.args.slot c.args.leaf.now) c.args.self.now Lost (λ path can. (
-    let same = same_width (sym can.2 ∙ known) in
+    let same = same_some (sym can.2 ∙ known) in
     let late = c.has_room_for_hole.ensures.none c.if-not-has_room_for_hole.true (subst (λ (k : ℕ). k ≤ WORD_BITS) same can.3) in
     room_lost c.args.self.now c.in-Some.width late (subst (λ (k : ℕ). Room k (state_of c.args.self.now)) same can.4)
     ))
-  where
-    same_width : {a b : ℕ} → Some a ≡ Some b → a ≡ b
-    same_width e = cc
 
 pub open-requires : goal.open-requires
 open-requires g c = (search rules, (c.requires, (search rules, (search rules, (c.can_begin.ensures.room c.if-not-can_begin.false, sym c.is_begun.ensures ∙ c.if-is_begun.false)))))
