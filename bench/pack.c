@@ -1,9 +1,10 @@
 /* What bench/pack compares `pack` with: packets of three types, packed by code that was written for these types alone.
 
-       pack two|telemetry|record COUNT
+       pack two|telemetry|record COUNT [TIMES]
 
-   draws COUNT values, packs each into one buffer, and writes the packets. A packet of `two` is that of examples/first, one of
-   `telemetry` that of examples/telemetry, and one of `record` that of record.asn beside this file, of some 200 octets. */
+   draws COUNT values, packs each into one buffer, once or so many times, and writes the packets. A packet of `two` is that of
+   examples/first, one of `telemetry` that of examples/telemetry, and one of `record` that of record.asn beside this file, of some 200
+   octets. */
 #include <stdint.h>
 #include <stdio.h>
 #include <stdlib.h>
@@ -153,18 +154,19 @@ __attribute__((noinline)) static size_t pack_record(const Record *v, uint8_t *oc
 
 int main(int argc, char **argv) {
     static uint8_t octets[MOST_OCTETS];
-    if (argc != 3) return 2;
+    if (argc != 3 && argc != 4) return 2;
+    long times = argc == 4 ? strtol(argv[3], NULL, 10) : 1;
     for (long left = strtol(argv[2], NULL, 10); left > 0; left--) {
         size_t count = 0;
         if (!strcmp(argv[1], "two")) {
             Two v = draw_two();
-            count = pack_two(&v, octets);
+            for (long i = 0; i < times; i++) count = pack_two(&v, octets);
         } else if (!strcmp(argv[1], "telemetry")) {
             Telemetry v = draw_telemetry();
-            count = pack_telemetry(&v, octets);
+            for (long i = 0; i < times; i++) count = pack_telemetry(&v, octets);
         } else if (!strcmp(argv[1], "record")) {
             Record v = draw_record();
-            count = pack_record(&v, octets);
+            for (long i = 0; i < times; i++) count = pack_record(&v, octets);
         }
         if (!count || fwrite(octets, 1, count, stdout) != count) return 1;
     }
