@@ -7,6 +7,7 @@ mod NamesLaw
 mod NodesLaw
 mod Noting
 mod OrderLaw
-mod Parts
+-- for acn_transcode
+pub mod Parts
 mod PlacesLaw
 mod TakenLaw

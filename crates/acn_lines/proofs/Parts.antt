@@ -61,11 +61,11 @@ split : (x : OneField) (fs : Fields) (os : List Order) → AreFieldOrders (with_
 split (a_component name g presence default own) fs [] h = h
 split (a_component name g presence default own) fs (o ∷ os) h = h
 split (an_inserted name g slot) fs [] h = h
-split (an_inserted name g slot) fs (o ∷ os) h = (tt, h)
+split (an_inserted name g slot) fs (o ∷ os) h = h
 
 pub join : (x : OneField) (fs : Fields) (o : Order) (os : List Order) → IsFieldOrder x o → AreFieldOrders fs os → AreFieldOrders (with_field x fs) (o ∷ os)
 join (a_component name g presence default own) fs o os p h = (p, h)
-join (an_inserted name g slot) fs o os p h = h
+join (an_inserted name g slot) fs o os p h = (p, h)
 
 pub orders-within : (fs : List Field) (os : List Order) (k : ℕ) → AreFieldOrders (fields_view fs) os → k < length fs → k < length os
 orders-within [] os k h n = absurd (omega arith)

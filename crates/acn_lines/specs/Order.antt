@@ -1,10 +1,12 @@
 -- The order in which the members of objects are printed, made once for all values of a tree. (This profile's own.)
-use Rattle.std.specs.Prelude.{◌≡◌, IsTrue, ℕ, zero, suc, List, [], ◌∷◌, ◌++◌, Option, Some, None}
+use Rattle.std.specs.Prelude.{◌≡◌, IsTrue, ℕ, zero, suc, List, [], ◌∷◌, ◌++◌, Option, Some, None, IfSome}
 use Rattle.json.specs.Print.{quoted}
 use Rattle.serde_json.specs.Data.{Members, no_members, member}
 use Rattle.serde_json.specs.Data as json
-use Rattle.acn_grammar.specs.Grammar.{Grammar, Form, Fields, Alternatives, Data, Places, node, seq, list, choice, contained, no_fields, component, inserted, no_alternatives, alternative, no_places, empty, filled}
+use Rattle.acn_grammar.specs.Grammar.{Grammar, Form, Fields, Alternatives, Data, Places, node, num, seq, list, choice, contained, no_fields, component, inserted, no_alternatives, alternative, no_places, empty, filled}
 use Rattle.acn_grammar.specs.View.{OneField, a_component, an_inserted}
+use Rattle.acn_grammar.specs.declared.node.NumLeaf.{NumLeaf}
+use Rattle.acn_cut.specs.Cuts.{IsCut}
 use Rattle.acn_json.specs.Lines.{json_of, fields_json}
 use Rattle.acn_lines.specs.declared.order.Order.{Order, out-Order}
 use Rattle.acn_json.specs.RoundTrip.{HasTextNames}
@@ -66,12 +68,22 @@ ArePlaced fs (t ∷ ts) = (t.place ≡ place_of fs t.field) × ArePlaced fs ts
 abbrev pub AreTurns : Fields → List Turn → Type 0
 AreTurns fs ts = AreKeyed fs ts × ((ps : Places) → in_order fs ts ps ≡ fields_json no_members fs ps) × ArePlaced fs ts
 
+-- the cut is one of the leaf, where there is one
+abbrev pub IsLeafOrder : NumLeaf → Order → Type 0
+IsLeafOrder leaf o = IfSome (out-Order o).cut (λ cut. IsCut cut leaf)
+
+-- what is kept of a field that ACN inserts
+abbrev pub IsInsertedOrder : Grammar → Order → Type 0
+IsInsertedOrder (node align (num leaf)) o = IsLeafOrder leaf o
+IsInsertedOrder _ o = Unit {0}
+
 abbrev mutual
   -- what is kept of a node; a list and a string that contains a value keep what is kept of the node inside
   pub IsNodeOrder : Grammar → Order → Type 0
   IsNodeOrder (node align form) o = IsFormOrder form o
 
   pub IsFormOrder : Form → Order → Type 0
+  IsFormOrder (num leaf) o = IsLeafOrder leaf o
   IsFormOrder (seq fields home) o = AreTurns fields (out-Order o).turns × AreFieldOrders fields (out-Order o).inside
   IsFormOrder (list sizing g) o = IsNodeOrder g o
   IsFormOrder (choice cases rule) o = AreAlternativeOrders cases (out-Order o).inside
@@ -82,7 +94,7 @@ abbrev mutual
   pub AreFieldOrders : Fields → List Order → Type 0
   AreFieldOrders no_fields os = Unit {0}
   AreFieldOrders (component name g presence default own fs) (o ∷ os) = IsNodeOrder g o × AreFieldOrders fs os
-  AreFieldOrders (inserted name g slot fs) (o ∷ os) = AreFieldOrders fs os
+  AreFieldOrders (inserted name g slot fs) (o ∷ os) = IsInsertedOrder g o × AreFieldOrders fs os
   AreFieldOrders _ [] = ⊥
 
   -- one for each alternative
@@ -95,10 +107,10 @@ abbrev mutual
 abbrev pub IsOrder : Grammar → TreeOrder → Type 0
 IsOrder g o = IsNodeOrder g o.nodes × (IsTrue o.text_names → HasTextNames g)
 
--- what is kept of a field; of one that ACN inserts, nothing
+-- what is kept of a field
 abbrev pub IsFieldOrder : OneField → Order → Type 0
 IsFieldOrder (a_component name g presence default own) o = IsNodeOrder g o
-IsFieldOrder (an_inserted name g slot) o = Unit {0}
+IsFieldOrder (an_inserted name g slot) o = IsInsertedOrder g o
 
 -- the JSON of the value of a component
 abbrev pub field_json : OneField → Data → json.Data

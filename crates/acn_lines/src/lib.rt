@@ -15,4 +15,6 @@ mod tokens;
 mod turns;
 
 pub use lines::Lines;
+pub use order::Order;
 pub use room::Room;
+pub use turns::Turn;

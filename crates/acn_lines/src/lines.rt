@@ -10,7 +10,7 @@ ghost use Rattle.acn_json.specs.Reads.{line_gives};
 ghost use Rattle.acn_json.specs.declared.read.TheConstants.{MOST_JSON_BYTES};
 ghost use Rattle.acn_lines.specs.Order.{IsOrder};
 
-use crate::order::{TreeOrder, order_of};
+use crate::order::{Order, TreeOrder, order_of};
 use crate::printed::printed_value;
 use crate::put::put_node;
 use crate::room::Room;
@@ -30,6 +30,13 @@ pub struct Lines {
 }
 
 impl Lines {
+    /// What is kept of the root.
+    pub fn root(&self) -> &Order
+        ensures { result.now ≡ self.now.order.nodes }
+    {
+        &self.order.nodes
+    }
+
     /// The lines of a tree. It fails only where memory runs out.
     pub fn new(alloc: Global, tree: &Tree) -> Result<Lines, NoMemory>
         ensures { IfOk result (λ lines. IsOrder (grammar_of tree.now.root) lines.order) }

@@ -1,23 +1,28 @@
 //! What is kept of a tree for its lines.
 
-ghost use Rattle.std.specs.Prelude.{IfOk};
+ghost use Rattle.std.specs.Prelude.{IfOk, IfSome};
+ghost use Rattle.acn_cut.specs.Cuts.{IsCut};
 ghost use Rattle.acn_grammar.specs.View.{grammar_of, field_of, fields_view, alternatives_view};
 ghost use Rattle.acn_lines.specs.Names as names;
 ghost use Rattle.acn_lines.specs.Order as spec;
 ghost use Rattle.acn_lines.specs.declared.order.Order.{out-Order};
 
 use crate::turns::{Turn, turns_of};
-use acn_grammar::{Alternative, Body, Field, Node};
+use acn_cut::{Cut, cut_of};
+use acn_grammar::{Alternative, Body, Field, Node, NumLeaf};
 use acn_num::{NoMemory, Row};
 use std::alloc::Global;
 
-/// What is kept of a node: the turns of a SEQUENCE, and what is kept of the node of each field of a SEQUENCE, or of each
-/// alternative of a CHOICE. Of a list, and of a string that contains a value, it is what is kept of the node inside.
+/// What is kept of a node: the turns of a SEQUENCE, and what is kept of the node of each field of a
+/// SEQUENCE, or of each alternative of a CHOICE; of a number, how it is read out of one word, where
+/// it can be so. Of a list, and of a string that contains a value, it is what is kept of the node
+/// inside.
 #[cycle(kept)]
 #[derive(Drop)]
 pub struct Order {
     pub turns: Row<Turn>,
     pub inside: Row<Order>,
+    pub cut: Option<Cut>,
 }
 
 /// What is kept of a tree: what is kept of its root, and whether its names are UTF-8 for sure.
@@ -27,11 +32,33 @@ pub struct TreeOrder {
     pub text_names: bool,
 }
 
+// Of a number leaf.
+fn leaf_order(alloc: Global, leaf: &NumLeaf) -> Order
+    ensures { IfSome (out-Order result).cut (λ cut. IsCut cut leaf.now) }
+{
+    Order {
+        turns: Row::new(alloc),
+        inside: Row::new(alloc),
+        cut: cut_of(leaf),
+    }
+}
+
 // Of a node in which no object is.
 fn nothing(alloc: Global) -> Order {
     Order {
         turns: Row::new(alloc),
         inside: Row::new(alloc),
+        cut: None,
+    }
+}
+
+// Of a field that ACN inserts.
+fn inserted_order(alloc: Global, node: &Node) -> Order
+    ensures { spec.IsInsertedOrder (grammar_of node.now) result }
+{
+    match &node.body {
+        Body::Num(leaf) => leaf_order(alloc, leaf),
+        _ => nothing(alloc),
     }
 }
 
@@ -42,7 +69,7 @@ pub fn order_of(alloc: Global, node: &Node) -> Result<Order, NoMemory>
     ensures { IfOk result (λ o. spec.IsNodeOrder (grammar_of node.now) o) }
 {
     match &node.body {
-        Body::Num(_) => Ok(nothing(alloc)),
+        Body::Num(leaf) => Ok(leaf_order(alloc, leaf)),
         Body::Octets(_) => Ok(nothing(alloc)),
         Body::Bits(_) => Ok(nothing(alloc)),
         Body::Text(_) => Ok(nothing(alloc)),
@@ -62,7 +89,11 @@ fn sequence_order(alloc: Global, fields: &[Field]) -> Result<Order, NoMemory>
 {
     let turns = turns_of(alloc, fields)?;
     let inside = field_orders(alloc, fields)?;
-    Ok(Order { turns, inside })
+    Ok(Order {
+        turns,
+        inside,
+        cut: None,
+    })
 }
 
 #[cycle(order)]
@@ -84,7 +115,7 @@ fn field_order(alloc: Global, field: &Field) -> Result<Order, NoMemory>
 {
     match field {
         Field::Component { node, .. } => order_of(alloc, node),
-        Field::Inserted { .. } => Ok(nothing(alloc)),
+        Field::Inserted { node, .. } => Ok(inserted_order(alloc, node)),
     }
 }
 
@@ -97,6 +128,7 @@ fn choice_order(alloc: Global, alternatives: &[Alternative]) -> Result<Order, No
     Ok(Order {
         turns: Row::new(alloc),
         inside,
+        cut: None,
     })
 }
 
