@@ -1,0 +1,5 @@
+mod BinaryTexts
+mod HexTexts
+mod LaidTexts
+mod NumberTexts
+mod Walks

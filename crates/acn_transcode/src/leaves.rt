@@ -1,0 +1,126 @@
+//! Number leaves.
+
+ghost use Rattle.std.specs.Prelude.{◌≡◌, ◌++◌, ◌^◌, ◌≤ℤ◌, ◌<ℤ◌, ℤ, pos, nat_abs, true, IsTrue, IfSome, OnOk};
+ghost use Rattle.std.specs.Ordering.{int_eq};
+ghost use Rattle.std.specs.Fmt.{signed_decimal};
+ghost use Rattle.serde_json.specs.Written.{compact_text};
+ghost use Rattle.acn_num.specs.Ranges.{In};
+ghost use Rattle.acn_bits.specs.Reading.{Reads};
+ghost use Rattle.acn_cut.specs.Cuts.{IsCut};
+ghost use Rattle.acn_grammar.specs.Code.{Any, Code, NumberOf};
+ghost use Rattle.acn_grammar.specs.Grammar.{Data, num};
+ghost use Rattle.acn_grammar.specs.ItemsNamed.{FormItemsNamed};
+ghost use Rattle.acn_grammar.specs.Leaves.{num_fine};
+ghost use Rattle.acn_grammar.specs.Length.{number_of};
+ghost use Rattle.acn_json.specs.Lines.{num_json};
+ghost use Rattle.acn_lines.specs.Order.{IsLeafOrder};
+ghost use Rattle.acn_reads.specs.Steps.{noted_by};
+ghost use Rattle.acn_transcode.specs.Puts.{Puts};
+
+use crate::draft::Draft;
+use acn_bits::ReadCursor;
+use acn_cut::{Cut, read_cut};
+use acn_grammar::{NumKind, NumLeaf};
+use acn_ints::read_num;
+use acn_json::{item_name, put, put_null, put_quoted};
+use acn_lines::Order;
+use acn_num::NoMemory;
+use itoa::Buffer;
+
+/// The number of a leaf, whose code is passed.
+#[inline(always)]
+pub fn number(cur: &mut ReadCursor<'_>, leaf: &NumLeaf, cut: &Option<Cut>) -> Option<i128>
+    requires fine { IsTrue (num_fine leaf.now) }
+    requires cut { IfSome cut.now (λ c. IsCut c leaf.now) }
+    ensures read { IfSome result (λ x. Reads (Code Any leaf.now x) cur.old cur.new) }
+{
+    match cut {
+        Some(cut) => read_cut(cur, cut),
+        None => match read_num(cur, leaf) {
+            Ok(x) => Some(x),
+            Err(_) => None,
+        },
+    }
+}
+
+// Puts a whole number. Most are natural numbers of 64 bits, whose digits are found the fastest.
+fn put_number(x: &i128, text: &mut Vec<u8>) -> Result<(), NoMemory>
+    ensures { OnOk result (text.new.items ≡ text.old.items ++ signed_decimal x.now) }
+{
+    let mut buffer = Buffer::new();
+    match u64::try_from(*x) {
+        Ok(natural) => put(buffer.format(natural).as_bytes(), text),
+        Err(_) => put(buffer.format(*x).as_bytes(), text),
+    }
+}
+
+// A small number, which isn't below zero.
+fn natural(x: &i128) -> u32
+    requires least { pos 0 ≤ℤ x.now }
+    requires small { x.now <ℤ pos (2 ^ 32) }
+    ensures { result ≡ nat_abs x.now }
+{
+    let number = *x;
+    number as u32
+}
+
+fn is_one(x: &i128) -> bool
+    ensures { result ≡ int_eq x.now (pos 1) }
+{
+    *x == 1
+}
+
+// Puts the value of a leaf's number.
+fn put_value(leaf: &NumLeaf, x: &i128, text: &mut Vec<u8>) -> Result<(), NoMemory>
+    requires fine { IsTrue (num_fine leaf.now) }
+    requires named { FormItemsNamed (num leaf.now) }
+    requires permitted { In leaf.now.set x.now }
+    ensures { OnOk result ((d : Data) × NumberOf leaf.now.kind d x.now × (text.new.items ≡ text.old.items ++ compact_text (num_json leaf.now.kind leaf.now.items.items d))) }
+{
+    match leaf.kind {
+        NumKind::Integer => put_number(x, text),
+        NumKind::Boolean => {
+            if is_one(x) {
+                put(b"true", text)
+            } else {
+                put(b"false", text)
+            }
+        }
+        NumKind::Enumerated => { put_quoted(item_name(leaf.items.items.items(), natural(x)), text) }
+        NumKind::Null => put_null(text),
+    }
+}
+
+/// Notes the number of a slot, where there is one.
+#[inline(always)]
+pub fn note(slots: &mut Vec<(u32, i128)>, slot: Option<u32>, x: &i128) -> bool
+    ensures { result ≡ true → slots.new.items ≡ noted_by slot x.now slots.old.items }
+{
+    match slot {
+        Some(slot) => slots.push((slot, *x)).is_ok(),
+        None => true,
+    }
+}
+
+/// Puts the value of a number leaf, whose code is passed, and notes its number where it is a
+/// slot's.
+#[inline(always)]
+pub fn put_leaf(
+    leaf: &NumLeaf,
+    order: &Order,
+    slot: Option<u32>,
+    cur: &mut ReadCursor<'_>,
+    draft: &mut Draft,
+) -> bool
+    requires fine { IsTrue (num_fine leaf.now) }
+    requires named { FormItemsNamed (num leaf.now) }
+    requires order { IsLeafOrder leaf.now order.now }
+    ensures put { result ≡ true → (d : Data) × Reads (λ bs. (x : ℤ) × NumberOf leaf.now.kind d x × Code Any leaf.now x bs) cur.old cur.new × Puts (compact_text (num_json leaf.now.kind leaf.now.items.items d)) draft.old draft.new × (draft.new.slots.items ≡ noted_by slot (number_of d) draft.old.slots.items) }
+{
+    match number(cur, leaf, &order.cut) {
+        Some(x) => {
+            note(&mut draft.slots, slot, &x) && put_value(leaf, &x, &mut draft.text).is_ok()
+        }
+        None => false,
+    }
+}

@@ -1,0 +1,13 @@
+//! The line of a packet is put while its bits are read: no value is made between them.
+#![tactic(auto)]
+
+mod draft;
+mod front;
+mod leaves;
+mod members;
+mod slots;
+mod strings;
+mod walk;
+
+pub use draft::{Draft, Span};
+pub use front::put_front;
