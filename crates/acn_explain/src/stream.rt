@@ -27,6 +27,7 @@ use acn_packet_laws::{accepted_is_sound, lengths_are_told, spelled_values_meet};
 use acn_pieces::{Piece, PieceKind, list_pieces, sound_values_can_be_walked};
 use acn_plan::Plan;
 use acn_stream::{Show, StreamFault, show_all};
+use acn_transcode::Draft;
 use acn_tree::Tree;
 use std::alloc::Global;
 use std::mem;
@@ -127,6 +128,17 @@ impl Show for PieceLines<'_> {
             pieces.items(),
             text,
         )
+    }
+
+    // Each packet is explained by its value.
+    fn show_front(
+        &self,
+        _number: u64,
+        _bytes: &[u8],
+        _draft: &mut Draft,
+        _text: &mut Vec<u8>,
+    ) -> Option<u64> {
+        None
     }
 }
 

@@ -92,6 +92,12 @@ takes_one g shown count before after old new d n b f same added =
       added = added;
     }
 
+-- the same, where the octets in hand were counted and are skipped
+pub takes_skipped : (g : Grammar) (shown : Shown) (count : ℕ) (before after : Supplied) (hand : List ℕ) (size : ℕ) (old new : List ℕ) (d : Data) (n : ℕ) → IsBounded g → hand ≡ before.hand → size ≡ octets n → Front g (bits hand) d n
+    → after ≡ record { hand = drop size before.hand; left = before.left } → new ≡ old ++ shown (count + 1) d (take (octets n) hand) → TakesOne g shown count before after old new
+takes_skipped g shown count before after hand size old new d n b same counted f skipped added =
+    takes_one g shown count before after old new d n b (rw same at f) (skipped ∙ ap (λ (k : ℕ). record { hand = drop k before.hand; left = before.left }) counted) (rw same at added)
+
 pub some_bytes : (bytes : List ℕ) → (length bytes == 0) ≡ false → 0 < length bytes
 some_bytes [] h = absurd cc
 some_bytes (b ∷ bytes) h = omega arith

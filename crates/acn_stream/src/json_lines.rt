@@ -11,6 +11,7 @@ use acn_grammar::Value;
 use acn_json::put_octet;
 use acn_lines::Lines;
 use acn_num::NoMemory;
+use acn_transcode::{Draft, put_front};
 use acn_tree::Tree;
 
 /// The line of each value, with a line feed.
@@ -36,5 +37,15 @@ impl Show for JsonLines<'_> {
     ) -> Result<(), NoMemory> {
         self.order.put(self.tree, value, text)?;
         put_octet(b'\n', text)
+    }
+
+    fn show_front(
+        &self,
+        _number: u64,
+        bytes: &[u8],
+        draft: &mut Draft,
+        text: &mut Vec<u8>,
+    ) -> Option<u64> {
+        put_front(self.tree.root(), self.order.root(), bytes, draft, text)
     }
 }

@@ -14,8 +14,9 @@ use acn_check::Checked;
 use acn_grammar::{Fault, Reason, Refuse, Value};
 use acn_num::NoMemory;
 use acn_packet_laws::short_is_near;
-use acn_plan::Plan;
+use acn_plan::{Plan, steps_say_their_root};
 use acn_supply::Supply;
+use acn_transcode::Draft;
 use acn_unpack::unpack;
 use std::alloc::Global;
 
@@ -89,13 +90,16 @@ fn pause_of(refuse: Refuse) -> Pause
     }
 }
 
-// Takes the packet at the front of what is in hand, which stands behind `count` others, and adds its text.
+// Takes the packet at the front of what is in hand, which stands behind `count` others, and adds its
+// text. Where the text isn't put while the bits are read, the plan is asked of the same bytes: it
+// gives the value, or the one fault.
 fn take_packet<V: Show>(
     alloc: Global,
     checked: &Checked,
     plan: &Plan,
     shower: &V,
     supply: &mut Supply,
+    draft: &mut Draft,
     text: &mut Vec<u8>,
     count: u64,
 ) -> Result<(), Pause>
@@ -108,10 +112,16 @@ fn take_packet<V: Show>(
     ensures near { length supply.new.hand ≤ MOST_IN_HAND }
 {
     short_is_near();
+    steps_say_their_root();
     let _accepted = checked.tree();
+    let _steps = plan.steps();
     let hand = supply.hand();
     if hand.is_empty() {
         return Err(Pause::Wants(None));
+    }
+    if let Some(bits) = shower.show_front(count + 1, hand, draft, text) {
+        supply.skip(octets_of(bits));
+        return Ok(());
     }
     match unpack(alloc, plan, hand) {
         Ok((value, bits)) => {
@@ -135,6 +145,7 @@ pub fn take_packets<V: Show>(
     plan: &Plan,
     shower: &V,
     supply: &mut Supply,
+    draft: &mut Draft,
     text: &mut Vec<u8>,
     count: &mut u64,
 ) -> Pause
@@ -149,7 +160,7 @@ pub fn take_packets<V: Show>(
     ensures near { length supply.new.hand ≤ MOST_IN_HAND }
 {
     loop {
-        match take_packet(alloc, checked, plan, shower, supply, text, *count) {
+        match take_packet(alloc, checked, plan, shower, supply, draft, text, *count) {
             Ok(()) => *count += 1,
             Err(pause) => return pause,
         }

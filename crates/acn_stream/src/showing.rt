@@ -21,6 +21,7 @@ use acn_grammar::Fault;
 use acn_outside::{Sink, Source, write_all};
 use acn_plan::Plan;
 use acn_supply::{More, Supply};
+use acn_transcode::Draft;
 use std::alloc::Global;
 
 // What the end of the input says of what is in hand: nothing, or a packet that isn't whole.
@@ -86,10 +87,13 @@ fn show_supply<S: Source, O: Sink, V: Show>(
     ensures some { IsErrOf result StreamFault.EmptyPacket → ⊥ }
 {
     let mut text = Vec::new(alloc);
+    let mut draft = Draft::new(alloc);
     let mut count = 0u64;
     loop {
         text.clear();
-        let pause = take_packets(alloc, checked, plan, shower, supply, &mut text, &mut count);
+        let pause = take_packets(
+            alloc, checked, plan, shower, supply, &mut draft, &mut text, &mut count,
+        );
         match write_all(out, &text) {
             Ok(()) => {}
             Err(_) => return Err(StreamFault::OutputFault),
