@@ -9,6 +9,3 @@ mod moments;
 pub use asked::{Asked, Unmet};
 pub use heard::Heard;
 pub use moments::{Halt, Moment, hear_all};
-
-#[cfg(test)]
-mod tests;

@@ -15,6 +15,3 @@ pub use laws::{
     slots_are_nodes,
 };
 pub use uses::Use;
-
-#[cfg(test)]
-mod tests;

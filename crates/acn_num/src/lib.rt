@@ -24,6 +24,3 @@ pub use range_set::{RangeSet, places_name_each_number_once, same_numbers_same_se
 pub use row::Row;
 pub use whole::{greater, is_at_most, less};
 pub use widths::{bits_for, digits_for, octets_for, signed_octets_for};
-
-#[cfg(test)]
-mod tests;

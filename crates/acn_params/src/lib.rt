@@ -6,6 +6,3 @@ mod scope;
 
 pub use laws::paths_lead_where_the_merge_takes_them;
 pub use scope::{ParamFault, Scope, ScopeField};
-
-#[cfg(test)]
-mod tests;
