@@ -3,30 +3,39 @@
 //! A line `ask MODULE.TYPE` begins a group, and the lines behind it its files (`acn_case_sheets`). A line `CASE =>` asks about this
 //! type of these files, with CASE in the place of `$1`, or, where `;;` divides it, its parts in the places of `$1`, `$2` and
 //! `$3`. The answer is the first fault of a walk over the nodes that are to be made for the type, or `none` with what the walk noted.
+//!
+//! A line `paths WORDS` begins a group without files: a word `FIELD` is the path of an inserted field, `USER<-FIELD` a use. A line
+//! `PATH =>` asks for the slot of this path and those at home there, `count =>` how many slots there are. A line `scope WORDS` begins
+//! one too: a word `NAME=SLOT` is a parameter that is bound. `enter FIELDS` and `visit FIELDS` enter a SEQUENCE, and leave it again: a
+//! field is `NAME=SLOT`, `NAME` where it has no slot, or `NAME.FIELD` where it is a SEQUENCE; a `?` behind a name says that it may be
+//! absent. A line `NAMES =>` asks to which slot these names lead.
 #![tactic(auto)]
 
 mod answer;
+mod group;
+mod names;
+mod paths;
 mod reasons;
 mod sheet;
 mod walked;
 
 use acn_case_lines::{Line, line_of};
 use acn_num::NoMemory;
-use answer::answer;
+use group::Group;
 use sheet::Sheet;
 use std::alloc::Global;
 use std::io;
 
 // What is printed for a line.
-fn reply(alloc: Global, sheet: &mut Sheet, line: &str) -> Result<String, NoMemory> {
+fn reply(alloc: Global, group: &mut Group, line: &str) -> Result<String, NoMemory> {
     match line_of(line) {
         Line::Case(case) => {
-            let words = answer(alloc, sheet, case)?;
+            let words = group.answer(alloc, case)?;
             Ok(format!(in alloc; "{case}=> {words}")?)
         }
         Line::Note => Ok(line.to_string(alloc)?),
         Line::Other(text) => {
-            if sheet.take(alloc, text)? {
+            if group.take(alloc, text)? {
                 Ok(line.to_string(alloc)?)
             } else {
                 Ok(format!(in alloc; "not understood: {line}")?)
@@ -37,10 +46,10 @@ fn reply(alloc: Global, sheet: &mut Sheet, line: &str) -> Result<String, NoMemor
 
 fn main(rt: HostRuntime) -> io::Result<()> {
     let alloc = rt.alloc();
-    let mut sheet = Sheet::new(alloc);
+    let mut group = Group::Sources(Sheet::new(alloc));
     for line in rt.lines(alloc) {
         let line = line?;
-        match reply(alloc, &mut sheet, line.as_str()) {
+        match reply(alloc, &mut group, line.as_str()) {
             Ok(text) => println!(rt; "{text}")?,
             Err(NoMemory) => println!(rt; "no memory")?,
         }
