@@ -5,10 +5,11 @@ ghost use Rattle.acn_num.specs.Ranges.{In};
 ghost use Rattle.acn_fill.specs.Table.{frames};
 ghost use Rattle.acn_leaf_cases.specs.declared.asks.TheConstants.{SLOT};
 
+use crate::heard::heard_alone;
+use crate::said::say_conflict;
 use acn_bits::WriteCursor;
 use acn_case_lines::{number, of_word, set_of, word};
 use acn_fill::{Conflict, Fills, MOST_AVOIDED};
-use acn_grammar::Ask;
 use acn_num::{NoMemory, RangeSet};
 use std::alloc::Global;
 
@@ -17,23 +18,6 @@ type OneSlot<'p> = Fills<'p, 1, MOST_AVOIDED>;
 
 // The slot that is begun.
 const SLOT: u32 = 0;
-
-fn say_ask(ask: Ask, said: &mut String) -> Result<(), NoMemory> {
-    match ask {
-        Ask::Equal(number) => write!(said, " ={number}")?,
-        Ask::Avoid(number) => write!(said, " !={number}")?,
-    }
-    Ok(())
-}
-
-fn say_conflict(conflict: Conflict, said: &mut String) -> Result<(), NoMemory> {
-    said.push_str("Conflict")?;
-    match conflict.earlier {
-        Some(earlier) => say_ask(earlier, said)?,
-        None => said.push_str(" -")?,
-    }
-    say_ask(conflict.wanted, said)
-}
 
 fn say(answer: Result<(), Conflict>, said: &mut String) -> Result<(), NoMemory> {
     match answer {
@@ -108,13 +92,25 @@ pub fn asks_fixed(alloc: Global, words: &[&str]) -> Result<String, NoMemory> {
     Ok(said)
 }
 
+// What a slot with a hole is answered by the table, and where it differs by what is heard of a field.
+fn asks_of_both(alloc: Global, set: &RangeSet, words: &[&str]) -> Result<String, NoMemory>
+    requires { (x : ℤ) × In set.now x }
+{
+    let table = ask_of_hole(alloc, set, words)?;
+    let heard = heard_alone(alloc, set, words)?;
+    if table.as_str() == heard.as_str() {
+        return Ok(table);
+    }
+    Ok(format!(in alloc; "{table}; heard {heard}")?)
+}
+
 /// What a slot is answered whose numbers are the set of the first word, where the words behind it ask.
 pub fn asks(alloc: Global, words: &[&str]) -> Result<String, NoMemory> {
     let Some(set) = set_of(alloc, word(words, 0))? else {
         return Ok(format!(in alloc; "not understood")?);
     };
     match set.least() {
-        Some(_) => ask_of_hole(alloc, &set, words.get(1..).unwrap_or(&[])),
+        Some(_) => asks_of_both(alloc, &set, words.get(1..).unwrap_or(&[])),
         None => Ok(format!(in alloc; "no numbers")?),
     }
 }

@@ -8,16 +8,22 @@
 //! one width of its codes, and `fill A B =>` the octets where A fills a hole in front of B. Of a text: `read OCTETS =>`,
 //! `read-sized SIZE OCTETS =>`, `list TEXT =>` and `put TEXT =>`. Of octets: `take SKIP WIDTH =>`, `window SKIP BITS WIDTH =>`,
 //! `put SKIP WIDTH NUMBER =>`, `fill SKIP WIDTH NUMBER =>`. Of nothing: `bits-for`, `octets-for`, `signed-octets-for` and
-//! `digits-for NUMBER =>`, `count`, `ends`, `nth` and `least-except SET NUMBERS =>`, and `asks SET ASKS =>` and
-//! `asks-fixed NUMBER ASKS =>` what a slot is answered that has a hole and may have these numbers, or has this one; an ask is `=N` or
-//! `!=N`.
+//! `digits-for NUMBER =>`, `count`, `ends`, `nth`, `holds` and `least-except SET NUMBERS =>`, `copy SET =>` and `union`, `meet` and
+//! `except SET SET =>` the ranges that are made, `with-evens SET COUNT QUESTION ..=>` the question about the set that is joined with as
+//! many even numbers; `row NUMBERS =>`, `name TEXT =>`, `bits-twice BITS =>` and `path STEPS =>` what is kept of them; and
+//! `asks SET ASKS =>` and `asks-fixed NUMBER ASKS =>` what a slot is answered that has a hole and may have these numbers, or has this
+//! one; an ask is `=N` or `!=N`. `heard SET WORDS =>` asks of fields by their paths: a word is `PATH=N`, `PATH!=N`, or `PATH?` for the
+//! least number. `asks` also asks so of one field, and says what is heard where it differs.
 #![tactic(auto)]
 
 mod asks;
 mod bits;
 mod bitwise;
 mod fault;
+mod heard;
+mod lists;
 mod numbers;
+mod said;
 mod sets;
 mod subject;
 mod texts;

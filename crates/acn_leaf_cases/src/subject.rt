@@ -2,6 +2,8 @@
 
 use crate::asks::{asks, asks_fixed};
 use crate::bits::about_octets;
+use crate::heard::heard;
+use crate::lists::about_list;
 use crate::numbers::about_number;
 use crate::sets::about_set;
 use crate::texts::{about_sized_text, about_text};
@@ -71,14 +73,23 @@ pub fn subject_of(alloc: Global, words: &[&str]) -> Result<Subject, NoMemory> {
     }
 }
 
+// The answer to a question about a width, a list or a set.
+fn about_number_or_list(alloc: Global, question: &str, words: &[&str]) -> Result<String, NoMemory> {
+    if let Some(answer) = about_width(alloc, question, words)? {
+        return Ok(answer);
+    }
+    match about_list(alloc, question, words)? {
+        Some(answer) => Ok(answer),
+        None => about_set(alloc, question, words),
+    }
+}
+
 fn about_nothing(alloc: Global, question: &str, words: &[&str]) -> Result<String, NoMemory> {
     match question {
         "asks" => asks(alloc, words),
         "asks-fixed" => asks_fixed(alloc, words),
-        _ => match about_width(alloc, question, words)? {
-            Some(answer) => Ok(answer),
-            None => about_set(alloc, question, words),
-        },
+        "heard" => heard(alloc, words),
+        _ => about_number_or_list(alloc, question, words),
     }
 }
 
