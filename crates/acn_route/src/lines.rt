@@ -24,7 +24,9 @@ use crate::route::Route;
 use crate::routes::Routes;
 use acn_grammar::{Fault, Refuse, Value};
 use acn_num::NoMemory;
+use acn_plan::steps_say_their_root;
 use acn_report::Part;
+use acn_transcode::put_front;
 use acn_unpack::unpack;
 use std::alloc::Global;
 
@@ -36,10 +38,9 @@ fn octets_of(bits: u64) -> u64
     (bits + 7) / 8
 }
 
-// Puts the line of a value that fills its packet.
-fn put_good(apid: u32, route: &Route, value: &Value, page: &mut Page) -> Result<(), NoMemory>
-    requires { IsReady route.now }
-    ensures added { OnOk result (page.new.bytes.items ≡ page.old.bytes.items ++ concat (codes "good " ∷ decimal apid ∷ codes " " ∷ line_of (grammar_of route.now.checked.tree.root) (data_of value.now) ∷ codes "\n" ∷ [])) }
+// Puts what stands in front of the line of a value that fills its packet.
+fn begin_good(apid: u32, page: &mut Page) -> Result<(), NoMemory>
+    ensures added { OnOk result (page.new.bytes.items ≡ page.old.bytes.items ++ concat (codes "good " ∷ decimal apid ∷ codes " " ∷ [])) }
     ensures kept { OnErr result (Kept page.old.bytes.items page.new.bytes.items) }
 {
     append(
@@ -49,7 +50,16 @@ fn put_good(apid: u32, route: &Route, value: &Value, page: &mut Page) -> Result<
             Part::Count(u64::from(apid)),
             Part::Text(" "),
         ],
-    )?;
+    )
+}
+
+// Puts the line of a value that fills its packet.
+fn put_good(apid: u32, route: &Route, value: &Value, page: &mut Page) -> Result<(), NoMemory>
+    requires { IsReady route.now }
+    ensures added { OnOk result (page.new.bytes.items ≡ page.old.bytes.items ++ concat (codes "good " ∷ decimal apid ∷ codes " " ∷ line_of (grammar_of route.now.checked.tree.root) (data_of value.now) ∷ codes "\n" ∷ [])) }
+    ensures kept { OnErr result (Kept page.old.bytes.items page.new.bytes.items) }
+{
+    begin_good(apid, page)?;
     route
         .lines
         .put(route.checked.tree(), value, &mut page.bytes)?;
@@ -167,8 +177,8 @@ fn put_refused<'a>(
     }
 }
 
-// Puts the line of a packet that has a route.
-fn put_routed(
+// Puts the line of a packet by the plan of its route.
+fn put_planned(
     alloc: Global,
     apid: u32,
     route: &Route,
@@ -184,6 +194,45 @@ fn put_routed(
     match unpack(alloc, &route.plan, packet) {
         Ok((value, size)) => put_value(apid, route, packet, &value, size, page),
         Err(refuse) => put_refused(apid, route, packet, &refuse, page),
+    }
+}
+
+// Puts the line of a packet that has a route. It is put as that of a value which fills the packet,
+// while the bits are read, and taken back where octets stand behind the value. Where it isn't sure
+// that a value is there, the plan is asked of the same packet.
+fn put_routed(
+    alloc: Global,
+    apid: u32,
+    route: &Route,
+    packet: &[u8],
+    page: &mut Page,
+) -> Result<LineKind, NoMemory>
+    requires ready { IsReady route.now }
+    requires named { apid ≡ apid_of packet.now }
+    requires few { length packet.now ≤ MOST_PACKET_OCTETS }
+    ensures added { IfOk result (λ kind. Adds (TreeLine route.now.checked.tree packet.now kind) page.old.bytes.items page.new.bytes.items) }
+    ensures kept { OnErr result (Kept page.old.bytes.items page.new.bytes.items) }
+{
+    steps_say_their_root();
+    let _steps = route.plan.steps();
+    let root = route.checked.tree().root();
+    let order = route.lines.root();
+    let octets = packet.len() as u64;
+    let mark = page.bytes.len();
+    begin_good(apid, page)?;
+    match put_front(root, order, packet, &mut page.draft, &mut page.bytes) {
+        Some(bits) => {
+            if octets_of(bits) < octets {
+                page.bytes.truncate(mark);
+                put_long(apid, octets, bits, page)?;
+                return Ok(LineKind::Long);
+            }
+            Ok(LineKind::Good)
+        }
+        None => {
+            page.bytes.truncate(mark);
+            put_planned(alloc, apid, route, packet, page)
+        }
     }
 }
 

@@ -8,12 +8,15 @@ ghost use Rattle.acn_report.specs.Parts.{part_text};
 use acn_num::NoMemory;
 use acn_outside::{Failed, Sink};
 use acn_report::{Part, put_parts};
+use acn_transcode::Draft;
 use std::alloc::Global;
 
-/// An output in memory that grows. It fails where memory runs out.
+/// An output in memory that grows, and what its next line is put together with. It fails where
+/// memory runs out.
 #[derive(Drop)]
 pub struct Page {
     pub bytes: Vec<u8>,
+    pub draft: Draft,
     faults: u64,
 }
 
@@ -24,6 +27,7 @@ impl Page {
     {
         Page {
             bytes: Vec::new(alloc),
+            draft: Draft::new(alloc),
             faults: 0,
         }
     }

@@ -5,4 +5,4 @@ pub put-requires : goal.put-requires
 put-requires c = rw c.tree.ensures.same c.requires.ordered
 
 pub returns-clause-added : goal.returns-clause-added
-returns-clause-added c = good_joined _ _ _ _ _ _ (rw c.from.ensures at c.in_ok-append.ensures.added) (rw c.tree.ensures.same at c.in_ok-put.ensures.added) c.in_ok-append-2.ensures.added
+returns-clause-added c = good_joined _ _ _ _ _ _ c.in_ok-begin_good.ensures.added (rw c.tree.ensures.same at c.in_ok-put.ensures.added) c.in_ok-append.ensures.added
