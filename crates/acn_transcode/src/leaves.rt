@@ -1,8 +1,8 @@
 //! Number leaves.
 
-ghost use Rattle.std.specs.Prelude.{◌≡◌, ◌++◌, ◌^◌, ◌≤ℤ◌, ◌<ℤ◌, ℤ, pos, nat_abs, true, IsTrue, IfSome, OnOk};
+ghost use Rattle.std.specs.Prelude.{◌≡◌, ◌++◌, ◌+◌, ◌^◌, ◌<◌, ◌≤◌, ◌≤ℤ◌, ◌<ℤ◌, ℤ, pos, nat_abs, true, IsTrue, IfSome, OnOk};
 ghost use Rattle.std.specs.Ordering.{int_eq};
-ghost use Rattle.std.specs.Fmt.{signed_decimal};
+ghost use Rattle.std.specs.Fmt.{decimal, signed_decimal};
 ghost use Rattle.serde_json.specs.Written.{compact_text};
 ghost use Rattle.acn_num.specs.Ranges.{In};
 ghost use Rattle.acn_bits.specs.Reading.{Reads};
@@ -22,7 +22,7 @@ use acn_bits::ReadCursor;
 use acn_cut::{Cut, read_cut};
 use acn_grammar::{NumKind, NumLeaf};
 use acn_ints::read_num;
-use acn_json::{item_name, put, put_null, put_quoted};
+use acn_json::{item_name, put, put_null, put_octet, put_quoted};
 use acn_lines::Order;
 use acn_num::NoMemory;
 use itoa::Buffer;
@@ -43,14 +43,90 @@ pub fn number(cur: &mut ReadCursor<'_>, leaf: &NumLeaf, cut: &Option<Cut>) -> Op
     }
 }
 
-// Puts a whole number. Most are natural numbers of 64 bits, whose digits are found the fastest.
+// The decimal digit of a number below ten.
+#[inline(always)]
+fn digit_of(x: u64) -> u8
+    requires { x < 10 }
+    ensures { result ≡ 48 + x }
+{
+    b'0' + x as u8
+}
+
+#[inline(always)]
+fn put_two_digits(x: u64, text: &mut Vec<u8>) -> Result<(), NoMemory>
+    requires least { 10 ≤ x }
+    requires most { x < 100 }
+    ensures { OnOk result (text.new.items ≡ text.old.items ++ decimal x) }
+{
+    put(&[digit_of(x / 10), digit_of(x % 10)], text)
+}
+
+#[inline(always)]
+fn put_three_digits(x: u64, text: &mut Vec<u8>) -> Result<(), NoMemory>
+    requires least { 100 ≤ x }
+    requires most { x < 1000 }
+    ensures { OnOk result (text.new.items ≡ text.old.items ++ decimal x) }
+{
+    put(
+        &[digit_of(x / 100), digit_of(x / 10 % 10), digit_of(x % 10)],
+        text,
+    )
+}
+
+#[inline(always)]
+fn put_four_digits(x: u64, text: &mut Vec<u8>) -> Result<(), NoMemory>
+    requires least { 1000 ≤ x }
+    requires most { x < 10000 }
+    ensures { OnOk result (text.new.items ≡ text.old.items ++ decimal x) }
+{
+    put(
+        &[
+            digit_of(x / 1_000),
+            digit_of(x / 100 % 10),
+            digit_of(x / 10 % 10),
+            digit_of(x % 10),
+        ],
+        text,
+    )
+}
+
+#[inline(always)]
+fn put_one_digit(x: u64, text: &mut Vec<u8>) -> Result<(), NoMemory>
+    requires { x < 10 }
+    ensures { OnOk result (text.new.items ≡ text.old.items ++ decimal x) }
+{
+    put_octet(digit_of(x), text)
+}
+
+// Puts a natural number. Those of few digits are put without a loop.
+#[inline(always)]
+fn put_natural(x: u64, text: &mut Vec<u8>) -> Result<(), NoMemory>
+    ensures { OnOk result (text.new.items ≡ text.old.items ++ decimal x) }
+{
+    if x < 10 {
+        put_one_digit(x, text)
+    } else if x < 100 {
+        put_two_digits(x, text)
+    } else if x < 1_000 {
+        put_three_digits(x, text)
+    } else if x < 10_000 {
+        put_four_digits(x, text)
+    } else {
+        let mut buffer = Buffer::new();
+        put(buffer.format(x).as_bytes(), text)
+    }
+}
+
+// Puts a whole number. Most are natural numbers of 64 bits.
 fn put_number(x: &i128, text: &mut Vec<u8>) -> Result<(), NoMemory>
     ensures { OnOk result (text.new.items ≡ text.old.items ++ signed_decimal x.now) }
 {
-    let mut buffer = Buffer::new();
     match u64::try_from(*x) {
-        Ok(natural) => put(buffer.format(natural).as_bytes(), text),
-        Err(_) => put(buffer.format(*x).as_bytes(), text),
+        Ok(natural) => put_natural(natural, text),
+        Err(_) => {
+            let mut buffer = Buffer::new();
+            put(buffer.format(*x).as_bytes(), text)
+        }
     }
 }
 

@@ -4,10 +4,13 @@
 mod draft;
 mod front;
 mod leaves;
+mod letters;
 mod members;
+mod sizes;
 mod slots;
 mod strings;
 mod walk;
+mod words;
 
 pub use draft::{Draft, Span};
 pub use front::put_front;

@@ -1,12 +1,10 @@
 //! Octets, bits and texts.
 
-ghost use Rattle.std.specs.Prelude.{◌≡◌, ◌++◌, ◌≤◌, ◌*◌, ℕ, Bool, List, true, IsTrue, OnOk, length, take, map};
+ghost use Rattle.std.specs.Prelude.{◌≡◌, ◌++◌, ◌≤◌, ◌*◌, ℕ, Bool, List, true, IsTrue, OnOk, length, map};
 ghost use Rattle.std.specs.Int.{w64, to_be_bytes};
 ghost use Rattle.hex.specs.Hex.{encode_lower};
 ghost use Rattle.json.specs.Print.{escape, quoted};
-ghost use Rattle.acn_num.specs.Bits.{number};
-ghost use Rattle.acn_bits.specs.Reading.{Reads, passed};
-ghost use Rattle.acn_bits.specs.declared.word.TheConstants.{WORD_BITS};
+ghost use Rattle.acn_bits.specs.Reading.{Reads};
 ghost use Rattle.acn_grammar.specs.Code.{Any};
 ghost use Rattle.acn_grammar.specs.Grammar.{Grammar, octets as octets_form, bits as bits_form, text as text_form, octet_string, bit_string, characters};
 ghost use Rattle.acn_grammar.specs.Leaves.{sizing_fine, text_fine};
@@ -15,26 +13,17 @@ ghost use Rattle.acn_json.specs.Lines.{bit_digit};
 ghost use Rattle.acn_reads.specs.Decoded.{Passes};
 ghost use Rattle.acn_reads.specs.Steps.{AreOctets, AreBits, Collected, RuleRead};
 ghost use Rattle.acn_text.specs.Texts.{IsGiven, TextCode};
+ghost use Rattle.acn_transcode.specs.Letters.{AreLetters};
 
+use crate::letters::{Letters, letters_of, put_string};
+use crate::sizes::size;
+use crate::words::take_word;
 use acn_bits::ReadCursor;
 use acn_grammar::{Sizing, TextLeaf};
 use acn_json::{digit, put, put_octet, put_quoted};
 use acn_num::NoMemory;
-use acn_reads::{given_size, read_size};
+use acn_reads::given_size;
 use acn_text::read_text;
-
-// The number of the next bits.
-fn take_word(cur: &mut ReadCursor<'_>, width: u32) -> u64
-    requires few { width ≤ WORD_BITS }
-    requires there { width ≤ length cur.old.rest }
-    ensures value { result ≡ number (take width cur.old.rest) }
-    ensures moved { cur.new ≡ passed width cur.old }
-{
-    match cur.take(width) {
-        Ok(v) => v,
-        Err(_) => unreachable!(),
-    }
-}
 
 // Puts the two hexadecimal digits of the next octet, which stand for themselves in a string.
 fn put_pair(cur: &mut ReadCursor<'_>, text: &mut Vec<u8>) -> Result<(), NoMemory>
@@ -128,14 +117,14 @@ pub fn put_octets(
     requires read { RuleRead sizing.now.rule slots.now }
     ensures put { result ≡ true → (os : List ℕ) × ((root : Grammar) → Passes (λ env. FormPart root Any (octets_form sizing.now) env (octet_string os)) slots.now cur.old cur.new) × (text.new.items ≡ text.old.items ++ quoted (encode_lower os)) }
 {
-    match read_size(cur, sizing, slots, false, 0) {
-        Ok(n) => {
+    match size(cur, sizing, slots) {
+        Some(n) => {
             if cur.left() < 8 * n {
                 return false;
             }
             put_hexadecimal(cur, n, text).is_ok()
         }
-        Err(_) => false,
+        None => false,
     }
 }
 
@@ -181,14 +170,14 @@ pub fn put_bits(
     requires read { RuleRead sizing.now.rule slots.now }
     ensures put { result ≡ true → (bs : List Bool) × ((root : Grammar) → Passes (λ env. FormPart root Any (bits_form sizing.now) env (bit_string bs)) slots.now cur.old cur.new) × (text.new.items ≡ text.old.items ++ quoted (map bit_digit bs)) }
 {
-    match read_size(cur, sizing, slots, false, 0) {
-        Ok(n) => {
+    match size(cur, sizing, slots) {
+        Some(n) => {
             if cur.left() < n {
                 return false;
             }
             put_binary(cur, n, text).is_ok()
         }
-        Err(_) => false,
+        None => false,
     }
 }
 
@@ -219,8 +208,8 @@ fn put_characters(
     }
 }
 
-/// Puts an IA5String, which is passed. Its characters stand aside while they are read.
-pub fn put_text(
+// Puts any IA5String, which is passed. Its characters stand aside while they are read.
+fn put_any_text(
     cur: &mut ReadCursor<'_>,
     leaf: &TextLeaf,
     slots: &[(u32, i128)],
@@ -243,5 +232,44 @@ pub fn put_text(
             done
         }
         Err(_) => false,
+    }
+}
+
+// Puts an IA5String behind its size, which is passed.
+#[inline(always)]
+fn put_sized_text(
+    cur: &mut ReadCursor<'_>,
+    leaf: &TextLeaf,
+    letters: &Letters,
+    slots: &[(u32, i128)],
+    text: &mut Vec<u8>,
+) -> bool
+    requires fine { IsTrue (text_fine leaf.now) }
+    requires letters { AreLetters letters.now leaf.now }
+    requires read { RuleRead leaf.now.sized.rule slots.now }
+    ensures put { result ≡ true → (cs : List ℕ) × ((root : Grammar) → Passes (λ env. FormPart root Any (text_form leaf.now) env (characters cs)) slots.now cur.old cur.new) × (text.new.items ≡ text.old.items ++ quoted cs) }
+{
+    match size(cur, &leaf.sized, slots) {
+        Some(n) => put_string(cur, leaf, letters, n, text),
+        None => false,
+    }
+}
+
+/// Puts an IA5String, which is passed.
+pub fn put_text(
+    cur: &mut ReadCursor<'_>,
+    leaf: &TextLeaf,
+    slots: &[(u32, i128)],
+    aside: &mut Vec<u8>,
+    text: &mut Vec<u8>,
+) -> bool
+    requires fine { IsTrue (text_fine leaf.now) }
+    requires read { RuleRead leaf.now.sized.rule slots.now }
+    ensures put { result ≡ true → (cs : List ℕ) × ((root : Grammar) → Passes (λ env. FormPart root Any (text_form leaf.now) env (characters cs)) slots.now cur.old cur.new) × (text.new.items ≡ text.old.items ++ quoted cs) }
+    ensures aside { result ≡ true → aside.new.items ≡ aside.old.items }
+{
+    match letters_of(leaf) {
+        Some(letters) => put_sized_text(cur, leaf, &letters, slots, text),
+        None => put_any_text(cur, leaf, slots, aside, text),
     }
 }

@@ -2,7 +2,7 @@
 
 ghost use Rattle.std.specs.Prelude.{◌≡◌, ◌<◌, ◌≤◌, ◌+◌, ◌^◌, ℕ, suc, ◌∷◌, [], ◌++◌, List, Bool, Option, None, Some, true, false, IsTrue, length};
 ghost use Rattle.serde_json.specs.Written.{compact_text, members_text};
-ghost use Rattle.acn_grammar.specs.Fails.{Here, presence_count};
+ghost use Rattle.acn_grammar.specs.Fails.{Here, flags_behind, presence_count};
 ghost use Rattle.acn_grammar.specs.Grammar.{Grammar, Fields, Data, component, no_fields, list, contained, inserted};
 ghost use Rattle.acn_grammar.specs.ItemsNamed.{ItemsNamed, FormItemsNamed, FieldsItemsNamed, AlternativesItemsNamed, field_items_named};
 ghost use Rattle.acn_grammar.specs.View.{grammar_of, form_of, field_of, fields_view, with_field, alternatives_view};
@@ -14,21 +14,21 @@ ghost use Rattle.acn_num.specs.declared.limits.TheConstants.{MOST_SIZE};
 ghost use Rattle.acn_reads.specs.Decoded.{Fine, NodeStands, FormStands, FieldsStand, InnerStands, CasesStand, NodeRead, FormRead, Turn, RunTurn};
 ghost use Rattle.acn_reads.specs.Choices.{grammar_at};
 ghost use Rattle.acn_reads.specs.Ends.{EndedRead};
+ghost use Rattle.acn_reads.specs.Present.{BitThere, there_now};
 ghost use Rattle.acn_transcode.specs.Puts as spec;
 ghost use Rattle.acn_transcode.specs.Puts.{Puts, Lays};
 
 use crate::draft::{Draft, Span};
 use crate::leaves::{note, number, put_leaf};
 use crate::members::put_members;
+use crate::sizes::size;
 use crate::slots::forget;
 use crate::strings::{put_bits, put_octets, put_text};
 use acn_bits::ReadCursor;
 use acn_grammar::{Alternative, Body, Choice, Field, Node, Pattern, Presence, Seq, Sizing};
 use acn_json::{put_comma, put_key, put_octet};
 use acn_lines::Order;
-use acn_reads::{
-    count_of, is_ended, is_there, most_of, pad, pass_end, pattern_of, pick, read_size, stands,
-};
+use acn_reads::{count_of, is_ended, is_there, most_of, pad, pass_end, pattern_of, pick, stands};
 use std::mem::swap;
 
 /// Puts the value of a node, which is passed.
@@ -180,6 +180,19 @@ fn put_field(
     }
 }
 
+// Whether a component is there. Its bit is passed, where it has one. Most are always there.
+#[inline(always)]
+fn is_here(presence: &Presence, flags: &mut ReadCursor<'_>, numbers: &[(u32, i128)]) -> bool
+    requires { BitThere presence.now flags.old.rest }
+    ensures there { result ≡ there_now presence.now numbers.now flags.old.rest }
+    ensures flags { flags.new.rest ≡ flags_behind presence.now flags.old.rest }
+{
+    match presence {
+        Presence::Always => true,
+        _ => is_there(presence, flags, numbers),
+    }
+}
+
 #[inline(always)]
 #[cycle(put)]
 fn put_component(
@@ -198,7 +211,7 @@ fn put_component(
     requires order { order_spec.IsNodeOrder (grammar_of node.now) order.now }
     ensures put { result ≡ true → (d : Option Data) × ((here : Here) (k : ℕ) (name : List ℕ) (default : Option (List ℕ)) (fs : Fields) → Turn (grammar_of root.now) here cur.old.origin k (suc k) (component name (grammar_of node.now) presence.now default slot fs) fs (d ∷ []) draft.old.slots.items draft.new.slots.items flags.old.rest flags.new.rest cur.old cur.new) × ((name : List ℕ) (default : Option (List ℕ)) (fs : Fields) → Lays (component name (grammar_of node.now) presence.now default slot fs) fs (d ∷ []) draft.old draft.new) }
 {
-    if is_there(presence, flags, &draft.slots) {
+    if is_here(presence, flags, &draft.slots) {
         let from = draft.text.len();
         if !put_present(node, slot, order, root, cur, draft) {
             return false;
@@ -302,7 +315,7 @@ fn put_list(
             return false;
         }
     } else {
-        let Ok(n) = read_size(cur, sizing, &draft.slots, false, 0) else {
+        let Some(n) = size(cur, sizing, &draft.slots) else {
             return false;
         };
         if !put_run(n, node, order, root, cur, draft) {
@@ -442,7 +455,7 @@ fn put_contained(
     requires order { order_spec.IsNodeOrder (grammar_of node.now) order.now }
     ensures put { result ≡ true → (d : Data) × FormRead (grammar_of root.now) (contained sizing.now (grammar_of node.now)) d draft.old.slots.items draft.new.slots.items cur.old cur.new × Puts (compact_text (json_of (grammar_of node.now) d)) draft.old draft.new }
 {
-    let Ok(n) = read_size(cur, sizing, &draft.slots, false, 0) else {
+    let Some(n) = size(cur, sizing, &draft.slots) else {
         return false;
     };
     match cur.window(8 * n) {

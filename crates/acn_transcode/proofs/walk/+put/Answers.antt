@@ -33,7 +33,7 @@ use Rattle.acn_reads.proofs.StringReads.{bits_rule, form_passed, octets_rule, te
 use Rattle.acn_reads.proofs.Turns.{away_turn, more_turns, no_turn, there_told}
 use Rattle.acn_transcode.specs.Puts.{Puts, Lays, AreLaid}
 use Rattle.acn_transcode.proofs.Walks.{all_laid, alternative_put, array_put, away_laid, front_left, if_true, item_put, later_is, more_laid, no_err, no_items_put, none_laid, object_put, one_longer, passed_laid, seen_form, seq_put_read, there_laid, view_num, when_ok}
-use Rattle.acn_transcode.proofs.walk.+put.Goals.{put_list-then-is_ended+else-not-put_elements, put_list-else-is_ended+in-Ok+else-not-put_run}
+use Rattle.acn_transcode.proofs.walk.+put.Goals.{put_list-then-is_ended+else-not-put_elements, put_list-else-is_ended+in-Some+else-not-put_run}
 use Rattle.acn_transcode.proofs.walk.+put.Goals as goal
 
 pub put_alternative-bounds-orders-i : goal.put_alternative-bounds-orders-i
@@ -183,34 +183,34 @@ put_component-returns-else-not-put_present t c = record {
       let r = c.requires.ready in
       let root = grammar_of c.args.root.now in
       let q = c.put_present.ensures.put c.if-not-put_present.false in
-      let there : there_now c.args.presence.now c.args.draft.now.slots.items c.args.flags.now.rest ≡ true = ap (λ x. there_now c.args.presence.now x c.args.flags.now.rest) (sym c.deref.ensures.value) ∙ (sym c.is_there.ensures.there ∙ c.if-is_there.true) in
+      let there : there_now c.args.presence.now c.args.draft.now.slots.items c.args.flags.now.rest ≡ true = ap (λ x. there_now c.args.presence.now x c.args.flags.now.rest) (sym c.deref.ensures.value) ∙ (sym c.is_here.ensures.there ∙ c.if-is_here.true) in
       let from : c.len-from.result ≡ length c.args.draft.now.text.items = search rules in
       let to : c.len.result ≡ length c.put_present.new.draft.text.items = search rules in
       let pushed = if_true (is_ok c.push.result) _ _ _ (sym c.is_ok.ensures.value ∙ sure) c.push.ensures.items in (
         Some q.0,
-        λ here k name default fs. subst (λ (x : Env). Turn root here c.args.cur.now.origin k (suc k) (component name (grammar_of c.args.node.now) c.args.presence.now default c.args.slot fs) fs (Some q.0 ∷ []) c.args.draft.now.slots.items x c.args.flags.now.rest c.is_there.new.flags.rest c.args.cur.now c.put_present.new.cur) (sym q.1.1)
-            (component_read root here c.args.cur.now.origin k name (grammar_of c.args.node.now) c.args.presence.now default c.args.slot fs r.2 q.0 c.args.draft.now.slots.items q.1.0 c.args.flags.now.rest c.is_there.new.flags.rest c.args.cur.now c.put_present.new.cur r.0 r.1 r.3 c.requires.named
-            c.is_there.ensures.flags (λ env f. (there_told root r.3.known c.args.draft.now.slots.items env c.args.presence.now c.args.flags.now.rest r.3.noted.has r.3.is.0 f).0 there) q.1.2),
+        λ here k name default fs. subst (λ (x : Env). Turn root here c.args.cur.now.origin k (suc k) (component name (grammar_of c.args.node.now) c.args.presence.now default c.args.slot fs) fs (Some q.0 ∷ []) c.args.draft.now.slots.items x c.args.flags.now.rest c.is_here.new.flags.rest c.args.cur.now c.put_present.new.cur) (sym q.1.1)
+            (component_read root here c.args.cur.now.origin k name (grammar_of c.args.node.now) c.args.presence.now default c.args.slot fs r.2 q.0 c.args.draft.now.slots.items q.1.0 c.args.flags.now.rest c.is_here.new.flags.rest c.args.cur.now c.put_present.new.cur r.0 r.1 r.3 c.requires.named
+            c.is_here.ensures.flags (λ env f. (there_told root r.3.known c.args.draft.now.slots.items env c.args.presence.now c.args.flags.now.rest r.3.noted.has r.3.is.0 f).0 there) q.1.2),
         λ name default fs. there_laid name (grammar_of c.args.node.now) c.args.presence.now default c.args.slot fs q.0 (record { from = c.len-from.result; to = c.len.result }) c.args.draft.now c.put_present.new.draft _ q.2 from to refl refl pushed,
       );
 }
 
-pub put_component-returns-else-is_there : goal.put_component-returns-else-is_there
-put_component-returns-else-is_there t c = record {
+pub put_component-returns-else-is_here : goal.put_component-returns-else-is_here
+put_component-returns-else-is_here t c = record {
   put = λ sure.
       let r = c.requires.ready in
       let root = grammar_of c.args.root.now in
-      let away : there_now c.args.presence.now c.args.draft.now.slots.items c.args.flags.now.rest ≡ false = ap (λ x. there_now c.args.presence.now x c.args.flags.now.rest) (sym c.deref.ensures.value) ∙ (sym c.is_there.ensures.there ∙ c.if-is_there.false) in
-      let pushed = if_true (is_ok c.push-else-is_there.result) _ _ _ (sym c.is_ok-else-is_there.ensures.value ∙ sure) c.push-else-is_there.ensures.items in (
+      let away : there_now c.args.presence.now c.args.draft.now.slots.items c.args.flags.now.rest ≡ false = ap (λ x. there_now c.args.presence.now x c.args.flags.now.rest) (sym c.deref.ensures.value) ∙ (sym c.is_here.ensures.there ∙ c.if-is_here.false) in
+      let pushed = if_true (is_ok c.push-else-is_here.result) _ _ _ (sym c.is_ok-else-is_here.ensures.value ∙ sure) c.push-else-is_here.ensures.items in (
         None,
-        λ here k name default fs. away_turn root here c.args.cur.now.origin k name (grammar_of c.args.node.now) c.args.presence.now default c.args.slot fs c.args.draft.now.slots.items c.args.flags.now.rest c.is_there.new.flags.rest c.args.cur.now
-            c.is_there.ensures.flags (λ env f. (there_told root r.3.known c.args.draft.now.slots.items env c.args.presence.now c.args.flags.now.rest r.3.noted.has r.3.is.0 f).1 away) c.requires.fine,
+        λ here k name default fs. away_turn root here c.args.cur.now.origin k name (grammar_of c.args.node.now) c.args.presence.now default c.args.slot fs c.args.draft.now.slots.items c.args.flags.now.rest c.is_here.new.flags.rest c.args.cur.now
+            c.is_here.ensures.flags (λ env f. (there_told root r.3.known c.args.draft.now.slots.items env c.args.presence.now c.args.flags.now.rest r.3.noted.has r.3.is.0 f).1 away) c.requires.fine,
         λ name default fs. away_laid name (grammar_of c.args.node.now) c.args.presence.now default c.args.slot fs c.args.draft.now _ refl refl pushed,
       );
 }
 
-pub put_contained-read_size-requires-clause-read : goal.put_contained-read_size-requires-clause-read
-put_contained-read_size-requires-clause-read t c = (let r = c.requires.ready in contained_rule (grammar_of c.args.root.now) c.args.sizing.now (grammar_of c.args.node.now) r.0 c.args.draft.now.slots.items c.deref.result.now c.deref.ensures.value (r.1, r.2) c.requires.fine)
+pub put_contained-size-requires-clause-read : goal.put_contained-size-requires-clause-read
+put_contained-size-requires-clause-read t c = (let r = c.requires.ready in contained_rule (grammar_of c.args.root.now) c.args.sizing.now (grammar_of c.args.node.now) r.0 c.args.draft.now.slots.items c.deref.result.now c.deref.ensures.value (r.1, r.2) c.requires.fine)
 
 pub put_contained-returns-then-put_node : goal.put_contained-returns-then-put_node
 put_contained-returns-then-put_node t c = record {
@@ -219,7 +219,7 @@ put_contained-returns-then-put_node t c = record {
       let few = ltb-true c.left.result 8 sure in
       let left = c.left.ensures in (
         p.0,
-        contained_read (grammar_of c.args.root.now) c.args.sizing.now (grammar_of c.args.node.now) c.in-Ok.n p.0 c.args.draft.now.slots.items c.put_node.new.draft.slots.items c.deref.result.now c.args.cur.now c.read_size.new.cur c.window.new.self c.in-Ok-window.window c.put_node.new.cur c.deref.ensures.value c.in-Ok.ensures.read c.in-Ok-window.ensures.within c.in-Ok-window.ensures.window c.in-Ok-window.ensures.moved p.1 (omega (arith, few, left)),
+        contained_read (grammar_of c.args.root.now) c.args.sizing.now (grammar_of c.args.node.now) c.in-Some.n p.0 c.args.draft.now.slots.items c.put_node.new.draft.slots.items c.deref.result.now c.args.cur.now c.size.new.cur c.window.new.self c.in-Ok.window c.put_node.new.cur c.deref.ensures.value c.in-Some.ensures.read c.in-Ok.ensures.within c.in-Ok.ensures.window c.in-Ok.ensures.moved p.1 (omega (arith, few, left)),
         p.2,
       );
 }
@@ -365,8 +365,8 @@ put_fields-returns t c =
       );
     }
 
-pub put_list-read_size-requires-clause-read : goal.put_list-read_size-requires-clause-read
-put_list-read_size-requires-clause-read t c = (let r = c.requires.ready in list_rule (grammar_of c.args.root.now) c.args.sizing.now (grammar_of c.args.node.now) r.0 c.args.draft.now.slots.items c.deref.result.now c.deref.ensures.value (r.1, r.2) c.requires.fine)
+pub put_list-size-requires-clause-read : goal.put_list-size-requires-clause-read
+put_list-size-requires-clause-read t c = (let r = c.requires.ready in list_rule (grammar_of c.args.root.now) c.args.sizing.now (grammar_of c.args.node.now) r.0 c.args.draft.now.slots.items c.deref.result.now c.deref.ensures.value (r.1, r.2) c.requires.fine)
 
 pub put_list-returns : goal.put_list-returns
 put_list-returns t c = record {
@@ -383,12 +383,12 @@ put_list-returns t c = record {
               ended_list root false [] c.args.sizing.now g w.pattern_of.result.now p.0 c.args.draft.now.slots.items w.put_elements.new.draft.slots.items c.args.cur.now w.put_elements.new.cur w.pattern_of.ensures p.1,
               array_put g p.0 c.args.draft.now _ w.put_elements.new.draft _ opened refl refl p.2 (rw (sym w.draft-is) closed) refl refl,
             )
-        | put_list-else-is_ended+in-Ok+else-not-put_run w ↦
+        | put_list-else-is_ended+in-Some+else-not-put_run w ↦
             let p = w.put_run.ensures.put w.if-not-put_run.false in
             let none = c.is_ended.ensures.sized w.if-is_ended.false in
             rw (w.cur-is, w.draft-is) (
               list_of (elements_of p.0),
-              list_read root (record { path = []; place = 0; inside = false }) w.read_size.new.cur.origin c.args.sizing.now g w.in-Ok.n p.0 c.args.draft.now.slots.items w.put_run.new.draft.slots.items w.deref.result.now c.args.cur.now w.read_size.new.cur w.put_run.new.cur none w.deref.ensures.value w.in-Ok.ensures.read p.1 (p.2 _),
+              list_read root (record { path = []; place = 0; inside = false }) w.size.new.cur.origin c.args.sizing.now g w.in-Some.n p.0 c.args.draft.now.slots.items w.put_run.new.draft.slots.items w.deref.result.now c.args.cur.now w.size.new.cur w.put_run.new.cur none w.deref.ensures.value w.in-Some.ensures.read p.1 (p.2 _),
               array_put g p.0 c.args.draft.now _ w.put_run.new.draft _ opened refl refl p.3 (rw (sym w.draft-is) closed) refl refl,
             )
       ];

@@ -3,7 +3,7 @@ use Rattle.std.proofs.lemmas.List.{drop_at, take_all}
 use Rattle.json.specs.Print.{quoted}
 use Rattle.acn_reads.proofs.TextReads.{text_passed, text_sizes}
 use Rattle.acn_transcode.proofs.NumberTexts.{when_ok}
-use Rattle.acn_transcode.proofs.strings.put_text.Goals as goal
+use Rattle.acn_transcode.proofs.strings.put_any_text.Goals as goal
 
 behind : (items old cs : List ℕ) (mark : ℕ) → items ≡ old ++ cs → mark ≡ length old → take (length items - mark) (drop mark items) ≡ cs
 behind items old cs mark e m =

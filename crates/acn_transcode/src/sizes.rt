@@ -1,0 +1,50 @@
+//! Sizes of strings and lists.
+
+ghost use Rattle.std.specs.Prelude.{◌≤◌, IsTrue, IfSome};
+ghost use Rattle.acn_num.specs.declared.limits.TheConstants.{MOST_SIZE};
+ghost use Rattle.acn_grammar.specs.Leaves.{sizing_fine};
+ghost use Rattle.acn_grammar.specs.Spell.{SizePart};
+ghost use Rattle.acn_reads.specs.Decoded.{Passes};
+ghost use Rattle.acn_reads.specs.Steps.{RuleRead};
+
+use acn_bits::ReadCursor;
+use acn_grammar::{SizeRule, Sizing};
+use acn_reads::read_size;
+
+// The size of a string or list, wherever it is said.
+fn said_size(cur: &mut ReadCursor<'_>, sizing: &Sizing, slots: &[(u32, i128)]) -> Option<u64>
+    requires fine { IsTrue (sizing_fine sizing.now) }
+    requires read { RuleRead sizing.now.rule slots.now }
+    ensures few { IfSome result (λ n. n ≤ MOST_SIZE) }
+    ensures read { IfSome result (λ n. Passes (λ env. SizePart sizing.now env n) slots.now cur.old cur.new) }
+{
+    match read_size(cur, sizing, slots, false, 0) {
+        Ok(n) => Some(n),
+        Err(_) => None,
+    }
+}
+
+/// The size of a string or list, which is passed where it stands in front.
+#[inline(always)]
+pub fn size(cur: &mut ReadCursor<'_>, sizing: &Sizing, slots: &[(u32, i128)]) -> Option<u64>
+    requires fine { IsTrue (sizing_fine sizing.now) }
+    requires read { RuleRead sizing.now.rule slots.now }
+    ensures few { IfSome result (λ n. n ≤ MOST_SIZE) }
+    ensures read { IfSome result (λ n. Passes (λ env. SizePart sizing.now env n) slots.now cur.old cur.new) }
+{
+    match &sizing.rule {
+        SizeRule::Prefix { low, width } => match cur.take(*width) {
+            Ok(ahead) => {
+                let n = *low + ahead;
+                if sizing.sizes.holds_natural(n) {
+                    Some(n)
+                } else {
+                    None
+                }
+            }
+            Err(_) => None,
+        },
+        SizeRule::Slot(_) => said_size(cur, sizing, slots),
+        SizeRule::Ended(_) => said_size(cur, sizing, slots),
+    }
+}
