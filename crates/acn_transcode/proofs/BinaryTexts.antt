@@ -1,7 +1,7 @@
 -- Bits that were read, and put as digits.
 use Rattle.std.proofs.Common.{◌≡◌, ℕ, ◌+◌, ◌<◌, ◌≤◌, Bool, true, false, List, [], ◌∷◌, ◌++◌, length, take, refl, sym, ap, ◌∙◌, arith, inl, inr, ◌⊎◌, append-nil, append_assoc, length-append}
 use Rattle.std.specs.Prelude.{map}
-use Rattle.json.specs.Print.{escape, quoted}
+use Rattle.json.specs.Print.{quoted}
 use Rattle.acn_num.specs.Bits.{number}
 use Rattle.acn_bits.specs.Reading.{Reading, Reads, passed}
 use Rattle.acn_bits.proofs.Readings.{reads_nothing, reads_join}

@@ -1,22 +1,22 @@
 -- Texts that are put one behind the other, and what a walk knows where it puts them.
-use Rattle.std.proofs.Common.{◌≡◌, ℕ, zero, suc, ◌+◌, ◌-◌, ◌<◌, ◌≤◌, Bool, true, false, List, [], ◌∷◌, ◌++◌, length, take, drop, slice_get, ℤ, Result, Ok, Err, OnOk, if◌then◌else◌, nat_lt, rules, Option, Some, None, refl, sym, ap, subst, ◌∙◌, arith, append_assoc, append-nil, length-append}
+use Rattle.std.proofs.Common.{◌≡◌, ℕ, zero, suc, ◌+◌, ◌-◌, ◌≤◌, Bool, true, false, List, [], ◌∷◌, ◌++◌, length, take, drop, slice_get, Result, Ok, Err, OnOk, if◌then◌else◌, nat_lt, rules, Option, Some, None, refl, sym, ap, subst, ◌∙◌, arith, append_assoc, append-nil, length-append}
 use Rattle.std.proofs.lemmas.Bool.Decides.{nat_tests}
 use Rattle.std.specs.Result.{is_ok, is_err}
 use Rattle.json.specs.Print.{quoted}
-use Rattle.serde_json.specs.Data.{Data as Json, Members, no_members, member}
+use Rattle.serde_json.specs.Data.{Members, no_members, member}
 use Rattle.serde_json.specs.Written.{compact_text, comma_if, items_text, members_text}
 use Rattle.acn_bits.specs.Reading.{Reading, passed, window_of}
 use Rattle.acn_grammar.specs.Env.{Env}
 use Rattle.acn_grammar.specs.Fails.{Here, presence_count}
-use Rattle.acn_grammar.specs.Grammar.{Grammar, Form, Fields, Data, Elements, node, num, seq, record_of, no_fields, no_places, empty, filled, component, inserted, no_elements, element}
-use Rattle.acn_grammar.specs.View.{elements_of, places_of, grammar_of, form_of, alternatives_view, fields_view, alternative_of}
+use Rattle.acn_grammar.specs.Grammar.{Grammar, Form, Fields, Data, Elements, num, seq, record_of, no_fields, no_places, empty, filled, component, inserted, no_elements, element}
+use Rattle.acn_grammar.specs.View.{elements_of, places_of, grammar_of, form_of, alternatives_view, fields_view}
 use Rattle.acn_grammar.specs.declared.node.Alternative.{Alternative}
 use Rattle.acn_grammar.specs.declared.node.Body.TheVariants.{Num}
 use Rattle.acn_grammar.specs.declared.node.Body.{the_lemmas as node_lemmas}
 use Rattle.acn_grammar.specs.declared.node.Field.{Field}
 use Rattle.acn_grammar.specs.declared.node.NumLeaf.{NumLeaf}
 use Rattle.acn_grammar.specs.declared.node.Presence.{Presence}
-use Rattle.acn_json.specs.Lines.{json_of, form_json, each_json, alternative_json, fields_json}
+use Rattle.acn_json.specs.Lines.{json_of, form_json, each_json, alternative_json}
 use Rattle.acn_lines.specs.Order.{AreTurns, in_order}
 use Rattle.acn_lines.specs.declared.turns.Turn.{Turn as KeyTurn}
 use Rattle.acn_reads.specs.Decoded.{in_front, placed, FormRead, FormStands, Turn}
@@ -26,7 +26,7 @@ use Rattle.acn_reads.proofs.Seqs.{seq_ready}
 use Rattle.acn_reads.proofs.Turns.{seq_read}
 use Rattle.std.specs.Prelude.{filter, not}
 use Rattle.acn_grammar.specs.Tree.{holds}
-use Rattle.acn_transcode.specs.Puts.{Puts, Lays, AreLaid, IsLaid, PutsItems, some_before, cut_out}
+use Rattle.acn_transcode.specs.Puts.{Puts, Lays, AreLaid, PutsItems, some_before}
 use Rattle.acn_transcode.specs.declared.draft.Draft.{Draft}
 use Rattle.acn_transcode.specs.declared.draft.Span.{Span}
 

@@ -1,4 +1,4 @@
-use Rattle.std.proofs.Common.{rules, ◌≡◌, ◌++◌, ◌∷◌, [], sym, ap, ◌∙◌, append_assoc}
+use Rattle.std.proofs.Common.{rules, ◌≡◌, ◌++◌, ◌∷◌, [], ap, ◌∙◌}
 use Rattle.acn_num.specs.Bits.{bits}
 use Rattle.acn_grammar.specs.View.{grammar_of}
 use Rattle.acn_json.specs.Lines.{line_of}

@@ -1,4 +1,4 @@
-use Rattle.std.proofs.Common.{refl, ◌∙◌, arith}
+use Rattle.std.proofs.Common.{arith}
 use Rattle.std.proofs.lemmas.Result.{on_ok_weaker}
 use Rattle.acn_transcode.proofs.BinaryTexts.{bit_small, bit_put}
 use Rattle.acn_transcode.proofs.strings.put_bit.Goals as goal

@@ -4,9 +4,8 @@ use Rattle.std.proofs.lemmas.Bool.{ltb-true}
 use Rattle.std.specs.Result.{is_ok}
 use Rattle.serde_json.specs.Written.{compact_text, members_text}
 use Rattle.acn_grammar.specs.Env.{Env}
-use Rattle.acn_grammar.specs.Fails.{Here, presence_count}
-use Rattle.acn_grammar.specs.Grammar.{Grammar, Form, Fields, Data, num, octets, bits, text, seq, list, contained, choice, component, no_fields, no_places, record_of, list_of, alt, octet_string, bit_string, characters}
-use Rattle.acn_grammar.specs.ItemsNamed.{ItemsNamed}
+use Rattle.acn_grammar.specs.Fails.{presence_count}
+use Rattle.acn_grammar.specs.Grammar.{Grammar, Form, Fields, num, octets, bits, text, seq, choice, component, no_places, record_of, list_of, alt, octet_string, bit_string, characters}
 use Rattle.acn_grammar.specs.View.{OneField, grammar_of, form_of, field_of, fields_view, with_field, alternatives_view, places_of, elements_of}
 use Rattle.acn_grammar.specs.declared.node.Alternative.{the_lemmas as alternative_lemmas}
 use Rattle.acn_grammar.specs.declared.node.Body.TheVariants.{Choice as Choice_body, Seq as Seq_body}
@@ -14,19 +13,18 @@ use Rattle.acn_grammar.specs.declared.node.Choice.{out-Choice, size_is-Choice}
 use Rattle.acn_grammar.specs.declared.node.Field.{Field}
 use Rattle.acn_grammar.specs.declared.node.Node.{the_lemmas}
 use Rattle.acn_grammar.proofs.Views.{view_node, view_component, view_inserted, view_seq_form}
-use Rattle.acn_json.specs.Lines.{json_of, form_json}
+use Rattle.acn_json.specs.Lines.{json_of}
 use Rattle.acn_lines.specs.Order.{IsFormOrder, AreAlternativeOrders, AreFieldOrders, AreTurns, in_order}
 use Rattle.acn_lines.specs.declared.order.Order.{Order, out-Order}
 use Rattle.acn_lines.proofs.Parts.{orders-within, order-here, alternatives-within, alternative-here}
 use Rattle.acn_reads.specs.Choices.{Picked}
 use Rattle.acn_reads.specs.Decoded.{FormStands, NodeRead, FormRead, Turn, Passes, placed}
 use Rattle.acn_reads.specs.Present.{there_now}
-use Rattle.acn_reads.specs.Steps.{noted_by}
 use Rattle.acn_reads.proofs.ChoiceReads.{body_is, choice_few, choice_rule_known, choice_fits, choice_inner, choice_named, choice_read, case_there, case_at, case_inner, count_cases, same_case, view_choice, view_named}
 use Rattle.acn_reads.proofs.EndReads.{ended_list}
 use Rattle.acn_reads.proofs.Loops.{fields_from, next_ready, all_turns, named_at}
 use Rattle.acn_reads.proofs.Nodes.{inner_node, node_of_number, node_read, num_read}
-use Rattle.acn_reads.proofs.Runs.{contained_inner, contained_read, contained_rule, list_inner, list_read, list_rule, no_run, one_more_run, run_stands}
+use Rattle.acn_reads.proofs.Runs.{contained_read, contained_rule, list_read, list_rule, no_run, one_more_run, run_stands}
 use Rattle.acn_reads.proofs.Seqs.{few_fields, fields_named, fields_ready, flags_are}
 use Rattle.acn_reads.proofs.SlotTurns.{component_read}
 use Rattle.acn_reads.proofs.StringReads.{bits_rule, form_passed, octets_rule, text_rule, view_bits, view_octets, view_text}

@@ -1,4 +1,4 @@
-use Rattle.std.proofs.Common.{◌≡◌, ℕ, List, Option, length, drop}
+use Rattle.std.proofs.Common.{◌≡◌, List, Option, length, drop}
 use Rattle.acn_grammar.specs.Fails.{Here}
 use Rattle.acn_grammar.specs.Grammar.{Data}
 use Rattle.acn_grammar.specs.View.{grammar_of, fields_view}

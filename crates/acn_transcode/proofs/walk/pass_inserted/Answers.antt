@@ -1,6 +1,6 @@
 use Rattle.std.proofs.lemmas.Int.{to_z-of_z}
 use Rattle.std.specs.Int.{w128}
-use Rattle.std.proofs.Common.{ℕ, ℤ, suc, List, [], sym, ap, ◌∙◌, subst, rules}
+use Rattle.std.proofs.Common.{ℤ, suc, [], sym, ap, ◌∙◌, subst, rules}
 use Rattle.acn_grammar.specs.Env.{Env}
 use Rattle.acn_grammar.specs.Grammar.{Grammar, inserted}
 use Rattle.acn_grammar.specs.ItemsNamed.{ItemsNamed}
