@@ -1,4 +1,5 @@
 mod Alternatives
+mod FillingLaw
 mod GoingOn
 mod LeafLaw
 mod MemberTurns
@@ -10,4 +11,5 @@ mod OrderLaw
 -- for acn_transcode
 pub mod Parts
 mod PlacesLaw
+mod ReadLaw
 mod TakenLaw

@@ -1,5 +1,5 @@
 -- Components noted in byte order of their names: their members are those of the object, whichever are there.
-use Rattle.std.proofs.Common.{◌≡◌, ℕ, zero, suc, true, false, not, List, [], ◌∷◌, Option, Some, None, Bor, Ordering, Less, Equal, Greater, nat_cmp, is_eq, refl, sym, ap, subst, ◌∙◌}
+use Rattle.std.proofs.Common.{◌≡◌, ℕ, zero, suc, true, false, not, List, [], ◌∷◌, Option, Some, None, Bor, Ordering, Less, Equal, Greater, nat_cmp, is_eq, refl, sym, ap, subst, ◌∙◌, arith}
 use Rattle.std.specs.List.{list_any}
 use Rattle.std.specs.Ordering.{match_ordering, ordering_reverse}
 use Rattle.std.specs.Cmp.Lexicographic.{slice_cmp}
@@ -18,7 +18,7 @@ use Rattle.acn_grammar.specs.View.{OneField, a_component, an_inserted}
 use Rattle.acn_grammar.specs.declared.node.Presence.{Presence}
 use Rattle.acn_grammar.proofs.Characters.{same_name-refl}
 use Rattle.acn_json.specs.Lines.{json_of, fields_json}
-use Rattle.acn_lines.specs.Order.{field_at, place_at, place_of, member_at, in_order, key_text, HasKey, AreKeyed, ArePlaced}
+use Rattle.acn_lines.specs.Order.{field_at, place_at, place_of, member_at, in_order, key_text, HasKey, AreKeyed, ArePlaced, Elsewhere, AreApart}
 use Rattle.acn_lines.specs.Names.{Differ}
 use Rattle.acn_lines.specs.Spots.{Spots, turns_at, AreSpots}
 use Rattle.acn_lines.specs.declared.turns.Spot.{Spot}
@@ -326,7 +326,36 @@ all_members whole (e ∷ es) ps h =
     let p = place_at ps e.1.place in
     ap (member_at o p) (all_members whole es ps h.1) ∙ one_member o e.0.now p (there (value whole ps) es) h.0
 
+-- No two spots have a place in common.
+
+same_component : (fs : Fields) (i j : ℕ) (k l : List ℕ) → NamedAt (field_at fs i) k → NamedAt (field_at fs j) l → place_of fs i ≡ place_of fs j → k ≡ l
+same_component no_fields i j k l h g e = absurd h
+same_component (component name g' presence default own fs) zero zero k l h g e = h ∙ sym g
+same_component (component name g' presence default own fs) zero (suc j) k l h g e = absurd (omega arith)
+same_component (component name g' presence default own fs) (suc i) zero k l h g e = absurd (omega arith)
+same_component (component name g' presence default own fs) (suc i) (suc j) k l h g e = same_component fs i j k l h g (omega arith)
+same_component (inserted name g' slot fs) zero j k l h g e = absurd h
+same_component (inserted name g' slot fs) (suc i) zero k l h g e = absurd g
+same_component (inserted name g' slot fs) (suc i) (suc j) k l h g e = same_component fs i j k l h g e
+
+not_less : (k l : List ℕ) → k ≡ l → cmp k l ≡ Less → ⊥
+not_less k l same e =
+    let here : cmp k k ≡ Less = subst (λ x. cmp k x ≡ Less) (sym same) e in
+    let there : cmp k k ≡ ordering_reverse Less = turned k k ∙ ap ordering_reverse here in
+    cc
+
+elsewhere : (whole : Fields) (e : Bor (List ℕ) × Spot) (es : Spots) → Above e.0.now es → NamedAt (field_at whole e.1.field) e.0.now → e.1.place ≡ place_of whole e.1.field → AllNamed whole es → AllPlaced whole es → Elsewhere e.1.place (turns_at es)
+elsewhere whole e [] above named placed names places = tt
+elsewhere whole e (u ∷ us) above named placed names places = (
+  λ same. not_less e.0.now u.0.now (same_component whole e.1.field u.1.field e.0.now u.0.now named names.0 (sym placed ∙ (sym same ∙ places.0))) above.0,
+  elsewhere whole e us above.1 named placed names.1 places.1,
+)
+
+all_apart : (whole : Fields) (es : Spots) → Sorted es → AllNamed whole es → AllPlaced whole es → AreApart (turns_at es)
+all_apart whole [] sorted named placed = tt
+all_apart whole (e ∷ es) sorted named placed = (elsewhere whole e es sorted.0 named.0 placed.0 named.1 placed.1, all_apart whole es sorted.1 named.1 placed.1)
+
 pub all_noted : (whole rest : Fields) (at : ℕ) (es : Spots) → rest ≡ no_fields → Noted whole rest at es → AllPlaced whole es → AreSpots whole es
 all_noted whole rest at es e h placed =
     let n = subst (λ fs. Noted whole fs at es) e h in
-    (all_keyed whole es n.3, λ ps. all_members whole es ps n.3 ∙ n.4 ps, all_placed whole es placed)
+    (all_keyed whole es n.3, λ ps. all_members whole es ps n.3 ∙ n.4 ps, all_placed whole es placed, all_apart whole es n.0 n.3 placed)

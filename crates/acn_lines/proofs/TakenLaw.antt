@@ -125,7 +125,7 @@ grammar_at no_alternatives i = None
 grammar_at (alternative name g tests more) zero = Some g
 grammar_at (alternative name g tests more) (suc i) = grammar_at more i
 
-view_alternative : (x : Alternative) (xs : List Alternative) → alternatives_view (x ∷ xs) ≡ alternative x.name (grammar_of x.node) x.tests (alternatives_view xs)
+pub view_alternative : (x : Alternative) (xs : List Alternative) → alternatives_view (x ∷ xs) ≡ alternative x.name (grammar_of x.node) x.tests (alternatives_view xs)
 view_alternative x xs = search (rules, node_lemmas)
 
 pub alternative_is : (as' : List Alternative) (i : ℕ) (a : Alternative) → i < length as' → a ≡ get_or as' i a → grammar_at (alternatives_view as') i ≡ Some (grammar_of a.node)

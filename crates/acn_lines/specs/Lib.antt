@@ -1,3 +1,4 @@
+pub mod Filled
 pub mod Names
 pub mod Order
 pub mod Spots

@@ -64,9 +64,19 @@ abbrev pub ArePlaced : Fields → List Turn → Type 0
 ArePlaced fs [] = Unit {0}
 ArePlaced fs (t ∷ ts) = (t.place ≡ place_of fs t.field) × ArePlaced fs ts
 
--- each turn has the key and the place of its component, and in turn they give the members of each record
+-- none of the turns has this place
+abbrev pub Elsewhere : (place : ℕ) → List Turn → Type 0
+Elsewhere place [] = Unit {0}
+Elsewhere place (t ∷ ts) = (t.place ≡ place → ⊥) × Elsewhere place ts
+
+-- no two turns have a place in common
+abbrev pub AreApart : List Turn → Type 0
+AreApart [] = Unit {0}
+AreApart (t ∷ ts) = Elsewhere t.place ts × AreApart ts
+
+-- each turn has the key and the place of its component, and no other has the place; in turn they give the members of each record
 abbrev pub AreTurns : Fields → List Turn → Type 0
-AreTurns fs ts = AreKeyed fs ts × ((ps : Places) → in_order fs ts ps ≡ fields_json no_members fs ps) × ArePlaced fs ts
+AreTurns fs ts = AreKeyed fs ts × ((ps : Places) → in_order fs ts ps ≡ fields_json no_members fs ps) × ArePlaced fs ts × AreApart ts
 
 -- the cut is one of the leaf, where there is one
 abbrev pub IsLeafOrder : NumLeaf → Order → Type 0

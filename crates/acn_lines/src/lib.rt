@@ -1,15 +1,14 @@
 //! Lines of the values of one tree: what they need beside the tree is made once.
 #![tactic(auto)]
 
-mod behind;
 mod leaves;
 mod lines;
 mod order;
 mod places;
 mod printed;
 mod put;
+mod read;
 mod room;
-mod seen;
 mod take;
 mod tokens;
 mod turns;

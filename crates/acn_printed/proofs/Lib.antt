@@ -1,5 +1,8 @@
+mod Characters
 -- for acn_lines
 pub mod Digits
+mod Leaves
 -- for acn_lines
 pub mod Pieces
 mod Strings
+mod Tables

@@ -1,176 +1,144 @@
-//! What stands behind the text of a value, where a line goes on with it.
+//! Strings that are read from a line as they are printed.
 
-ghost use Rattle.std.specs.Prelude.{◌≡◌, ◌<◌, ◌<ℤ◌, pos, ◌++◌, ◌∷◌, [], IfSome, decimal, map};
-ghost use Rattle.std.specs.Fmt.{signed_decimal};
+ghost use Rattle.std.specs.Prelude.{◌≡◌, ◌<◌, ◌/◌, ◌%◌, ◌++◌, true, IfSome, IsTrue, nat_lt, map, ◌&&◌, not, ◌==◌};
+ghost use Rattle.std.specs.Char.{digit_char};
+ghost use Rattle.std.specs.List.{list_all};
 ghost use Rattle.hex.specs.Hex.{encode_lower};
-ghost use Rattle.json.specs.Print.{escape, quoted, token_text};
-ghost use Rattle.json.specs.Token as token;
-ghost use Rattle.serde_json.specs.Written.{compact_text};
-ghost use Rattle.acn_grammar.specs.View.{data_of};
-ghost use Rattle.acn_json.specs.Lines.{bit_digit, num_json};
+ghost use Rattle.json.specs.Print.{escape, quoted};
+ghost use Rattle.acn_grammar.specs.Shaped.{are_octets};
+ghost use Rattle.acn_json.specs.Lines.{bit_digit};
 
-use acn_grammar::{NumKind, NumLeaf, Value};
-use acn_json::{all_plain, digit, item_name};
+use crate::rest::Rest;
+use acn_num::Row;
+use std::alloc::Global;
 
-/// Numbers of more digits than this one has aren't read here.
-const MOST_BEFORE_A_DIGIT: u64 = 100_000_000_000_000_000;
+/// The number of each lower case hexadecimal digit, and 255 of each octet that is none.
+#[rattlefmt::skip]
+const DIGIT_NUMBERS: [u8; 256] = [
+    0xff, 0xff, 0xff, 0xff, 0xff, 0xff, 0xff, 0xff, 0xff, 0xff, 0xff, 0xff, 0xff, 0xff, 0xff, 0xff,
+    0xff, 0xff, 0xff, 0xff, 0xff, 0xff, 0xff, 0xff, 0xff, 0xff, 0xff, 0xff, 0xff, 0xff, 0xff, 0xff,
+    0xff, 0xff, 0xff, 0xff, 0xff, 0xff, 0xff, 0xff, 0xff, 0xff, 0xff, 0xff, 0xff, 0xff, 0xff, 0xff,
+    0x00, 0x01, 0x02, 0x03, 0x04, 0x05, 0x06, 0x07, 0x08, 0x09, 0xff, 0xff, 0xff, 0xff, 0xff, 0xff,
+    0xff, 0xff, 0xff, 0xff, 0xff, 0xff, 0xff, 0xff, 0xff, 0xff, 0xff, 0xff, 0xff, 0xff, 0xff, 0xff,
+    0xff, 0xff, 0xff, 0xff, 0xff, 0xff, 0xff, 0xff, 0xff, 0xff, 0xff, 0xff, 0xff, 0xff, 0xff, 0xff,
+    0xff, 0x0a, 0x0b, 0x0c, 0x0d, 0x0e, 0x0f, 0xff, 0xff, 0xff, 0xff, 0xff, 0xff, 0xff, 0xff, 0xff,
+    0xff, 0xff, 0xff, 0xff, 0xff, 0xff, 0xff, 0xff, 0xff, 0xff, 0xff, 0xff, 0xff, 0xff, 0xff, 0xff,
+    0xff, 0xff, 0xff, 0xff, 0xff, 0xff, 0xff, 0xff, 0xff, 0xff, 0xff, 0xff, 0xff, 0xff, 0xff, 0xff,
+    0xff, 0xff, 0xff, 0xff, 0xff, 0xff, 0xff, 0xff, 0xff, 0xff, 0xff, 0xff, 0xff, 0xff, 0xff, 0xff,
+    0xff, 0xff, 0xff, 0xff, 0xff, 0xff, 0xff, 0xff, 0xff, 0xff, 0xff, 0xff, 0xff, 0xff, 0xff, 0xff,
+    0xff, 0xff, 0xff, 0xff, 0xff, 0xff, 0xff, 0xff, 0xff, 0xff, 0xff, 0xff, 0xff, 0xff, 0xff, 0xff,
+    0xff, 0xff, 0xff, 0xff, 0xff, 0xff, 0xff, 0xff, 0xff, 0xff, 0xff, 0xff, 0xff, 0xff, 0xff, 0xff,
+    0xff, 0xff, 0xff, 0xff, 0xff, 0xff, 0xff, 0xff, 0xff, 0xff, 0xff, 0xff, 0xff, 0xff, 0xff, 0xff,
+    0xff, 0xff, 0xff, 0xff, 0xff, 0xff, 0xff, 0xff, 0xff, 0xff, 0xff, 0xff, 0xff, 0xff, 0xff, 0xff,
+    0xff, 0xff, 0xff, 0xff, 0xff, 0xff, 0xff, 0xff, 0xff, 0xff, 0xff, 0xff, 0xff, 0xff, 0xff, 0xff,
+];
 
-/// What stands behind these octets.
-pub fn behind<'a>(text: &'a [u8], octets: &[u8]) -> Option<&'a [u8]>
-    ensures { IfSome result (λ rest. text.now ≡ octets.now ++ rest.now) }
+// The number of a lower case hexadecimal digit.
+#[inline]
+fn digit_number(digit: u8) -> Option<u8>
+    ensures read { IfSome result (λ n. digit ≡ digit_char n) }
+    ensures small { IfSome result (λ n. n < 16) }
 {
-    if text.len() < octets.len() {
+    let number = DIGIT_NUMBERS[digit as usize];
+    if number < 16 { Some(number) } else { None }
+}
+
+// The octet of two digits.
+#[inline]
+fn octet_of(high: u8, low: u8) -> Option<u8>
+    ensures { IfSome result (λ octet. (high ≡ digit_char (octet / 16)) × (low ≡ digit_char (octet % 16))) }
+{
+    let first = digit_number(high)?;
+    let second = digit_number(low)?;
+    Some(16 * first + second)
+}
+
+// The octets of hexadecimal digits.
+fn octets_of(alloc: Global, digits: &[u8]) -> Option<Row<u8>>
+    ensures { IfSome result (λ octets. escape (encode_lower octets) ≡ digits.now) }
+{
+    let count = digits.len() / 2;
+    if 2 * count != digits.len() {
         return None;
     }
-    let (front, rest) = text.split_at(octets.len());
-    if front == octets { Some(rest) } else { None }
+    let mut octets = vec![in alloc; 0; count].ok()?;
+    let mut at = 0;
+    while at < count {
+        octets[at] = octet_of(digits[2 * at], digits[2 * at + 1])?;
+        at += 1;
+    }
+    Some(Row::from_vec(octets))
 }
 
-/// A whole number without a sign, and what stands behind its digits. Of a number with more than 18 digits the front is read.
-pub fn digits(text: &[u8]) -> Option<(u64, &[u8])>
-    ensures { IfSome result (λ read. text.now ≡ decimal read.0 ++ read.1.now) }
+// Bytes are octets.
+fn bytes_are_octets(bytes: &[u8])
+    ensures { are_octets bytes.now ≡ true }
 {
-    if text.len() == 0 {
+    let _bytes = bytes;
+}
+
+/// Reads an octet string, if one comes next.
+pub fn read_octets(alloc: Global, rest: &mut Rest<'_>) -> Option<Row<u8>>
+    ensures text { IfSome result (λ octets. rest.old.text.now ≡ quoted (encode_lower octets) ++ rest.new.text.now) }
+    ensures octets { IfSome result (λ octets. are_octets octets ≡ true) }
+{
+    let digits = rest.string()?;
+    let octets = octets_of(alloc, digits)?;
+    bytes_are_octets(octets.items());
+    Some(octets)
+}
+
+fn bit_of(digit: u8) -> Option<bool>
+    ensures { IfSome result (λ bit. digit ≡ bit_digit bit) }
+{
+    match digit {
+        b'0' => Some(false),
+        b'1' => Some(true),
+        _ => None,
+    }
+}
+
+// The bits of the digits 0 and 1.
+fn bits_of(alloc: Global, digits: &[u8]) -> Option<Row<bool>>
+    ensures { IfSome result (λ bits. map bit_digit bits ≡ digits.now) }
+{
+    let mut bits = vec![in alloc; false; digits.len()].ok()?;
+    let mut at = 0;
+    while at < digits.len() {
+        bits[at] = bit_of(digits[at])?;
+        at += 1;
+    }
+    Some(Row::from_vec(bits))
+}
+
+/// Reads a bit string, if one comes next.
+pub fn read_bits(alloc: Global, rest: &mut Rest<'_>) -> Option<Row<bool>>
+    ensures { IfSome result (λ bits. rest.old.text.now ≡ quoted (map bit_digit bits) ++ rest.new.text.now) }
+{
+    let digits = rest.string()?;
+    let bits = bits_of(alloc, digits)?;
+    Some(bits)
+}
+
+// Whether each octet is a character that stands for itself in a string.
+fn are_plain_characters(text: &[u8]) -> bool
+    ensures { result ≡ list_all (λ c. nat_lt c 128 && (nat_lt 31 c && (not (c == 34) && not (c == 92)))) text.now }
+{
+    text.iter()
+        .all(|c| *c < 128 && (31 < *c && (*c != b'"' && *c != b'\\')))
+}
+
+/// Reads a text, if one comes next whose characters stand for themselves.
+pub fn read_characters(alloc: Global, rest: &mut Rest<'_>) -> Option<Row<u8>>
+    ensures text { IfSome result (λ cs. rest.old.text.now ≡ quoted cs ++ rest.new.text.now) }
+    ensures octets { IfSome result (λ cs. are_octets cs ≡ true) }
+    ensures said { IfSome result (λ cs. IsTrue (list_all (λ c. nat_lt c 128) cs)) }
+{
+    let text = rest.string()?;
+    if !are_plain_characters(text) {
         return None;
     }
-    let first = text[0];
-    if first == b'0' {
-        return Some((0, text.split_at(1).1));
-    }
-    if first < b'1' || first > b'9' {
-        return None;
-    }
-    let mut value = u64::from(first - b'0');
-    let mut end = 1;
-    while end < text.len() && value < MOST_BEFORE_A_DIGIT {
-        let digit = text[end];
-        if digit < b'0' || digit > b'9' {
-            return Some((value, text.split_at(end).1));
-        }
-        value = 10 * value + u64::from(digit - b'0');
-        end += 1;
-    }
-    Some((value, text.split_at(end).1))
-}
-
-// What stands behind a whole number below 0.
-fn behind_negative<'a>(text: &'a [u8], x: i128) -> Option<&'a [u8]>
-    requires { x <ℤ pos 0 }
-    ensures { IfSome result (λ rest. text.now ≡ signed_decimal x ++ rest.now) }
-{
-    let (size, rest) = digits(behind(text, b"-")?)?;
-    if x == -i128::from(size) {
-        Some(rest)
-    } else {
-        None
-    }
-}
-
-// What stands behind a whole number from 0.
-fn behind_natural<'a>(text: &'a [u8], x: i128) -> Option<&'a [u8]>
-    ensures { IfSome result (λ rest. text.now ≡ signed_decimal x ++ rest.now) }
-{
-    let (size, rest) = digits(text)?;
-    if x == i128::from(size) {
-        Some(rest)
-    } else {
-        None
-    }
-}
-
-fn behind_whole<'a>(text: &'a [u8], x: i128) -> Option<&'a [u8]>
-    ensures { IfSome result (λ rest. text.now ≡ signed_decimal x ++ rest.now) }
-{
-    if x < 0 {
-        behind_negative(text, x)
-    } else {
-        behind_natural(text, x)
-    }
-}
-
-/// What stands behind a string whose octets stand for themselves.
-pub fn behind_text<'a>(text: &'a [u8], inside: &[u8]) -> Option<&'a [u8]>
-    ensures { IfSome result (λ rest. text.now ≡ quoted inside.now ++ rest.now) }
-{
-    if all_plain(inside) {
-        let opened = behind(text, b"\"")?;
-        let closing = behind(opened, inside)?;
-        let rest = behind(closing, b"\"")?;
-        Some(rest)
-    } else {
-        None
-    }
-}
-
-fn behind_pair<'a>(text: &'a [u8], octet: u8) -> Option<&'a [u8]>
-    ensures { IfSome result (λ rest. text.now ≡ escape (encode_lower (octet ∷ [])) ++ rest.now) }
-{
-    behind(text, &[digit(octet / 16), digit(octet % 16)])
-}
-
-/// What stands behind a string of hexadecimal digits.
-#[tactic(auto, unfolding(hex::specs::Hex::encode_with))]
-pub fn behind_octets<'a>(text: &'a [u8], octets: &[u8]) -> Option<&'a [u8]>
-    ensures { IfSome result (λ rest. text.now ≡ quoted (encode_lower octets.now) ++ rest.now) }
-{
-    let mut rest = behind(text, b"\"")?;
-    for octet in octets {
-        rest = behind_pair(rest, *octet)?;
-    }
-    let end = behind(rest, b"\"")?;
-    Some(end)
-}
-
-#[tactic(auto, unfolding(json::specs::Print::escape_byte))]
-fn behind_bit<'a>(text: &'a [u8], bit: bool) -> Option<&'a [u8]>
-    ensures { IfSome result (λ rest. text.now ≡ escape (map bit_digit (bit ∷ [])) ++ rest.now) }
-{
-    if bit {
-        behind(text, b"1")
-    } else {
-        behind(text, b"0")
-    }
-}
-
-/// What stands behind a string of the digits 0 and 1.
-pub fn behind_bits<'a>(text: &'a [u8], bits: &[bool]) -> Option<&'a [u8]>
-    ensures { IfSome result (λ rest. text.now ≡ quoted (map bit_digit bits.now) ++ rest.now) }
-{
-    let mut rest = behind(text, b"\"")?;
-    for bit in bits {
-        rest = behind_bit(rest, *bit)?;
-    }
-    let end = behind(rest, b"\"")?;
-    Some(end)
-}
-
-/// What stands behind `null`.
-pub fn behind_null(text: &[u8]) -> Option<&[u8]>
-    ensures { IfSome result (λ rest. text.now ≡ token_text token.null ++ rest.now) }
-{
-    behind(text, b"null")
-}
-
-fn behind_truth<'a>(text: &'a [u8], truth: bool) -> Option<&'a [u8]>
-    ensures { IfSome result (λ rest. text.now ≡ token_text (token.boolean truth) ++ rest.now) }
-{
-    if truth {
-        behind(text, b"true")
-    } else {
-        behind(text, b"false")
-    }
-}
-
-/// What stands behind the value of a leaf whose value is a number.
-pub fn behind_number<'a>(text: &'a [u8], leaf: &NumLeaf, v: &Value) -> Option<&'a [u8]>
-    ensures { IfSome result (λ rest. text.now ≡ compact_text (num_json leaf.now.kind leaf.now.items.items (data_of v.now)) ++ rest.now) }
-{
-    match (leaf.kind, v) {
-        (NumKind::Integer, Value::Int(x)) => behind_whole(text, *x),
-        (NumKind::Boolean, Value::Bool(truth)) => behind_truth(text, *truth),
-        (NumKind::Enumerated, Value::Item(at)) => {
-            behind_text(text, item_name(leaf.items.items.items(), *at))
-        }
-        _ => behind_null(text),
-    }
+    bytes_are_octets(text);
+    let characters = Vec::from_slice(alloc, text).ok()?;
+    Some(Row::from_vec(characters))
 }

@@ -1,6 +1,6 @@
 use Rattle.std.proofs.Common.{◌≡◌, ◌-◌, ◌<◌, ◌≤◌, ◌++◌, drop, length}
 use Rattle.std.specs.Prelude.{decimal}
-use Rattle.acn_printed.proofs.texts.digits.Given as goal
+use Rattle.acn_printed.proofs.numbers.digits.Given as goal
 
 abbrev pub invariant-loop-end : goal.invariant-loop-end
 invariant-loop-end l = record {

@@ -1,10 +1,10 @@
 use Rattle.std.proofs.Common.{◌≡◌, ◌-◌, ◌<◌, ◌≤◌, ◌++◌, refl, sym, ap, ◌∙◌, arith, rules}
 use Rattle.std.specs.Prelude.{decimal, slice_index}
 use Rattle.acn_printed.proofs.Pieces.{first, next}
-use Rattle.acn_printed.proofs.texts.digits.Goals as goal
+use Rattle.acn_printed.proofs.numbers.digits.Goals as goal
 
-pub returns-then-first-eq48 : goal.returns-then-first-eq48
-returns-then-first-eq48 c =
+pub returns-then-first-eq48-clause-read : goal.returns-then-first-eq48-clause-read
+returns-then-first-eq48-clause-read c =
     let is : slice_index c.args.text.now 0 ≡ 48 = c.if-first-eq48.true in
     first c.args.text.now 48 (omega arith) (sym is) (omega arith) (omega arith) ∙ ap (λ t. decimal 0 ++ t) (sym c.split_at.ensures.back)
 

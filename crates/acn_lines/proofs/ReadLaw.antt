@@ -1,0 +1,163 @@
+-- What is read of a node, by its body.
+use Rattle.std.proofs.Common.{◌≡◌, ℕ, zero, suc, ◌+◌, ◌<◌, Bool, true, false, cond, List, [], ◌∷◌, ◌++◌, length, get_or, Option, Some, None, refl, sym, ap, subst, ◌∙◌, append_assoc, arith, rules}
+use Rattle.std.specs.Prelude.{IfSome}
+use Rattle.std.proofs.lemmas.Bool.{and_parts}
+use Rattle.json.specs.Print.{quoted}
+use Rattle.serde_json.specs.Data.{no_members, member}
+use Rattle.serde_json.specs.Written.{compact_text, items_text, members_text}
+use Rattle.acn_grammar.specs.Asks.{same_name}
+use Rattle.acn_grammar.specs.Grammar.{Grammar, Fields, Alternatives, Data, node, text, seq, list, choice, record_of, list_of, alt}
+use Rattle.acn_grammar.specs.Shaped.{fits, each_element, alternative_fits}
+use Rattle.acn_grammar.specs.View.{data_of, grammar_of, form_of, fields_view, places_view, elements_view, alternatives_view}
+use Rattle.acn_grammar.specs.declared.node.Alternative.{Alternative}
+use Rattle.acn_grammar.specs.declared.node.Body.{Seq as Seq_body, List as List_body, Choice as Choice_body}
+use Rattle.acn_grammar.specs.declared.node.Choice.{Choice as ChoiceNode, out-Choice}
+use Rattle.acn_grammar.specs.declared.node.ChoiceRule.{ChoiceRule}
+use Rattle.acn_grammar.specs.declared.node.Field.{Field}
+use Rattle.acn_grammar.specs.declared.node.Node.{Node}
+use Rattle.acn_grammar.specs.declared.node.Seq.{Seq as SeqNode}
+use Rattle.acn_grammar.specs.declared.node.Sizing.{Sizing}
+use Rattle.acn_grammar.specs.declared.value.Value.{Value, Seq, List as List_value}
+use Rattle.acn_grammar.proofs.Characters.{same_name-is}
+use Rattle.acn_grammar.proofs.Views.{view_seq, view_seq_form}
+use Rattle.acn_json.specs.Lines.{json_of, each_json, alternative_json}
+use Rattle.acn_json.specs.RoundTrip.{CanBeSaid, ElementsCanBeSaid}
+use Rattle.acn_lines.specs.Filled.{AreRead, AreFilled}
+use Rattle.acn_lines.specs.Order.{in_order, AreTurns}
+use Rattle.acn_lines.specs.Taken.{alternative_number, is_whole}
+use Rattle.acn_lines.specs.declared.turns.Turn.{Turn}
+use Rattle.acn_lines.proofs.Alternatives.{alternative-at}
+use Rattle.acn_lines.proofs.FillingLaw.{whole-fits}
+use Rattle.acn_lines.proofs.GoingOn.{alternative-text}
+use Rattle.acn_lines.proofs.LeafLaw.{view_list}
+use Rattle.acn_lines.proofs.NodesLaw.{if_some, at_form, view_list_form, view_choice_form}
+use Rattle.acn_lines.proofs.TakenLaw.{view_alternative}
+use Rattle.acn_printed.specs.Read.{IsRead}
+
+-- Nodes with others inside.
+
+pub seq_read : (n : Node) (s : SeqNode) (fs : List Field) (r : Option Value) (old new : List ℕ) → n.body ≡ Seq_body s → fs ≡ s.fields → IfSome r (λ v. (align : ℕ) (home : List ℕ) → IsRead (node align (seq (fields_view fs) home)) (data_of v) old new)
+    → IfSome r (λ v. IsRead (grammar_of n) (data_of v) old new)
+seq_read n s fs r old new e f h =
+    at_form (λ g d. IsRead g d old new) n (seq (fields_view fs) s.home) r (ap form_of e ∙ (view_seq_form s ∙ ap (λ xs. seq (fields_view xs) s.home) (sym f))) (if_some r (λ v t align. t align s.home) h)
+
+pub list_read : (n : Node) (sizing : Sizing) (m o : Node) (r : Option Value) (old new : List ℕ) → n.body ≡ List_body sizing m → o ≡ m → IfSome r (λ v. (align : ℕ) (sizing : Sizing) → IsRead (node align (list sizing (grammar_of o))) (data_of v) old new)
+    → IfSome r (λ v. IsRead (grammar_of n) (data_of v) old new)
+list_read n sizing m o r old new e f h =
+    at_form (λ g d. IsRead g d old new) n (list sizing (grammar_of o)) r (ap form_of e ∙ (view_list_form sizing m ∙ ap (λ x. list sizing (grammar_of x)) (sym f))) (if_some r (λ v t align. t align sizing) h)
+
+pub choice_read : (n : Node) (c : ChoiceNode) (as' : List Alternative) (r : Option Value) (old new : List ℕ) → n.body ≡ Choice_body c → as' ≡ (out-Choice c).alternatives → IfSome r (λ v. (align : ℕ) (rule : ChoiceRule) → IsRead (node align (choice (alternatives_view as') rule)) (data_of v) old new)
+    → IfSome r (λ v. IsRead (grammar_of n) (data_of v) old new)
+choice_read n c as' r old new e f h =
+    at_form (λ g d. IsRead g d old new) n (choice (alternatives_view as') (out-Choice c).rule) r (ap form_of e ∙ (view_choice_form c ∙ ap (λ xs. choice (alternatives_view xs) (out-Choice c).rule) (sym f))) (if_some r (λ v t align. t align (out-Choice c).rule) h)
+
+-- Records.
+
+pub record_read : (fs : Fields) (ts : List Turn) (qs row : List (Option Value)) (align : ℕ) (home old mid new : List ℕ) → AreTurns fs ts → old ≡ 123 ∷ mid → mid ≡ members_text false (in_order fs ts (places_view qs)) ++ new → AreFilled fs (places_view qs) → is_whole fs (places_view qs) ≡ true → row ≡ qs
+    → IsRead (node align (seq fs home)) (data_of (Seq row)) old new
+record_read fs ts qs row align home old mid new turns opened members f whole is =
+    let w = whole-fits fs (places_view qs) f whole in
+    subst (λ d. IsRead (node align (seq fs home)) d old new) (sym (view_seq row ∙ ap (λ ps. record_of (places_view ps)) is)) (record {
+      text = opened ∙ ap (λ t. 123 ∷ t) (members ∙ ap (λ ms. members_text false ms ++ new) (turns.1 (places_view qs)));
+      fits = w.0;
+      said = w.1;
+    })
+
+-- Lists.
+
+fits_more : (p : Data → Bool) (vs : List Value) (v : Value) → each_element p (elements_view vs) ≡ true → p (data_of v) ≡ true → each_element p (elements_view (vs ++ v ∷ [])) ≡ true
+fits_more p [] v h k = rw k refl
+fits_more p (w ∷ vs) v h k =
+    let a = and_parts (p (data_of w)) (each_element p (elements_view vs)) h in
+    rw (a.0, fits_more p vs v a.1 k) refl
+
+said_more : (vs : List Value) (v : Value) → ElementsCanBeSaid (elements_view vs) → CanBeSaid (data_of v) → ElementsCanBeSaid (elements_view (vs ++ v ∷ []))
+said_more [] v h k = (k, tt)
+said_more (w ∷ vs) v h k = (h.0, said_more vs v h.1 k)
+
+-- the elements so far were read, and a comma behind each; another comes next
+pub record ElementsSoFar (g : Grammar) (vs : List Value) (first rest : List ℕ) : Type 0 where
+  pub text : (v : Value) (more : List Value) (end : List ℕ) → rest ≡ compact_text (json_of g (data_of v)) ++ (items_text true (each_json (json_of g) (elements_view more)) ++ end) → first ≡ items_text false (each_json (json_of g) (elements_view (vs ++ v ∷ more))) ++ end
+  pub fits : each_element (fits g) (elements_view vs) ≡ true
+  pub said : ElementsCanBeSaid (elements_view vs)
+
+pub elements_begin : (g : Grammar) (vs : List Value) (first : List ℕ) → vs ≡ [] → ElementsSoFar g vs first first
+elements_begin g vs first none = subst (λ xs. ElementsSoFar g xs first first) (sym none) (record {
+  text = λ v more end h. h ∙ sym (append_assoc (compact_text (json_of g (data_of v))) (items_text true (each_json (json_of g) (elements_view more))) end);
+  fits = refl;
+  said = tt;
+})
+
+pub elements_more : (g : Grammar) (vs after : List Value) (v : Value) (first rest mid new : List ℕ) → after ≡ vs ++ v ∷ [] → IsRead g (data_of v) rest mid → mid ≡ 44 ∷ new → ElementsSoFar g vs first rest → ElementsSoFar g after first new
+elements_more g vs after v first rest mid new put read comma so_far =
+    let one = json_of g in
+    subst (λ xs. ElementsSoFar g xs first new) (sym put) (record {
+      text = λ w more end h.
+          so_far.text v (w ∷ more) end (read.text ∙ ap (λ t. compact_text (one (data_of v)) ++ t) (comma ∙ ap (λ t. 44 ∷ t) (h ∙ sym (append_assoc (compact_text (one (data_of w))) (items_text true (each_json one (elements_view more))) end))))
+          ∙ ap (λ xs. items_text false (each_json one (elements_view xs)) ++ end) (sym (append_assoc vs (v ∷ []) (w ∷ more)));
+      fits = fits_more (fits g) vs v so_far.fits read.fits;
+      said = said_more vs v so_far.said read.said;
+    })
+
+pub elements_end : (g : Grammar) (vs after : List Value) (v : Value) (first rest mid new : List ℕ) → after ≡ vs ++ v ∷ [] → IsRead g (data_of v) rest mid → mid ≡ 93 ∷ new → ElementsSoFar g vs first rest → AreRead g (elements_view after) first new
+elements_end g vs after v first rest mid new put read closed so_far =
+    subst (λ xs. AreRead g (elements_view xs) first new) (sym put) (record {
+      text = so_far.text v [] new (read.text ∙ ap (λ t. compact_text (json_of g (data_of v)) ++ t) closed);
+      fits = fits_more (fits g) vs v so_far.fits read.fits;
+      said = said_more vs v so_far.said read.said;
+    })
+
+pub none_read : (g : Grammar) (vs : List Value) (align : ℕ) (sizing : Sizing) (old mid new : List ℕ) → vs ≡ [] → old ≡ 91 ∷ mid → mid ≡ 93 ∷ new → IsRead (node align (list sizing g)) (data_of (List_value vs)) old new
+none_read g vs align sizing old mid new none opened closed =
+    subst (λ d. IsRead (node align (list sizing g)) d old new) (sym (view_list vs ∙ ap (λ xs. list_of (elements_view xs)) none)) (record {
+      text = opened ∙ ap (λ t. 91 ∷ t) closed;
+      fits = refl;
+      said = tt;
+    })
+
+pub some_read : (g : Grammar) (vs : List Value) (align : ℕ) (sizing : Sizing) (old mid new : List ℕ) → old ≡ 91 ∷ mid → AreRead g (elements_view vs) mid new → IsRead (node align (list sizing g)) (data_of (List_value vs)) old new
+some_read g vs align sizing old mid new opened h =
+    subst (λ d. IsRead (node align (list sizing g)) d old new) (sym (view_list vs)) (record {
+      text = opened ∙ ap (λ t. 91 ∷ t) h.text;
+      fits = h.fits;
+      said = h.said;
+    })
+
+-- Alternatives.
+
+alternative_fits_at : (as' : List Alternative) (i : ℕ) (a : Alternative) (d : Data) → i < length as' → a ≡ get_or as' i a → fits (grammar_of a.node) d ≡ true → alternative_fits (alternatives_view as') i d ≡ true
+alternative_fits_at [] i a d h e f = absurd (omega arith)
+alternative_fits_at (x ∷ xs) zero a d h e f = ap (λ c. alternative_fits c zero d) (view_alternative x xs) ∙ subst (λ y. fits (grammar_of y.node) d ≡ true) e f
+alternative_fits_at (x ∷ xs) (suc i) a d h e f = ap (λ c. alternative_fits c (suc i) d) (view_alternative x xs) ∙ alternative_fits_at xs i a d (omega arith) e f
+
+-- the alternative of a number has the name, the alternatives being numbered from k
+abbrev Names : List ℕ → ℕ → List Alternative → Option ℕ → Type 0
+Names name k as' None = Unit {0}
+Names name k as' (Some n) = (i : ℕ) × (n ≡ k + i) × ((a : Alternative) → a ≡ get_or as' i a → a.name ≡ name)
+
+names : (name : List ℕ) (k : ℕ) (as' : List Alternative) → Names name k as' (alternative_number name k (alternatives_view as'))
+names name k [] = tt
+names name k (x ∷ xs) = subst (λ c. Names name k (x ∷ xs) (alternative_number name k c)) (sym (view_alternative x xs)) (go (same_name x.name name) refl (alternative_number name (k + 1) (alternatives_view xs)) (names name (k + 1) xs))
+  where
+    go : (b : Bool) → same_name x.name name ≡ b → (o : Option ℕ) → Names name (k + 1) xs o → Names name k (x ∷ xs) (cond b (Some k) o)
+    go true e o h = (0, omega arith, λ a is. ap (λ y. y.name) is ∙ same_name-is x.name name e)
+    go false e None h = tt
+    go false e (Some n) h = (suc h.0, (let m = h.1 in omega arith), λ a is. h.2 a is)
+
+named : (name : List ℕ) (as' : List Alternative) (i : ℕ) (a : Alternative) → Some i ≡ alternative_number name 0 (alternatives_view as') → a ≡ get_or as' i a → a.name ≡ name
+named name as' i a number is =
+    let l = subst (Names name 0 as') (sym number) (names name 0 as') in
+    let at : l.0 ≡ i = (let e = l.1 in omega arith) in
+    l.2 a (is ∙ ap (λ k. get_or as' k a) (sym at))
+
+pub alternative_read : (as' : List Alternative) (i : ℕ) (name : List ℕ) (a : Alternative) (w : Data) (r : Option Value) (old opened key inside end new : List ℕ) → IfSome r (λ v. data_of v ≡ alt i w) → Some i ≡ alternative_number name 0 (alternatives_view as') → i < length as' → a ≡ get_or as' i a
+    → old ≡ 123 ∷ opened → opened ≡ quoted name ++ key → key ≡ 58 ∷ inside → IsRead (grammar_of a.node) w inside end → end ≡ 125 ∷ new → IfSome r (λ v. (align : ℕ) (rule : ChoiceRule) → IsRead (node align (choice (alternatives_view as') rule)) (data_of v) old new)
+alternative_read as' i name a w r old opened key inside end new made number within at open_brace keyed colon read closed =
+    let own = json_of (grammar_of a.node) w in
+    let is : alternative_json (alternatives_view as') i w ≡ member a.name own no_members = subst (λ b. alternative_json (alternatives_view as') i w ≡ member b.name (json_of (grammar_of b.node) w) no_members) (sym at) (alternative-at as' i a w within) in
+    let name_is = named name as' i a number at in
+    if_some r (λ v same align rule. subst (λ d. IsRead (node align (choice (alternatives_view as') rule)) d old new) (sym same) (record {
+      text = alternative-text a.name own old opened key inside end new open_brace (keyed ∙ ap (λ n. quoted n ++ key) (sym name_is)) colon read.text closed ∙ ap (λ ms. (123 ∷ members_text false ms) ++ new) (sym is);
+      fits = alternative_fits_at as' i a w within at read.fits;
+      said = read.said;
+    })) made

@@ -1,0 +1,244 @@
+//! The value of a line, read along the tree as the line of a value is printed, where the line is one: the texts are those of src/put.rt.
+
+ghost use Rattle.std.specs.Prelude.{◌≡◌, ◌++◌, List, ℕ, None, IfSome, OnSome, length, false};
+ghost use Rattle.serde_json.specs.Written.{members_text};
+ghost use Rattle.acn_grammar.specs.Grammar as grammar;
+ghost use Rattle.acn_grammar.specs.View.{grammar_of, data_of, field_of, fields_view, elements_view, places_view, alternatives_view};
+ghost use Rattle.acn_grammar.specs.declared.node.ChoiceRule.{ChoiceRule};
+ghost use Rattle.acn_grammar.specs.declared.node.Sizing.{Sizing};
+ghost use Rattle.acn_lines.specs.Filled as filled;
+ghost use Rattle.acn_lines.specs.Order as spec;
+ghost use Rattle.acn_lines.specs.Taken as taken;
+ghost use Rattle.acn_lines.specs.declared.order.Order.{out-Order};
+ghost use Rattle.acn_printed.specs.Read.{IsRead};
+
+use crate::order::Order;
+use crate::places::{alternative_named, is_whole, no_values};
+use crate::take::alternative_of;
+use crate::turns::Turn;
+use acn_grammar::{Alternative, Body, Field, Node, Presence, Value};
+use acn_num::Row;
+use acn_printed::{Rest, behind, read_bits, read_characters, read_number, read_octets};
+use std::alloc::Global;
+
+/// Reads the value of a node, if its text comes next.
+#[cycle(read)]
+pub fn read_node(alloc: Global, node: &Node, order: &Order, rest: &mut Rest<'_>) -> Option<Value>
+    requires { spec.IsNodeOrder (grammar_of node.now) order.now }
+    ensures { IfSome result (λ v. IsRead (grammar_of node.now) (data_of v) rest.old.text.now rest.new.text.now) }
+{
+    match &node.body {
+        Body::Num(leaf) => read_number(leaf, rest),
+        Body::Octets(_) => {
+            let octets = read_octets(alloc, rest)?;
+            Some(Value::Octets(octets))
+        }
+        Body::Bits(_) => {
+            let bits = read_bits(alloc, rest)?;
+            Some(Value::Bits(bits))
+        }
+        Body::Text(_) => {
+            let characters = read_characters(alloc, rest)?;
+            Some(Value::Text(characters))
+        }
+        Body::Seq(seq) => read_record(alloc, seq.fields.items(), order, rest),
+        Body::List(_, element) => read_list(alloc, element.get(), order, rest),
+        Body::Choice(choice) => read_alternative(
+            alloc,
+            choice.alternatives.items(),
+            order.inside.items(),
+            rest,
+        ),
+        Body::Contained(_, content) => read_node(alloc, content.get(), order, rest),
+    }
+}
+
+#[cycle(read)]
+fn read_record(alloc: Global, fields: &[Field], order: &Order, rest: &mut Rest<'_>) -> Option<Value>
+    requires turns { spec.AreTurns (fields_view fields.now) (out-Order order.now).turns }
+    requires inside { spec.AreFieldOrders (fields_view fields.now) (out-Order order.now).inside }
+    ensures { IfSome result (λ v. (align : ℕ) (home : List ℕ) → IsRead (grammar.node align (grammar.seq (fields_view fields.now) home)) (data_of v) rest.old.text.now rest.new.text.now) }
+{
+    if !rest.pass(b'{') {
+        return None;
+    }
+    let Ok(mut places) = no_values(alloc, fields) else {
+        return None;
+    };
+    read_members(
+        alloc,
+        fields,
+        order.inside.items(),
+        order.turns.items(),
+        &mut places,
+        rest,
+    )?;
+    if is_whole(fields, &places) {
+        Some(Value::Seq(Row::from_vec(places)))
+    } else {
+        None
+    }
+}
+
+// Reads members, turn by turn, and the brace behind them.
+#[cycle(read)]
+fn read_members(
+    alloc: Global,
+    fields: &[Field],
+    inside: &[Order],
+    turns: &[Turn],
+    places: &mut Vec<Option<Value>>,
+    rest: &mut Rest<'_>,
+) -> Option<()>
+    requires turns { spec.AreTurns (fields_view fields.now) turns.now }
+    requires inside { spec.AreFieldOrders (fields_view fields.now) inside.now }
+    requires empty { places_view places.old.items ≡ taken.no_values (fields_view fields.now) }
+    requires count { length places.old.items ≡ taken.component_count (fields_view fields.now) }
+    ensures text { OnSome result (rest.old.text.now ≡ members_text false (spec.in_order (fields_view fields.now) turns.now (places_view places.new.items)) ++ rest.new.text.now) }
+    ensures filled { OnSome result (filled.AreFilled (fields_view fields.now) (places_view places.new.items)) }
+{
+    let mut later = false;
+    for turn in turns {
+        let more = read_turn(alloc, fields, inside, turn, later, places, rest)?;
+        later = more;
+    }
+    if rest.pass(b'}') { Some(()) } else { None }
+}
+
+// Reads the member of a turn, if it comes next, and answers whether a comma is wanted behind it.
+#[cycle(read)]
+fn read_turn(
+    alloc: Global,
+    fields: &[Field],
+    inside: &[Order],
+    turn: &Turn,
+    later: bool,
+    places: &mut Vec<Option<Value>>,
+    rest: &mut Rest<'_>,
+) -> Option<bool>
+    requires keyed { spec.HasKey (spec.field_at (fields_view fields.now) turn.now.field) turn.now.key }
+    requires placed { turn.now.place ≡ spec.place_of (fields_view fields.now) turn.now.field }
+    requires inside { spec.AreFieldOrders (fields_view fields.now) inside.now }
+    requires empty { spec.place_at (places_view places.old.items) turn.now.place ≡ None }
+    requires filled { filled.AreFilled (fields_view fields.now) (places_view places.old.items) }
+    requires count { length places.old.items ≡ taken.component_count (fields_view fields.now) }
+    ensures read { IfSome result (λ more. filled.IsTurnRead (fields_view fields.now) turn.now later more (places_view places.old.items) (places_view places.new.items) rest.old.text.now rest.new.text.now) }
+    ensures count { IfSome result (λ more. length places.new.items ≡ length places.old.items) }
+{
+    if rest.pass_key(later, turn.key.items()) {
+        let value = read_field(alloc, &fields[turn.field], &inside[turn.field], rest)?;
+        places[turn.place] = Some(value);
+        Some(true)
+    } else {
+        Some(later)
+    }
+}
+
+// Reads the value of a component.
+#[cycle(read)]
+fn read_field(alloc: Global, field: &Field, order: &Order, rest: &mut Rest<'_>) -> Option<Value>
+    requires { spec.IsFieldOrder (field_of field.now) order.now }
+    ensures { IfSome result (λ v. filled.IsFieldRead (field_of field.now) (data_of v) rest.old.text.now rest.new.text.now) }
+{
+    match field {
+        Field::Component { node, .. } => read_node(alloc, node, order, rest),
+        Field::Inserted { .. } => None,
+    }
+}
+
+#[cycle(read)]
+fn read_list(alloc: Global, element: &Node, order: &Order, rest: &mut Rest<'_>) -> Option<Value>
+    requires { spec.IsNodeOrder (grammar_of element.now) order.now }
+    ensures { IfSome result (λ v. (align : ℕ) (sizing : Sizing) → IsRead (grammar.node align (grammar.list sizing (grammar_of element.now))) (data_of v) rest.old.text.now rest.new.text.now) }
+{
+    if !rest.pass(b'[') {
+        return None;
+    }
+    if rest.pass(b']') {
+        return Some(Value::List(Row::new(alloc)));
+    }
+    let elements = read_elements(alloc, element, order, rest)?;
+    Some(Value::List(elements))
+}
+
+// Reads elements, of which there is one at least, and the bracket behind them.
+#[cycle(read)]
+fn read_elements(
+    alloc: Global,
+    element: &Node,
+    order: &Order,
+    rest: &mut Rest<'_>,
+) -> Option<Row<Value>>
+    requires { spec.IsNodeOrder (grammar_of element.now) order.now }
+    ensures { IfSome result (λ vs. filled.AreRead (grammar_of element.now) (elements_view vs) rest.old.text.now rest.new.text.now) }
+{
+    let mut elements = Row::new(alloc);
+    // each element has an octet
+    for _ in 0..rest.text.len() {
+        let value = read_node(alloc, element, order, rest)?;
+        if elements.push(value).is_err() {
+            return None;
+        }
+        if rest.pass(b']') {
+            return Some(elements);
+        }
+        if !rest.pass(b',') {
+            return None;
+        }
+    }
+    None
+}
+
+#[cycle(read)]
+fn read_alternative(
+    alloc: Global,
+    alternatives: &[Alternative],
+    inside: &[Order],
+    rest: &mut Rest<'_>,
+) -> Option<Value>
+    requires { spec.AreAlternativeOrders (alternatives_view alternatives.now) inside.now }
+    ensures { IfSome result (λ v. (align : ℕ) (rule : ChoiceRule) → IsRead (grammar.node align (grammar.choice (alternatives_view alternatives.now) rule)) (data_of v) rest.old.text.now rest.new.text.now) }
+{
+    if !rest.pass(b'{') {
+        return None;
+    }
+    let name = rest.plain_string()?;
+    let at = alternative_named(alternatives, name)?;
+    if !rest.pass(b':') {
+        return None;
+    }
+    let value = read_node(alloc, &alternatives[at].node, &inside[at], rest)?;
+    if !rest.pass(b'}') {
+        return None;
+    }
+    alternative_of(alloc, at, value)
+}
+
+fn has_to_come(field: Option<&Field>) -> bool {
+    matches!(
+        field,
+        Some(Field::Component {
+            presence: Presence::Always,
+            ..
+        })
+    )
+}
+
+// Whether a line may be one that was printed, by its first key and what stands behind it. It takes no memory.
+fn may_begin(fields: &[Field], turns: &[Turn], line: &[u8]) -> bool {
+    let (Some(turn), Some(members)) = (turns.first(), behind(line, b"{")) else {
+        return true;
+    };
+    match behind(members, turn.key.items()) {
+        Some(value) => !value.starts_with(b" "),
+        None => !has_to_come(fields.get(turn.field)),
+    }
+}
+
+/// Whether a line may be one that was printed. It takes no memory: most lines that weren't printed show it at their first key.
+pub fn may_be_printed(node: &Node, order: &Order, line: &[u8]) -> bool {
+    match &node.body {
+        Body::Seq(seq) => may_begin(seq.fields.items(), order.turns.items(), line),
+        _ => true,
+    }
+}

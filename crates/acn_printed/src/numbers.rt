@@ -1,0 +1,144 @@
+//! Leaves whose values are numbers, read from a line as they are printed.
+
+ghost use Rattle.std.specs.Prelude.{◌≡◌, ◌<◌, ◌++◌, ◌∷◌, List, ℕ, ℤ, IfSome, IsTrue, decimal, length};
+ghost use Rattle.std.specs.Fmt.{signed_decimal};
+ghost use Rattle.acn_grammar.specs.Leaves.{is_number};
+ghost use Rattle.acn_grammar.specs.View.{data_of};
+ghost use Rattle.acn_grammar.specs.declared.node.NumKind.TheVariants as kind;
+ghost use Rattle.acn_json.specs.Lines.{item_name};
+ghost use Rattle.acn_printed.specs.Read.{IsNumberRead};
+
+use crate::rest::Rest;
+use acn_grammar::{NumKind, NumLeaf, Value};
+use acn_json::is_same;
+use acn_num::Name;
+
+/// Numbers of more digits than this one has aren't read here.
+const MOST_BEFORE_A_DIGIT: u64 = 100_000_000_000_000_000;
+
+// A whole number without a sign, and what stands behind its digits. Of a number with more than 18 digits the front is read.
+fn digits(text: &[u8]) -> Option<(u64, &[u8])>
+    ensures read { IfSome result (λ read. text.now ≡ decimal read.0 ++ read.1.now) }
+    ensures few { IfSome result (λ read. read.0 < 1000000000000000000) }
+{
+    if text.len() == 0 {
+        return None;
+    }
+    let first = text[0];
+    if first == b'0' {
+        return Some((0, text.split_at(1).1));
+    }
+    if first < b'1' || first > b'9' {
+        return None;
+    }
+    let mut value = u64::from(first - b'0');
+    let mut end = 1;
+    while end < text.len() && value < MOST_BEFORE_A_DIGIT {
+        let digit = text[end];
+        if digit < b'0' || digit > b'9' {
+            return Some((value, text.split_at(end).1));
+        }
+        value = 10 * value + u64::from(digit - b'0');
+        end += 1;
+    }
+    Some((value, text.split_at(end).1))
+}
+
+// A whole number from 0.
+fn read_natural(rest: &mut Rest<'_>) -> Option<i128>
+    ensures text { IfSome result (λ x. rest.old.text.now ≡ signed_decimal x ++ rest.new.text.now) }
+    ensures said { IfSome result (λ x. IsTrue (is_number x)) }
+{
+    let (size, behind) = digits(rest.text)?;
+    rest.text = behind;
+    Some(i128::from(size))
+}
+
+// A whole number below 0, behind its sign.
+fn read_negative(rest: &mut Rest<'_>) -> Option<i128>
+    ensures text { IfSome result (λ x. 45 ∷ rest.old.text.now ≡ signed_decimal x ++ rest.new.text.now) }
+    ensures said { IfSome result (λ x. IsTrue (is_number x)) }
+{
+    let (size, behind) = digits(rest.text)?;
+    if size == 0 {
+        return None;
+    }
+    rest.text = behind;
+    Some(-i128::from(size))
+}
+
+fn read_whole(rest: &mut Rest<'_>) -> Option<i128>
+    ensures text { IfSome result (λ x. rest.old.text.now ≡ signed_decimal x ++ rest.new.text.now) }
+    ensures said { IfSome result (λ x. IsTrue (is_number x)) }
+{
+    if rest.pass(b'-') {
+        read_negative(rest)
+    } else {
+        read_natural(rest)
+    }
+}
+
+fn read_integer(rest: &mut Rest<'_>) -> Option<Value>
+    ensures { (items : List (List ℕ × ℤ)) → IfSome result (λ v. IsNumberRead kind.Integer items (data_of v) rest.old.text.now rest.new.text.now) }
+{
+    let x = read_whole(rest)?;
+    Some(Value::Int(x))
+}
+
+fn read_truth(rest: &mut Rest<'_>) -> Option<Value>
+    ensures { (items : List (List ℕ × ℤ)) → IfSome result (λ v. IsNumberRead kind.Boolean items (data_of v) rest.old.text.now rest.new.text.now) }
+{
+    if rest.pass_all(b"true") {
+        return Some(Value::Bool(true));
+    }
+    if rest.pass_all(b"false") {
+        return Some(Value::Bool(false));
+    }
+    None
+}
+
+fn read_null(rest: &mut Rest<'_>) -> Option<Value>
+    ensures { (items : List (List ℕ × ℤ)) → IfSome result (λ v. IsNumberRead kind.Null items (data_of v) rest.old.text.now rest.new.text.now) }
+{
+    if rest.pass_all(b"null") {
+        Some(Value::Null)
+    } else {
+        None
+    }
+}
+
+// The number of the item of this name.
+fn item_named(items: &[(Name, i128)], name: &[u8]) -> Option<usize>
+    ensures within { IfSome result (λ at. at < length items.now) }
+    ensures named { IfSome result (λ at. item_name items.now at ≡ name.now) }
+{
+    for (at, item) in items.iter().enumerate() {
+        if is_same(item.0.bytes(), name) {
+            return Some(at);
+        }
+    }
+    None
+}
+
+fn read_item(items: &[(Name, i128)], rest: &mut Rest<'_>) -> Option<Value>
+    ensures { IfSome result (λ v. IsNumberRead kind.Enumerated items.now (data_of v) rest.old.text.now rest.new.text.now) }
+{
+    let name = rest.plain_string()?;
+    let at = item_named(items, name)?;
+    let Ok(at) = u32::try_from(at) else {
+        return None;
+    };
+    Some(Value::Item(at))
+}
+
+/// Reads the value of a leaf whose value is a number, if it comes next.
+pub fn read_number(leaf: &NumLeaf, rest: &mut Rest<'_>) -> Option<Value>
+    ensures { IfSome result (λ v. IsNumberRead leaf.now.kind leaf.now.items.items (data_of v) rest.old.text.now rest.new.text.now) }
+{
+    match leaf.kind {
+        NumKind::Integer => read_integer(rest),
+        NumKind::Boolean => read_truth(rest),
+        NumKind::Enumerated => read_item(leaf.items.items.items(), rest),
+        NumKind::Null => read_null(rest),
+    }
+}
