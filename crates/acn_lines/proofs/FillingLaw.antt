@@ -1,10 +1,10 @@
 -- Places that are filled turn by turn.
-use Rattle.std.proofs.Common.{◌≡◌, ℕ, zero, suc, ◌+◌, ◌<◌, ◌≤◌, Bool, true, false, ◌&&◌, List, [], ◌∷◌, ◌++◌, length, get_or, set, take, drop, Option, Some, None, refl, sym, ap, subst, ◌∙◌, append_assoc, arith}
+use Rattle.std.proofs.Common.{◌≡◌, ℕ, zero, suc, ◌+◌, ◌<◌, ◌≤◌, Bool, true, false, List, [], ◌∷◌, ◌++◌, length, get_or, set, take, drop, Option, Some, None, refl, sym, ap, subst, ◌∙◌, arith}
 use Rattle.std.proofs.lemmas.Bool.{and_parts}
 use Rattle.std.proofs.lemmas.List.{take_more, take_all}
-use Rattle.serde_json.specs.Data.{Members, no_members, member}
+use Rattle.serde_json.specs.Data.{Members, no_members}
 use Rattle.serde_json.specs.Written.{compact_text, comma_if, members_text}
-use Rattle.acn_grammar.specs.Grammar.{Grammar, Fields, Data, Places, no_fields, component, inserted, no_places, empty, filled}
+use Rattle.acn_grammar.specs.Grammar.{Fields, Data, Places, no_fields, component, inserted, no_places, empty, filled}
 use Rattle.acn_grammar.specs.Shaped.{fits, may_be_absent, fields_fit}
 use Rattle.acn_grammar.specs.View.{OneField, a_component, an_inserted, data_of, places_view}
 use Rattle.acn_grammar.specs.declared.value.Value.{Value}

@@ -1,12 +1,12 @@
 -- What is read of a node, by its body.
-use Rattle.std.proofs.Common.{◌≡◌, ℕ, zero, suc, ◌+◌, ◌<◌, Bool, true, false, cond, List, [], ◌∷◌, ◌++◌, length, get_or, Option, Some, None, refl, sym, ap, subst, ◌∙◌, append_assoc, arith, rules}
+use Rattle.std.proofs.Common.{◌≡◌, ℕ, zero, suc, ◌+◌, ◌<◌, Bool, true, false, cond, List, [], ◌∷◌, ◌++◌, length, get_or, Option, Some, None, refl, sym, ap, subst, ◌∙◌, append_assoc, arith}
 use Rattle.std.specs.Prelude.{IfSome}
 use Rattle.std.proofs.lemmas.Bool.{and_parts}
 use Rattle.json.specs.Print.{quoted}
 use Rattle.serde_json.specs.Data.{no_members, member}
 use Rattle.serde_json.specs.Written.{compact_text, items_text, members_text}
 use Rattle.acn_grammar.specs.Asks.{same_name}
-use Rattle.acn_grammar.specs.Grammar.{Grammar, Fields, Alternatives, Data, node, text, seq, list, choice, record_of, list_of, alt}
+use Rattle.acn_grammar.specs.Grammar.{Grammar, Fields, Data, node, seq, list, choice, record_of, list_of, alt}
 use Rattle.acn_grammar.specs.Shaped.{fits, each_element, alternative_fits}
 use Rattle.acn_grammar.specs.View.{data_of, grammar_of, form_of, fields_view, places_view, elements_view, alternatives_view}
 use Rattle.acn_grammar.specs.declared.node.Alternative.{Alternative}

@@ -1,5 +1,5 @@
 -- What the walk over a line that was printed says of the parts of a value.
-use Rattle.std.specs.Prelude.{◌≡◌, ℕ, Bool, false, IsTrue, List, [], ◌∷◌, ◌++◌, Option, Some, None}
+use Rattle.std.specs.Prelude.{◌≡◌, ℕ, Bool, false, IsTrue, List, [], ◌∷◌, ◌++◌, None}
 use Rattle.serde_json.specs.Data.{Members}
 use Rattle.serde_json.specs.Written.{items_text, members_text}
 use Rattle.acn_grammar.specs.Grammar.{Grammar, Fields, Data, Places, Elements, no_fields, component, inserted, no_places, empty, filled}

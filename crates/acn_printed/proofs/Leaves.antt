@@ -1,8 +1,5 @@
 -- Leaves whose values are numbers.
-use Rattle.std.proofs.Common.{◌≡◌, ℕ, zero, suc, ◌^◌, ◌<◌, ◌≤◌, ℤ, pos, negsuc, Bool, true, ◌&&◌, List, [], ◌∷◌, ◌++◌, length, get_or, refl, sym, ap, ◌∙◌, arith}
-use Rattle.std.specs.Prelude.{int_lt, int_le, IsTrue}
-use Rattle.std.proofs.lemmas.Bool.Decides.{nat_tests}
-use Rattle.acn_grammar.specs.Leaves.{is_number}
+use Rattle.std.proofs.Common.{◌≡◌, ℕ, zero, suc, ◌<◌, ℤ, List, [], ◌∷◌, length, get_or, sym, ap, arith}
 use Rattle.acn_json.specs.Lines.{item_name}
 
 pub item-here : (xs : List (List ℕ × ℤ)) (i : ℕ) (x : List ℕ × ℤ) → i < length xs → x ≡ get_or xs i x → item_name xs i ≡ x.0

@@ -1,6 +1,5 @@
 -- What reading the text of a value along a node of a tree says.
-use Rattle.std.specs.Prelude.{◌≡◌, ℕ, ◌<◌, ℤ, nat_lt, IsTrue, List, ◌++◌, length}
-use Rattle.std.specs.List.{list_all}
+use Rattle.std.specs.Prelude.{◌≡◌, ℕ, ℤ, IsTrue, List, ◌++◌, length}
 use Rattle.serde_json.specs.Written.{compact_text}
 use Rattle.acn_grammar.specs.Grammar.{Grammar, Data}
 use Rattle.acn_grammar.specs.Shaped.{fits, num_fits}

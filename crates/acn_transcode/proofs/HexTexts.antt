@@ -1,19 +1,18 @@
 -- Octets that were read, and put as hexadecimal digits.
-use Rattle.std.proofs.Common.{◌≡◌, ℕ, zero, suc, ◌+◌, ◌*◌, ◌/◌, ◌%◌, ◌^◌, ◌<◌, ◌≤◌, true, nat_lt, List, [], ◌∷◌, ◌++◌, length, take, get_or, slice_index, refl, sym, ap, ◌∙◌, arith, subst, append-nil, append_assoc, length-append}
+use Rattle.std.proofs.Common.{◌≡◌, ℕ, zero, suc, ◌+◌, ◌*◌, ◌/◌, ◌%◌, ◌^◌, ◌<◌, ◌≤◌, true, nat_lt, List, [], ◌∷◌, ◌++◌, length, take, get_or, refl, sym, ap, ◌∙◌, arith, subst, append-nil, append_assoc, length-append}
 use Rattle.std.specs.Char.{digit_char}
 use Rattle.std.specs.Int.{w64, to_be_bytes}
 use Rattle.std.proofs.lemmas.Bool.{and_parts}
 use Rattle.std.proofs.lemmas.Bool.Decides.{nat_tests}
 use Rattle.std.proofs.lemmas.List.{length-take-le}
-use Rattle.std.proofs.lemmas.List.Concat.{flat_map-append}
 use Rattle.std.proofs.lemmas.Nat.{from_be_bytes-to_be_bytes_8}
 use Rattle.hex.specs.Hex.{encode_lower, encode_with}
-use Rattle.json.specs.Print.{escape, escape_byte, quoted}
+use Rattle.json.specs.Print.{escape, quoted}
 use Rattle.acn_num.specs.Bits.{number, bits}
 use Rattle.acn_num.proofs.BitLists.{number_below, number_same, length-bits, bits-append}
 use Rattle.acn_bits.proofs.Loads.{eight}
 use Rattle.acn_bits.proofs.Readings.{reads_passed, reads_nothing, reads_join}
-use Rattle.acn_printed.proofs.Digits.{pair-is}
+use Rattle.acn_printed.proofs.Digits.{digits_append, pair-is}
 use Rattle.acn_bits.specs.Reading.{Reading, Reads, passed}
 use Rattle.acn_grammar.specs.Shaped.{are_octets}
 use Rattle.acn_reads.specs.Steps.{AreOctets}
@@ -22,14 +21,6 @@ use Rattle.acn_reads.proofs.StringReads.{no_octets, octets_more, octet_small}
 -- so many octets were read, and their digits put
 abbrev pub PutsOctets : ℕ → (text text' : List ℕ) → Reading → Reading → Type 0
 PutsOctets n text text' a b = (os : List ℕ) × Reads (AreOctets n os) a b × (text' ≡ text ++ escape (encode_lower os))
-
-encode_append : (t a b : List ℕ) → encode_with t (a ++ b) ≡ encode_with t a ++ encode_with t b
-unfolding encode_with
-encode_append t [] b = refl
-encode_append t (x ∷ a) b = ap (λ r. slice_index t (x / 16) ∷ slice_index t (x % 16) ∷ r) (encode_append t a b)
-
-digits_append : (a b : List ℕ) → escape (encode_lower (a ++ b)) ≡ escape (encode_lower a) ++ escape (encode_lower b)
-digits_append a b = ap escape (encode_append _ a b) ∙ flat_map-append escape_byte (encode_lower a) (encode_lower b)
 
 octets_both : (a b : List ℕ) → are_octets a ≡ true → are_octets b ≡ true → are_octets (a ++ b) ≡ true
 octets_both [] b h k = k

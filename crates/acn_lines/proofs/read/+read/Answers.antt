@@ -1,15 +1,15 @@
 use Rattle.std.proofs.Common.{◌≡◌, ◌<◌, ◌++◌, ◌∷◌, [], length, refl, sym, ap, subst, ◌∙◌, arith, rules}
 use Rattle.std.proofs.lemmas.Grind.{common_steps}
-use Rattle.acn_grammar.specs.View.{grammar_of, data_of, field_of, fields_view, places_view, elements_view, alternatives_view}
+use Rattle.acn_grammar.specs.View.{grammar_of, data_of, field_of, fields_view, places_view}
 use Rattle.acn_grammar.specs.declared.node.Body.{the_lemmas as node_lemmas}
 use Rattle.serde_json.specs.Written.{comma_if}
 use Rattle.acn_lines.specs.Filled.{AreFilled, AreEmpty}
 use Rattle.acn_lines.specs.Order.{IsNodeOrder, AreTurns}
 use Rattle.acn_printed.specs.Read.{IsRead}
-use Rattle.acn_lines.proofs.FillingLaw.{keyed-within, none-filled, all-empty, empty-here, empty-behind, turn-more, turns-end, turn-passed, turn-read}
+use Rattle.acn_lines.proofs.FillingLaw.{keyed-within, none-filled, all-empty, empty-here, empty-behind, turn-more, turns-end, turn-read}
 use Rattle.acn_lines.proofs.MembersLaw.{keyed_at, placed_at}
 use Rattle.acn_lines.proofs.Parts.{field-here, field-within, orders-within, order-here, alternatives-within, alternative-here}
-use Rattle.acn_lines.proofs.ReadLaw.{seq_read, list_read, choice_read, record_read, elements_begin, elements_more, elements_end, none_read, some_read, alternative_read}
+use Rattle.acn_lines.proofs.ReadLaw.{seq_read, list_read, choice_read, record_read, elements_begin, elements_more, elements_end, alternative_read}
 use Rattle.acn_lines.proofs.TakenLaw.{number_within}
 use Rattle.acn_lines.proofs.read.+read.Goals as goal
 

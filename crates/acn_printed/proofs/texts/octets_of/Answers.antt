@@ -1,4 +1,4 @@
-use Rattle.std.proofs.Common.{◌≡◌, ◌+◌, ◌*◌, ◌/◌, ◌<◌, ◌≤◌, length, take, sym, ap, ◌∙◌, arith, rules}
+use Rattle.std.proofs.Common.{◌/◌, ◌<◌, length, arith}
 use Rattle.std.proofs.lemmas.Grind.{common_steps}
 use Rattle.acn_printed.proofs.Digits.{no-digits, pair-more}
 use Rattle.acn_printed.proofs.texts.octets_of.Goals as goal
