@@ -59,8 +59,8 @@ impl Lines {
     }
 
     /// The value that a line of JSON gives to the tree, or its first fault: the answer of `from_line` of `acn_json`. A line that
-    /// `put` would put is read the fastest: it is compared, and not parsed. Of any other line it costs little more if its members
-    /// come in another order, and a fault costs a second walk.
+    /// `put` would put is read the fastest: it is read as it was printed, and not parsed. Of any other line it costs little more
+    /// if its members come in another order, and a fault costs a second walk.
     pub fn take(
         &self,
         alloc: Global,
