@@ -16,6 +16,7 @@ use Rattle.acn_events.specs.Event.{Event, Halt, aligns, codes, opens, sizes}
 use Rattle.acn_events.specs.Events.{events, form_events, field_events, inserted_events, run_events, size_wants, end_events, rule_events}
 use Rattle.acn_writer.specs.Answers.{HaltsFor}
 use Rattle.acn_writer.specs.declared.halt.Halt.{Halt as HaltData}
+use Rattle.acn_writer.specs.declared.halt.Halted.{Halted}
 use Rattle.acn_writer.specs.declared.writer.Writer.{Writer}
 use Rattle.acn_pack.specs.Packs.{Ran, Stopped, Packs, GoesOn}
 use Rattle.acn_pack.specs.Parts.{place_events, left_of, name_in, tests_in, item_events, case_tests}
@@ -140,11 +141,11 @@ module _ {N S A : ℕ} (root : Grammar) where
       left_as whole whole (item ++ (tests ++ inside)) m m (ap (λ (es : List Event). es ++ inside) (rule_parts root path i rule (name_in place) (tests_in place)) ∙ append_assoc item tests inside) (begin whole m)
 
 -- an inserted number begins with its padding
-pub align_stops : {R : Type 0} {N S A : ℕ} (slot : Option ℕ) (align : ℕ) (leaf : NumLeaf) (g : Grammar) (path : List ℕ) (m n : Writer N S A) (why : HaltData) (r : Result R HaltData)
-    → g ≡ node align (num leaf) → IsErrAnd r (λ y. y ≡ why) → HaltsFor (λ p. aligns align) m n why → Packs (inserted_events slot g) m n path r
-align_stops None align leaf g path m n why r is e h =
+pub align_stops : {R : Type 0} {N S A : ℕ} (slot : Option ℕ) (align : ℕ) (leaf : NumLeaf) (g : Grammar) (path : List ℕ) (m n : Writer N S A) (why : HaltData) (e : Halted) (r : Result R Halted)
+    → g ≡ node align (num leaf) → IsErrAnd r (λ y. y ≡ e) → HaltsFor (λ p. aligns align) m n why → Packs (inserted_events slot g) m n path why r
+align_stops None align leaf g path m n why e r is failed h =
     let whole = inserted_events None (node align (num leaf)) in
-    packs_as whole (inserted_events None g) m n path r (ap (inserted_events None) (sym is)) (failed_one whole (codes leaf (pos 0) ∷ []) (λ p. aligns align) path m m n why r e (begin whole m) h)
-align_stops (Some s) align leaf g path m n why r is e h =
+    packs_as whole (inserted_events None g) m n path why r (ap (inserted_events None) (sym is)) (failed_one whole (codes leaf (pos 0) ∷ []) (λ p. aligns align) path m m n why e r failed (begin whole m) h)
+align_stops (Some s) align leaf g path m n why e r is failed h =
     let whole = inserted_events (Some s) (node align (num leaf)) in
-    packs_as whole (inserted_events (Some s) g) m n path r (ap (inserted_events (Some s)) (sym is)) (failed_one whole (opens s leaf ∷ []) (λ p. aligns align) path m m n why r e (begin whole m) h)
+    packs_as whole (inserted_events (Some s) g) m n path why r (ap (inserted_events (Some s)) (sym is)) (failed_one whole (opens s leaf ∷ []) (λ p. aligns align) path m m n why e r failed (begin whole m) h)

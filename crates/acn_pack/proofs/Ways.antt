@@ -1,11 +1,12 @@
 -- Events that ran, and what is left of them.
 use Rattle.std.proofs.Common.{◌≡◌, ℕ, ◌+◌, ◌<◌, List, [], ◌∷◌, ◌++◌, drop, get_or, length, map, refl, sym, ◌∙◌, subst, inl, inr}
-use Rattle.std.specs.Prelude.{Result, Ok, Err, OnOk, IfErr, IsErrAnd}
+use Rattle.std.specs.Prelude.{Result, Ok, Err, OnOk, OnErr, IsErrAnd}
 use Rattle.acn_events.specs.Event.{Event, Halt}
 use Rattle.acn_events.proofs.Joins.{run_then, stops_then, stops_front}
 use Rattle.acn_writer.specs.Answers.{Comes, HaltsFor, state_of}
 use Rattle.acn_writer.specs.Halts.{class_of, halt_of}
 use Rattle.acn_writer.specs.declared.halt.Halt.{Halt as HaltData}
+use Rattle.acn_writer.specs.declared.halt.Halted.{Halted}
 use Rattle.acn_writer.specs.declared.writer.Writer.{Writer}
 use Rattle.acn_pack.proofs.Fields.{item_first}
 use Rattle.acn_pack.specs.Packs.{Ran, Stopped, Packs, PacksTo, GoesOn}
@@ -38,8 +39,8 @@ module _ {N S A : ℕ} where
   pub whole_as : (whole other rest : List Event) (m n : Writer N S A) → whole ≡ other → GoesOn whole rest m n → GoesOn other rest m n
   whole_as whole other rest m n e g = subst (λ (es : List Event). GoesOn es rest m n) e g
 
-  pub packs_as : {R : Type 0} (es other : List Event) (m n : Writer N S A) (path : List ℕ) (r : Result R HaltData) → es ≡ other → Packs es m n path r → Packs other m n path r
-  packs_as es other m n path r e p = subst (λ (x : List Event). Packs x m n path r) e p
+  pub packs_as : {R : Type 0} (es other : List Event) (m n : Writer N S A) (path : List ℕ) (why : HaltData) (r : Result R Halted) → es ≡ other → Packs es m n path why r → Packs other m n path why r
+  packs_as es other m n path why r e p = subst (λ (x : List Event). Packs x m n path why r) e p
 
   pub stopped_as : (es other : List Event) (m n : Writer N S A) (h : Halt) → es ≡ other → Stopped es m n h → Stopped other m n h
   stopped_as es other m n h e s = subst (λ (x : List Event). Stopped x m n h) e s
@@ -65,9 +66,9 @@ module _ {N S A : ℕ} where
   nothing es m e = subst (λ (x : List Event). Ran x m m) (sym e) (record { runs = refl; same_buffer = refl })
 
   -- what is left is all that is done
-  pub last : {R : Type 0} (whole rest : List Event) (m n o : Writer N S A) (path : List ℕ) (r : Result R HaltData) → GoesOn whole rest m n → Packs rest n o path r → Packs whole m o path r
-  last whole rest m n o path (Ok x) g p = record { runs = g.runs (state_of o) p.runs; same_buffer = p.same_buffer ∙ g.same_buffer }
-  last whole rest m n o path (Err why) g p = stop_on whole rest m n o (halt_of path why) g p
+  pub last : {R : Type 0} (whole rest : List Event) (m n o : Writer N S A) (path : List ℕ) (why : HaltData) (r : Result R Halted) → GoesOn whole rest m n → Packs rest n o path why r → Packs whole m o path why r
+  last whole rest m n o path why (Ok x) g p = record { runs = g.runs (state_of o) p.runs; same_buffer = p.same_buffer ∙ g.same_buffer }
+  last whole rest m n o path why (Err e) g p = stop_on whole rest m n o (halt_of path why) g p
 
   -- one event by itself
   pub came : (e : Event) (m n : Writer N S A) → Comes (λ path. e) m n → Ran (e ∷ []) m n
@@ -77,39 +78,39 @@ module _ {N S A : ℕ} where
   halted e m n path why s = stop_one (e ∷ []) [] (λ path. e) path m m n why (begin (e ∷ []) m) s
 
   -- the same of one event
-  pub last_one : {R : Type 0} (whole : List Event) (event : List ℕ → Event) (m n o : Writer N S A) (path : List ℕ) (r : Result R HaltData)
-      → GoesOn whole (event path ∷ []) m n → OnOk r (Comes event n o) → IfErr r (HaltsFor event n o) → Packs whole m o path r
-  last_one whole event m n o path (Ok x) g a b = ended whole m o (then_one whole [] event path m n o g a)
-  last_one whole event m n o path (Err why) g a b = stop_one whole [] event path m n o why g b
+  pub last_one : {R : Type 0} (whole : List Event) (event : List ℕ → Event) (m n o : Writer N S A) (path : List ℕ) (why : HaltData) (r : Result R Halted)
+      → GoesOn whole (event path ∷ []) m n → OnOk r (Comes event n o) → OnErr r (HaltsFor event n o why) → Packs whole m o path why r
+  last_one whole event m n o path why (Ok x) g a b = ended whole m o (then_one whole [] event path m n o g a)
+  last_one whole event m n o path why (Err e) g a b = stop_one whole [] event path m n o why g b
 
-  pub one : {R : Type 0} (event : List ℕ → Event) (m n : Writer N S A) (path : List ℕ) (r : Result R HaltData) → OnOk r (Comes event m n) → IfErr r (HaltsFor event m n) → Packs (event path ∷ []) m n path r
-  one event m n path r a b = last_one (event path ∷ []) event m m n path r (begin (event path ∷ []) m) a b
+  pub one : {R : Type 0} (event : List ℕ → Event) (m n : Writer N S A) (path : List ℕ) (why : HaltData) (r : Result R Halted) → OnOk r (Comes event m n) → OnErr r (HaltsFor event m n why) → Packs (event path ∷ []) m n path why r
+  one event m n path why r a b = last_one (event path ∷ []) event m m n path why r (begin (event path ∷ []) m) a b
 
   -- what `?` returns
-  pub failed : {R : Type 0} (whole : List Event) (m o : Writer N S A) (path : List ℕ) (why : HaltData) (r : Result R HaltData) → IsErrAnd r (λ y. y ≡ why) → Stopped whole m o (halt_of path why) → Packs whole m o path r
-  failed whole m o path why (Ok x) e s = absurd e
-  failed whole m o path why (Err y) e s = subst (λ (x : HaltData). Stopped whole m o (halt_of path x)) (sym e) s
+  pub failed : {R : Type 0} (whole : List Event) (m o : Writer N S A) (path : List ℕ) (why : HaltData) (e : Halted) (r : Result R Halted) → IsErrAnd r (λ y. y ≡ e) → Stopped whole m o (halt_of path why) → Packs whole m o path why r
+  failed whole m o path why e (Ok x) is s = absurd is
+  failed whole m o path why e (Err y) is s = s
 
-  pub failed_to : {R : Type 0} (whole : List Event) (rest : R → List Event) (m o : Writer N S A) (path : List ℕ) (why : HaltData) (r : Result R HaltData) → IsErrAnd r (λ y. y ≡ why) → Stopped whole m o (halt_of path why) → PacksTo whole rest m o path r
-  failed_to whole rest m o path why (Ok x) e s = absurd e
-  failed_to whole rest m o path why (Err y) e s = subst (λ (x : HaltData). Stopped whole m o (halt_of path x)) (sym e) s
+  pub failed_to : {R : Type 0} (whole : List Event) (rest : R → List Event) (m o : Writer N S A) (path : List ℕ) (why : HaltData) (e : Halted) (r : Result R Halted) → IsErrAnd r (λ y. y ≡ e) → Stopped whole m o (halt_of path why) → PacksTo whole rest m o path why r
+  failed_to whole rest m o path why e (Ok x) is s = absurd is
+  failed_to whole rest m o path why e (Err y) is s = s
 
-  pub failed_one : {R : Type 0} (whole rest : List Event) (event : List ℕ → Event) (path : List ℕ) (m n o : Writer N S A) (why : HaltData) (r : Result R HaltData)
-      → IsErrAnd r (λ y. y ≡ why) → GoesOn whole (event path ∷ rest) m n → HaltsFor event n o why → Packs whole m o path r
-  failed_one whole rest event path m n o why r e g s = failed whole m o path why r e (stop_one whole rest event path m n o why g s)
+  pub failed_one : {R : Type 0} (whole rest : List Event) (event : List ℕ → Event) (path : List ℕ) (m n o : Writer N S A) (why : HaltData) (e : Halted) (r : Result R Halted)
+      → IsErrAnd r (λ y. y ≡ e) → GoesOn whole (event path ∷ rest) m n → HaltsFor event n o why → Packs whole m o path why r
+  failed_one whole rest event path m n o why e r is g s = failed whole m o path why e r is (stop_one whole rest event path m n o why g s)
 
-  pub failed_some : {R : Type 0} (whole a rest : List Event) (path : List ℕ) (m n o : Writer N S A) (why : HaltData) (r : Result R HaltData)
-      → IsErrAnd r (λ y. y ≡ why) → GoesOn whole (a ++ rest) m n → Stopped a n o (halt_of path why) → Packs whole m o path r
-  failed_some whole a rest path m n o why r e g s = failed whole m o path why r e (stop_some whole a rest m n o (halt_of path why) g s)
+  pub failed_some : {R : Type 0} (whole a rest : List Event) (path : List ℕ) (m n o : Writer N S A) (why : HaltData) (e : Halted) (r : Result R Halted)
+      → IsErrAnd r (λ y. y ≡ e) → GoesOn whole (a ++ rest) m n → Stopped a n o (halt_of path why) → Packs whole m o path why r
+  failed_some whole a rest path m n o why e r is g s = failed whole m o path why e r is (stop_some whole a rest m n o (halt_of path why) g s)
 
   -- contents that end, whichever count is named
-  pub close_ran : {R : Type 0} (event : ℕ → List ℕ → Event) (m n : Writer N S A) (r : Result R HaltData) → OnOk r ((k : ℕ) → Comes (event k) m n) → (k : ℕ) → OnOk r (Comes (event k) m n)
+  pub close_ran : {R : Type 0} (event : ℕ → List ℕ → Event) (m n : Writer N S A) (r : Result R Halted) → OnOk r ((k : ℕ) → Comes (event k) m n) → (k : ℕ) → OnOk r (Comes (event k) m n)
   close_ran event m n (Ok x) a k = a k
   close_ran event m n (Err y) a k = tt
 
-  pub close_halted : {R : Type 0} (event : ℕ → List ℕ → Event) (m n : Writer N S A) (r : Result R HaltData) → IfErr r (λ why. (k : ℕ) → HaltsFor (event k) m n why) → (k : ℕ) → IfErr r (HaltsFor (event k) m n)
-  close_halted event m n (Ok x) a k = tt
-  close_halted event m n (Err y) a k = a k
+  pub close_halted : {R : Type 0} (event : ℕ → List ℕ → Event) (m n : Writer N S A) (why : HaltData) (r : Result R Halted) → OnErr r ((k : ℕ) → HaltsFor (event k) m n why) → (k : ℕ) → OnErr r (HaltsFor (event k) m n why)
+  close_halted event m n why (Ok x) a k = tt
+  close_halted event m n why (Err y) a k = a k
 
   -- one more of a list of which each item has one event
   module _ {X : Type 0} (event : X → Event) (xs : List X) (i : ℕ) (d : X) (m n : Writer N S A) (there : i < length xs) (done : GoesOn (map event xs) (map event (drop i xs)) m n) where
@@ -119,5 +120,5 @@ module _ {N S A : ℕ} where
     pub each_on : (o : Writer N S A) → Ran (event (get_or xs i d) ∷ []) n o → GoesOn (map event xs) (map event (drop (i + 1) xs)) m o
     each_on o s = then_some (map event xs) (event (get_or xs i d) ∷ []) (map event (drop (i + 1) xs)) m n o each_here s
 
-    pub each_stops : {R : Type 0} (path : List ℕ) (o : Writer N S A) (why : HaltData) (r : Result R HaltData) → IsErrAnd r (λ y. y ≡ why) → Stopped (event (get_or xs i d) ∷ []) n o (halt_of path why) → Packs (map event xs) m o path r
-    each_stops path o why r e s = failed_some (map event xs) (event (get_or xs i d) ∷ []) (map event (drop (i + 1) xs)) path m n o why r e each_here s
+    pub each_stops : {R : Type 0} (path : List ℕ) (o : Writer N S A) (why : HaltData) (e : Halted) (r : Result R Halted) → IsErrAnd r (λ y. y ≡ e) → Stopped (event (get_or xs i d) ∷ []) n o (halt_of path why) → Packs (map event xs) m o path why r
+    each_stops path o why e r is s = failed_some (map event xs) (event (get_or xs i d) ∷ []) (map event (drop (i + 1) xs)) path m n o why e r is each_here s

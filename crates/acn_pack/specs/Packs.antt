@@ -5,6 +5,7 @@ use Rattle.acn_events.specs.Steps.{Run, Stops}
 use Rattle.acn_writer.specs.Answers.{state_of}
 use Rattle.acn_writer.specs.Halts.{class_of, halt_of}
 use Rattle.acn_writer.specs.declared.halt.Halt.{Halt as HaltData}
+use Rattle.acn_writer.specs.declared.halt.Halted.{Halted}
 use Rattle.acn_writer.specs.declared.writer.Writer.{Writer}
 
 -- the events ran, over the same buffer
@@ -17,10 +18,10 @@ pub record Stopped {N S A : ℕ} (es : List Event) (old new : Writer N S A) (h :
   pub stops : Stops (class_of S A) es (state_of old) (state_of new) h
   pub same_buffer : new.cursor.buf.ghost_name ≡ old.cursor.buf.ghost_name
 
--- With Ok the events ran. Else they stop, at a halt of this path.
-abbrev pub Packs : {R : Type 0} {N S A : ℕ} → List Event → (old new : Writer N S A) → (path : List ℕ) → Result R HaltData → Type 0
-Packs es old new path (Ok _) = Ran es old new
-Packs es old new path (Err why) = Stopped es old new (halt_of path why)
+-- With Ok the events ran. Else they stop, at a halt of this path and for this reason.
+abbrev pub Packs : {R : Type 0} {N S A : ℕ} → List Event → (old new : Writer N S A) → (path : List ℕ) → (why : HaltData) → Result R Halted → Type 0
+Packs es old new path why (Ok _) = Ran es old new
+Packs es old new path why (Err _) = Stopped es old new (halt_of path why)
 
 -- Events ran, up to the rest of them: what runs or stops behind them does so as a whole.
 pub record GoesOn {N S A : ℕ} (whole rest : List Event) (old new : Writer N S A) : Type 0 where
@@ -29,6 +30,6 @@ pub record GoesOn {N S A : ℕ} (whole rest : List Event) (old new : Writer N S 
   pub same_buffer : new.cursor.buf.ghost_name ≡ old.cursor.buf.ghost_name
 
 -- With Ok the events ran up to the rest that the answer tells. Else they stop, as above.
-abbrev pub PacksTo : {R : Type 0} {N S A : ℕ} → (whole : List Event) → (rest : R → List Event) → (old new : Writer N S A) → (path : List ℕ) → Result R HaltData → Type 0
-PacksTo whole rest old new path (Ok x) = GoesOn whole (rest x) old new
-PacksTo whole rest old new path (Err why) = Stopped whole old new (halt_of path why)
+abbrev pub PacksTo : {R : Type 0} {N S A : ℕ} → (whole : List Event) → (rest : R → List Event) → (old new : Writer N S A) → (path : List ℕ) → (why : HaltData) → Result R Halted → Type 0
+PacksTo whole rest old new path why (Ok x) = GoesOn whole (rest x) old new
+PacksTo whole rest old new path why (Err _) = Stopped whole old new (halt_of path why)

@@ -9,7 +9,7 @@ ghost use Rattle.acn_events.specs.Events.{test_event, presence_events, size_want
 ghost use Rattle.acn_pack.specs.Packs.{Packs};
 
 use acn_grammar::{Ask, Presence, SizeRule, Test};
-use acn_writer::{Halt, Writer};
+use acn_writer::{Halt, Halted, Writer};
 
 // What a condition on a flag asks.
 fn flag(there: bool) -> Ask
@@ -37,17 +37,18 @@ fn ask_test<const N: usize, const S: usize, const A: usize>(
     test: &Test,
     there: bool,
     w: &mut Writer<'_, '_, N, S, A>,
-) -> Result<(), Halt>
-    ensures { (path : List ℕ) → Packs (test_event path there test.now ∷ []) w.old w.new path result }
+    why: &mut Halt,
+) -> Result<(), Halted>
+    ensures { (path : List ℕ) → Packs (test_event path there test.now ∷ []) w.old w.new path why.new result }
 {
     match test {
         Test::Flag(slot) => {
             let ask = flag(there);
-            w.want(*slot, ask)
+            w.want(*slot, ask, why)
         }
         Test::Equals(slot, k) => {
             let ask = compared(k, there);
-            w.want(*slot, ask)
+            w.want(*slot, ask, why)
         }
     }
 }
@@ -57,11 +58,12 @@ pub fn ask_tests<const N: usize, const S: usize, const A: usize>(
     tests: &[Test],
     there: bool,
     w: &mut Writer<'_, '_, N, S, A>,
-) -> Result<(), Halt>
-    ensures { (path : List ℕ) → Packs (map (test_event path there) tests.now) w.old w.new path result }
+    why: &mut Halt,
+) -> Result<(), Halted>
+    ensures { (path : List ℕ) → Packs (map (test_event path there) tests.now) w.old w.new path why.new result }
 {
     for test in tests {
-        ask_test(test, there, w)?;
+        ask_test(test, there, w, why)?;
     }
     Ok(())
 }
@@ -71,13 +73,14 @@ pub fn ask_presence<const N: usize, const S: usize, const A: usize>(
     presence: &Presence,
     there: bool,
     w: &mut Writer<'_, '_, N, S, A>,
-) -> Result<(), Halt>
-    ensures { (path : List ℕ) → Packs (presence_events path there presence.now) w.old w.new path result }
+    why: &mut Halt,
+) -> Result<(), Halted>
+    ensures { (path : List ℕ) → Packs (presence_events path there presence.now) w.old w.new path why.new result }
 {
     match presence {
         Presence::Always => Ok(()),
         Presence::Bit => Ok(()),
-        Presence::When(tests) => ask_tests(tests.items(), there, w),
+        Presence::When(tests) => ask_tests(tests.items(), there, w, why),
     }
 }
 
@@ -86,14 +89,15 @@ pub fn ask_size<const N: usize, const S: usize, const A: usize>(
     rule: &SizeRule,
     n: u64,
     w: &mut Writer<'_, '_, N, S, A>,
-) -> Result<(), Halt>
-    ensures { (path : List ℕ) → Packs (size_wants path n rule.now) w.old w.new path result }
+    why: &mut Halt,
+) -> Result<(), Halted>
+    ensures { (path : List ℕ) → Packs (size_wants path n rule.now) w.old w.new path why.new result }
 {
     match rule {
         SizeRule::Prefix { .. } => Ok(()),
         SizeRule::Slot(slot) => {
             let ask = equal(n);
-            w.want(*slot, ask)
+            w.want(*slot, ask, why)
         }
         SizeRule::Ended(_) => Ok(()),
     }

@@ -15,7 +15,7 @@ ghost use Rattle.acn_pack.specs.Parts.{bits_in};
 use crate::steps::{at, component_of};
 use acn_grammar::{Presence, Value};
 use acn_plan::{Place, Step};
-use acn_writer::{Halt, Writer};
+use acn_writer::{Halt, Halted, Writer};
 
 // The bit of a field, if it has one, and the place of the next component behind it.
 #[derive(Clone, Copy)]
@@ -151,16 +151,18 @@ pub fn put_flags<const N: usize, const S: usize, const A: usize>(
     end: usize,
     places: &[Option<Value>],
     w: &mut Writer<'_, '_, N, S, A>,
-) -> Result<(), Halt>
+    why: &mut Halt,
+) -> Result<(), Halted>
     requires made { IsMade steps.now }
     requires within { end ≤ length steps.now }
-    ensures { (homes : List (ℕ × List ℕ)) (path : List ℕ) → Packs (begins homes (presence_bits (fields_at steps.now first end) (places_view places.now)) ∷ []) w.old w.new path result }
+    ensures { (homes : List (ℕ × List ℕ)) (path : List ℕ) → Packs (begins homes (presence_bits (fields_at steps.now first end) (places_view places.now)) ∷ []) w.old w.new path why.new result }
 {
     let count = count_flags(steps, first, end, places);
     if w.has_room(count) {
         put_each(steps, first, end, places, w);
         Ok(())
     } else {
-        Err(Halt::Lost)
+        *why = Halt::Lost;
+        Err(Halted)
     }
 }

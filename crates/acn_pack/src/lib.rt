@@ -7,7 +7,9 @@ mod leaves;
 mod node;
 mod parts;
 mod steps;
+mod trace;
 mod values;
 mod walk;
 
 pub use node::pack_node;
+pub use trace::Trace;

@@ -8,28 +8,28 @@ ghost use Rattle.acn_plan.specs.Made.{IsMade};
 ghost use Rattle.acn_pack.specs.Packs.{Packs};
 ghost use Rattle.acn_pack.specs.Sounds.{IsSound};
 
+use crate::trace::Trace;
 use crate::walk::pack_step;
 use acn_grammar::Value;
-use acn_num::Path;
 use acn_plan::Step;
-use acn_writer::{Halt, Writer};
+use acn_writer::{Halted, Writer};
 
-/// Writes a value of the node of a step, at a path.
+/// Writes a value of the node of a step, at the path of a trace.
 ///
 /// With Ok the events of the value ran, and the path is as before. Else they stopped at the path
-/// where the walk stands.
+/// where the walk stands, for the reason beside it.
 pub fn pack_node<'p, const N: usize, const S: usize, const A: usize>(
     steps: &'p [Step],
     this: usize,
     v: &Value,
     w: &mut Writer<'_, 'p, N, S, A>,
-    path: &mut Path,
-) -> Result<(), Halt>
+    trace: &mut Trace,
+) -> Result<(), Halted>
     requires made { IsMade steps.now }
     requires there { this < length steps.now }
-    requires sound { IsSound (root_of steps.now) (length path.old) (node_at steps.now this) }
-    ensures packs { Packs (events (root_of steps.now) (node_at steps.now this) path.old (data_of v.now)) w.old w.new path.new result }
-    ensures path { OnOk result (path.new ≡ path.old) }
+    requires sound { IsSound (root_of steps.now) (length trace.old.path) (node_at steps.now this) }
+    ensures packs { Packs (events (root_of steps.now) (node_at steps.now this) trace.old.path (data_of v.now)) w.old w.new trace.new.path trace.new.why result }
+    ensures path { OnOk result (trace.new.path ≡ trace.old.path) }
 {
-    pack_step::<(), N, S, A>(steps, this, v, w, path)
+    pack_step::<(), N, S, A>(steps, this, v, w, trace)
 }

@@ -13,7 +13,7 @@ use crate::asking::{ask_tests, equal};
 use crate::steps::{at, item_of, number_leaf, tests_of};
 use acn_grammar::{ChoiceRule, Value};
 use acn_plan::{Place, Step};
-use acn_writer::{Halt, Writer};
+use acn_writer::{Halt, Halted, Writer};
 
 /// The number of a component is noted where it is a slot's.
 pub fn note_own<const N: usize, const S: usize, const A: usize>(
@@ -22,10 +22,11 @@ pub fn note_own<const N: usize, const S: usize, const A: usize>(
     slot: Option<u32>,
     v: &Value,
     w: &mut Writer<'_, '_, N, S, A>,
-) -> Result<(), Halt>
+    why: &mut Halt,
+) -> Result<(), Halted>
     requires there { this < length steps.now }
     requires own { OwnIsNumber slot (node_at steps.now this) }
-    ensures { (path : List ℕ) → Packs (own_events path slot (node_at steps.now this) (data_of v.now)) w.old w.new path result }
+    ensures { (path : List ℕ) → Packs (own_events path slot (node_at steps.now this) (data_of v.now)) w.old w.new path why.new result }
 {
     match slot {
         Some(slot) => {
@@ -33,7 +34,7 @@ pub fn note_own<const N: usize, const S: usize, const A: usize>(
             match number_leaf(&step.act) {
                 Some(leaf) => {
                     let x = v.number();
-                    w.note(slot, &leaf.set, x)
+                    w.note(slot, &leaf.set, x, why)
                 }
                 None => unreachable!(),
             }
@@ -48,18 +49,19 @@ pub fn put_inserted<'p, const N: usize, const S: usize, const A: usize>(
     this: usize,
     slot: Option<u32>,
     w: &mut Writer<'_, 'p, N, S, A>,
-) -> Result<(), Halt>
+    why: &mut Halt,
+) -> Result<(), Halted>
     requires there { this < length steps.now }
     requires sound { (root : Grammar) × (k : ℕ) × IsSound root k (node_at steps.now this) }
-    ensures { (path : List ℕ) → Packs (inserted_events slot (node_at steps.now this)) w.old w.new path result }
+    ensures { (path : List ℕ) → Packs (inserted_events slot (node_at steps.now this)) w.old w.new path why.new result }
 {
     let step = at(steps, this);
     match number_leaf(&step.act) {
         Some(leaf) => {
-            w.align(step.align)?;
+            w.align(step.align, why)?;
             match slot {
-                Some(slot) => w.open(slot, leaf),
-                None => w.code(leaf, 0),
+                Some(slot) => w.open(slot, leaf, why),
+                None => w.code(leaf, 0, why),
             }
         }
         None => Ok(()),
@@ -71,9 +73,10 @@ pub fn ask_item<const N: usize, const S: usize, const A: usize>(
     rule: &ChoiceRule,
     place: &Place,
     w: &mut Writer<'_, '_, N, S, A>,
-) -> Result<(), Halt>
+    why: &mut Halt,
+) -> Result<(), Halted>
     requires { (root : Grammar) × IsItemed root rule.now place.now }
-    ensures { (root : Grammar) (path : List ℕ) → IsItemed root rule.now place.now → Packs (item_events root path rule.now (name_in place.now)) w.old w.new path result }
+    ensures { (root : Grammar) (path : List ℕ) → IsItemed root rule.now place.now → Packs (item_events root path rule.now (name_in place.now)) w.old w.new path why.new result }
 {
     match rule {
         ChoiceRule::Index(_) => Ok(()),
@@ -81,7 +84,7 @@ pub fn ask_item<const N: usize, const S: usize, const A: usize>(
         ChoiceRule::Item(slot) => match item_of(place) {
             Some(item) => {
                 let ask = equal(u64::from(item));
-                w.want(*slot, ask)
+                w.want(*slot, ask, why)
             }
             None => unreachable!(),
         },
@@ -93,17 +96,18 @@ pub fn ask_case<const N: usize, const S: usize, const A: usize>(
     rule: &ChoiceRule,
     place: &Place,
     w: &mut Writer<'_, '_, N, S, A>,
-) -> Result<(), Halt>
-    ensures { (path : List ℕ) → Packs (case_tests path rule.now (tests_in place.now)) w.old w.new path result }
+    why: &mut Halt,
+) -> Result<(), Halted>
+    ensures { (path : List ℕ) → Packs (case_tests path rule.now (tests_in place.now)) w.old w.new path why.new result }
 {
     match rule {
         ChoiceRule::Index(_) => {
             let tests = tests_of(place);
-            ask_tests(tests, true, w)
+            ask_tests(tests, true, w, why)
         }
         ChoiceRule::Tests => {
             let tests = tests_of(place);
-            ask_tests(tests, true, w)
+            ask_tests(tests, true, w, why)
         }
         ChoiceRule::Item(_) => Ok(()),
     }

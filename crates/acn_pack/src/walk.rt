@@ -21,11 +21,11 @@ use crate::flags::put_flags;
 use crate::leaves::{fill_home, put_bits, put_end, put_index, put_number, put_octets, put_text};
 use crate::parts::{ask_case, ask_item, note_own, put_inserted};
 use crate::steps::{Component, at, case_of, component_of, inserted_slot};
+use crate::trace::Trace;
 use crate::values::{case_in, elements_in, places_in};
 use acn_grammar::{ChoiceRule, Presence, Sizing, Value};
-use acn_num::Path;
 use acn_plan::{Act, Step};
-use acn_writer::{Halt, Writer};
+use acn_writer::{Halted, Writer};
 
 /// The node of a step.
 #[cycle(pack)]
@@ -34,17 +34,17 @@ pub fn pack_step<'p, T, const N: usize, const S: usize, const A: usize>(
     this: usize,
     v: &Value,
     w: &mut Writer<'_, 'p, N, S, A>,
-    path: &mut Path,
-) -> Result<(), Halt>
+    trace: &mut Trace,
+) -> Result<(), Halted>
     requires made { IsMade steps.now }
     requires there { this < length steps.now }
-    requires sound { IsSound (root_of steps.now) (length path.old) (node_at steps.now this) }
-    ensures packs { Packs (events (root_of steps.now) (node_at steps.now this) path.old (data_of v.now)) w.old w.new path.new result }
-    ensures path { OnOk result (path.new ≡ path.old) }
+    requires sound { IsSound (root_of steps.now) (length trace.old.path) (node_at steps.now this) }
+    ensures packs { Packs (events (root_of steps.now) (node_at steps.now this) trace.old.path (data_of v.now)) w.old w.new trace.new.path trace.new.why result }
+    ensures path { OnOk result (trace.new.path ≡ trace.old.path) }
 {
     let step = at(steps, this);
-    w.align(step.align)?;
-    pack_body::<T, N, S, A>(steps, this, step, v, w, path)
+    w.align(step.align, &mut trace.why)?;
+    pack_body::<T, N, S, A>(steps, this, step, v, w, trace)
 }
 
 #[cycle(pack)]
@@ -54,27 +54,34 @@ fn pack_body<'p, T, const N: usize, const S: usize, const A: usize>(
     step: &'p Step,
     v: &Value,
     w: &mut Writer<'_, 'p, N, S, A>,
-    path: &mut Path,
-) -> Result<(), Halt>
+    trace: &mut Trace,
+) -> Result<(), Halted>
     requires made { IsMade steps.now }
     requires there { this < length steps.now }
     requires is { StepAt steps.now this step.now }
-    requires sound { FormIsSound (root_of steps.now) (length path.old) (form_at steps.now this step.now) }
-    ensures packs { Packs (form_events (root_of steps.now) (form_at steps.now this step.now) path.old (data_of v.now)) w.old w.new path.new result }
-    ensures path { OnOk result (path.new ≡ path.old) }
+    requires sound { FormIsSound (root_of steps.now) (length trace.old.path) (form_at steps.now this step.now) }
+    ensures packs { Packs (form_events (root_of steps.now) (form_at steps.now this step.now) trace.old.path (data_of v.now)) w.old w.new trace.new.path trace.new.why result }
+    ensures path { OnOk result (trace.new.path ≡ trace.old.path) }
 {
     match &step.act {
-        Act::Num(leaf) => put_number(leaf, v, w),
-        Act::Octets(sizing) => put_octets(sizing, v, w),
-        Act::Bits(sizing) => put_bits(sizing, v, w),
-        Act::Text(leaf) => put_text(leaf, v, w),
+        Act::Num(leaf) => put_number(leaf, v, w, &mut trace.why),
+        Act::Octets(sizing) => put_octets(sizing, v, w, &mut trace.why),
+        Act::Bits(sizing) => put_bits(sizing, v, w, &mut trace.why),
+        Act::Text(leaf) => put_text(leaf, v, w, &mut trace.why),
         Act::Seq(home) => {
             let end = step.next as usize;
-            pack_seq::<T, N, S, A>(steps, this + 1, end, home.items(), v, w, path)
+            pack_seq::<T, N, S, A>(steps, this + 1, end, home.items(), v, w, trace)
         }
-        Act::List(sizing) => pack_list::<T, N, S, A>(steps, this + 1, sizing, v, w, path),
-        Act::Choice(rule) => pack_choice::<T, N, S, A>(steps, this, *rule, v, w, path),
-        Act::Contained(sizing) => pack_contained::<T, N, S, A>(steps, this + 1, sizing, v, w, path),
+        Act::List(sizing) => pack_list::<T, N, S, A>(steps, this + 1, sizing, v, w, trace),
+        Act::Choice(rule) => pack_choice::<T, N, S, A>(steps, this, *rule, v, w, trace),
+        Act::Contained(sizing) => pack_contained::<T, N, S, A>(
+            steps,
+            this + 1,
+            sizing,
+            v,
+            w,
+            trace,
+        ),
     }
 }
 
@@ -86,17 +93,17 @@ fn pack_child<'p, T, const N: usize, const S: usize, const A: usize>(
     k: u32,
     v: &Value,
     w: &mut Writer<'_, 'p, N, S, A>,
-    path: &mut Path,
-) -> Result<(), Halt>
+    trace: &mut Trace,
+) -> Result<(), Halted>
     requires made { IsMade steps.now }
     requires there { this < length steps.now }
-    requires sound { IsSound (root_of steps.now) (suc (length path.old)) (node_at steps.now this) }
-    ensures packs { Packs (events (root_of steps.now) (node_at steps.now this) (path.old ++ k ∷ []) (data_of v.now)) w.old w.new path.new result }
-    ensures path { OnOk result (path.new ≡ path.old) }
+    requires sound { IsSound (root_of steps.now) (suc (length trace.old.path)) (node_at steps.now this) }
+    ensures packs { Packs (events (root_of steps.now) (node_at steps.now this) (trace.old.path ++ k ∷ []) (data_of v.now)) w.old w.new trace.new.path trace.new.why result }
+    ensures path { OnOk result (trace.new.path ≡ trace.old.path) }
 {
-    path.push(k);
-    pack_step::<T, N, S, A>(steps, this, v, w, path)?;
-    path.pop();
+    trace.path.push(k);
+    pack_step::<T, N, S, A>(steps, this, v, w, trace)?;
+    trace.path.pop();
     Ok(())
 }
 
@@ -108,16 +115,16 @@ fn pack_seq<'p, T, const N: usize, const S: usize, const A: usize>(
     home: &[u32],
     v: &Value,
     w: &mut Writer<'_, 'p, N, S, A>,
-    path: &mut Path,
-) -> Result<(), Halt>
+    trace: &mut Trace,
+) -> Result<(), Halted>
     requires made { IsMade steps.now }
     requires within { end ≤ length steps.now }
-    requires sound { FormIsSound (root_of steps.now) (length path.old) (seq (fields_at steps.now first end) home.now) }
-    ensures packs { Packs (form_events (root_of steps.now) (seq (fields_at steps.now first end) home.now) path.old (data_of v.now)) w.old w.new path.new result }
-    ensures path { OnOk result (path.new ≡ path.old) }
+    requires sound { FormIsSound (root_of steps.now) (length trace.old.path) (seq (fields_at steps.now first end) home.now) }
+    ensures packs { Packs (form_events (root_of steps.now) (seq (fields_at steps.now first end) home.now) trace.old.path (data_of v.now)) w.old w.new trace.new.path trace.new.why result }
+    ensures path { OnOk result (trace.new.path ≡ trace.old.path) }
 {
     match places_in(v) {
-        Some(places) => pack_places::<T, N, S, A>(steps, first, end, home, places, w, path),
+        Some(places) => pack_places::<T, N, S, A>(steps, first, end, home, places, w, trace),
         None => Ok(()),
     }
 }
@@ -130,17 +137,17 @@ fn pack_places<'p, T, const N: usize, const S: usize, const A: usize>(
     home: &[u32],
     places: &[Option<Value>],
     w: &mut Writer<'_, 'p, N, S, A>,
-    path: &mut Path,
-) -> Result<(), Halt>
+    trace: &mut Trace,
+) -> Result<(), Halted>
     requires made { IsMade steps.now }
     requires within { end ≤ length steps.now }
-    requires sound { FormIsSound (root_of steps.now) (length path.old) (seq (fields_at steps.now first end) home.now) }
-    ensures packs { Packs (form_events (root_of steps.now) (seq (fields_at steps.now first end) home.now) path.old (record_of (places_view places.now))) w.old w.new path.new result }
-    ensures path { OnOk result (path.new ≡ path.old) }
+    requires sound { FormIsSound (root_of steps.now) (length trace.old.path) (seq (fields_at steps.now first end) home.now) }
+    ensures packs { Packs (form_events (root_of steps.now) (seq (fields_at steps.now first end) home.now) trace.old.path (record_of (places_view places.now))) w.old w.new trace.new.path trace.new.why result }
+    ensures path { OnOk result (trace.new.path ≡ trace.old.path) }
 {
-    put_flags(steps, first, end, places, w)?;
-    pack_fields::<T, N, S, A>(steps, first, end, places, w, path)?;
-    fill_home(home, w)
+    put_flags(steps, first, end, places, w, &mut trace.why)?;
+    pack_fields::<T, N, S, A>(steps, first, end, places, w, trace)?;
+    fill_home(home, w, &mut trace.why)
 }
 
 #[cycle(pack)]
@@ -150,27 +157,27 @@ fn pack_fields<'p, T, const N: usize, const S: usize, const A: usize>(
     end: usize,
     places: &[Option<Value>],
     w: &mut Writer<'_, 'p, N, S, A>,
-    path: &mut Path,
-) -> Result<(), Halt>
+    trace: &mut Trace,
+) -> Result<(), Halted>
     requires made { IsMade steps.now }
     requires within { end ≤ length steps.now }
-    requires sound { FieldsAreSound (root_of steps.now) (suc (length path.old)) (fields_at steps.now first end) }
-    ensures packs { Packs (field_events (root_of steps.now) (fields_at steps.now first end) path.old 0 (places_view places.now)) w.old w.new path.new result }
-    ensures path { OnOk result (path.new ≡ path.old) }
+    requires sound { FieldsAreSound (root_of steps.now) (suc (length trace.old.path)) (fields_at steps.now first end) }
+    ensures packs { Packs (field_events (root_of steps.now) (fields_at steps.now first end) trace.old.path 0 (places_view places.now)) w.old w.new trace.new.path trace.new.why result }
+    ensures path { OnOk result (trace.new.path ≡ trace.old.path) }
 {
     let mut this = first;
     let mut k = 0u32;
     let mut next = 0;
     while this < end {
         let step = at(steps, this);
-        match pack_field::<T, N, S, A>(steps, this, k, places, next, w, path) {
+        match pack_field::<T, N, S, A>(steps, this, k, places, next, w, trace) {
             Ok(Some(behind)) => {
                 next = behind;
                 k += 1;
                 this = step.next as usize;
             }
             Ok(None) => return Ok(()),
-            Err(halt) => return Err(halt),
+            Err(halted) => return Err(halted),
         }
     }
     Ok(())
@@ -187,28 +194,28 @@ fn pack_field<'p, T, const N: usize, const S: usize, const A: usize>(
     places: &[Option<Value>],
     next: usize,
     w: &mut Writer<'_, 'p, N, S, A>,
-    path: &mut Path,
-) -> Result<Option<usize>, Halt>
+    trace: &mut Trace,
+) -> Result<Option<usize>, Halted>
     requires made { IsMade steps.now }
     requires there { this < length steps.now }
     requires within { next ≤ length places.now }
-    requires sound { (fs : Fields) × (step : StepData) × StepAt steps.now this step × FieldsAreSound (root_of steps.now) (suc (length path.old)) (with_field (field_by step.place (node_at steps.now this)) fs) }
-    ensures packs { (fs : Fields) (step : StepData) → StepAt steps.now this step → PacksTo (field_events (root_of steps.now) (with_field (field_by step.place (node_at steps.now this)) fs) path.old k (places_view (drop next places.now))) (left_of (root_of steps.now) fs path.old (suc k) places.now) w.old w.new path.new result }
+    requires sound { (fs : Fields) × (step : StepData) × StepAt steps.now this step × FieldsAreSound (root_of steps.now) (suc (length trace.old.path)) (with_field (field_by step.place (node_at steps.now this)) fs) }
+    ensures packs { (fs : Fields) (step : StepData) → StepAt steps.now this step → PacksTo (field_events (root_of steps.now) (with_field (field_by step.place (node_at steps.now this)) fs) trace.old.path k (places_view (drop next places.now))) (left_of (root_of steps.now) fs trace.old.path (suc k) places.now) w.old w.new trace.new.path trace.new.why result }
     ensures within { IfOk result (λ behind. IfSome behind (λ n. n ≤ length places.now)) }
-    ensures path { OnOk result (path.new ≡ path.old) }
+    ensures path { OnOk result (trace.new.path ≡ trace.old.path) }
 {
     let step = at(steps, this);
     match component_of(&step.place) {
         Some(component) => match places.get(next) {
             Some(place) => {
-                pack_component::<T, N, S, A>(steps, this, component, k, place, w, path)?;
+                pack_component::<T, N, S, A>(steps, this, component, k, place, w, trace)?;
                 Ok(Some(next + 1))
             }
             None => Ok(None),
         },
         None => {
             let slot = inserted_slot(&step.place);
-            put_inserted(steps, this, slot, w)?;
+            put_inserted(steps, this, slot, w, &mut trace.why)?;
             Ok(Some(next))
         }
     }
@@ -222,18 +229,18 @@ fn pack_component<'p, T, const N: usize, const S: usize, const A: usize>(
     k: u32,
     place: &Option<Value>,
     w: &mut Writer<'_, 'p, N, S, A>,
-    path: &mut Path,
-) -> Result<(), Halt>
+    trace: &mut Trace,
+) -> Result<(), Halted>
     requires made { IsMade steps.now }
     requires there { this < length steps.now }
-    requires sound { IsSound (root_of steps.now) (suc (length path.old)) (node_at steps.now this) }
+    requires sound { IsSound (root_of steps.now) (suc (length trace.old.path)) (node_at steps.now this) }
     requires own { OwnIsNumber component.slot (node_at steps.now this) }
-    ensures packs { Packs (place_events (root_of steps.now) (node_at steps.now this) component.entry.presence.now component.entry.slot (path.old ++ k ∷ []) (option_map data_of place.now)) w.old w.new path.new result }
-    ensures path { OnOk result (path.new ≡ path.old) }
+    ensures packs { Packs (place_events (root_of steps.now) (node_at steps.now this) component.entry.presence.now component.entry.slot (trace.old.path ++ k ∷ []) (option_map data_of place.now)) w.old w.new trace.new.path trace.new.why result }
+    ensures path { OnOk result (trace.new.path ≡ trace.old.path) }
 {
-    path.push(k);
-    pack_place::<T, N, S, A>(steps, this, component, place, w, path)?;
-    path.pop();
+    trace.path.push(k);
+    pack_place::<T, N, S, A>(steps, this, component, place, w, trace)?;
+    trace.path.pop();
     Ok(())
 }
 
@@ -245,18 +252,18 @@ fn pack_place<'p, T, const N: usize, const S: usize, const A: usize>(
     component: Component<'p>,
     place: &Option<Value>,
     w: &mut Writer<'_, 'p, N, S, A>,
-    path: &mut Path,
-) -> Result<(), Halt>
+    trace: &mut Trace,
+) -> Result<(), Halted>
     requires made { IsMade steps.now }
     requires there { this < length steps.now }
-    requires sound { IsSound (root_of steps.now) (length path.old) (node_at steps.now this) }
+    requires sound { IsSound (root_of steps.now) (length trace.old.path) (node_at steps.now this) }
     requires own { OwnIsNumber component.slot (node_at steps.now this) }
-    ensures packs { Packs (place_events (root_of steps.now) (node_at steps.now this) component.entry.presence.now component.entry.slot path.old (option_map data_of place.now)) w.old w.new path.new result }
-    ensures path { OnOk result (path.new ≡ path.old) }
+    ensures packs { Packs (place_events (root_of steps.now) (node_at steps.now this) component.entry.presence.now component.entry.slot trace.old.path (option_map data_of place.now)) w.old w.new trace.new.path trace.new.why result }
+    ensures path { OnOk result (trace.new.path ≡ trace.old.path) }
 {
     match place {
-        Some(v) => pack_there::<T, N, S, A>(steps, this, component, v, w, path),
-        None => ask_presence(component.presence, false, w),
+        Some(v) => pack_there::<T, N, S, A>(steps, this, component, v, w, trace),
+        None => ask_presence(component.presence, false, w, &mut trace.why),
     }
 }
 
@@ -267,18 +274,18 @@ fn pack_there<'p, T, const N: usize, const S: usize, const A: usize>(
     component: Component<'p>,
     v: &Value,
     w: &mut Writer<'_, 'p, N, S, A>,
-    path: &mut Path,
-) -> Result<(), Halt>
+    trace: &mut Trace,
+) -> Result<(), Halted>
     requires made { IsMade steps.now }
     requires there { this < length steps.now }
-    requires sound { IsSound (root_of steps.now) (length path.old) (node_at steps.now this) }
+    requires sound { IsSound (root_of steps.now) (length trace.old.path) (node_at steps.now this) }
     requires own { OwnIsNumber component.slot (node_at steps.now this) }
-    ensures packs { Packs (place_events (root_of steps.now) (node_at steps.now this) component.entry.presence.now component.entry.slot path.old (Some (data_of v.now))) w.old w.new path.new result }
-    ensures path { OnOk result (path.new ≡ path.old) }
+    ensures packs { Packs (place_events (root_of steps.now) (node_at steps.now this) component.entry.presence.now component.entry.slot trace.old.path (Some (data_of v.now))) w.old w.new trace.new.path trace.new.why result }
+    ensures path { OnOk result (trace.new.path ≡ trace.old.path) }
 {
-    note_own(steps, this, component.slot, v, w)?;
-    ask_presence(component.presence, true, w)?;
-    pack_step::<T, N, S, A>(steps, this, v, w, path)
+    note_own(steps, this, component.slot, v, w, &mut trace.why)?;
+    ask_presence(component.presence, true, w, &mut trace.why)?;
+    pack_step::<T, N, S, A>(steps, this, v, w, trace)
 }
 
 #[cycle(pack)]
@@ -288,16 +295,16 @@ fn pack_list<'p, T, const N: usize, const S: usize, const A: usize>(
     sizing: &Sizing,
     v: &Value,
     w: &mut Writer<'_, 'p, N, S, A>,
-    path: &mut Path,
-) -> Result<(), Halt>
+    trace: &mut Trace,
+) -> Result<(), Halted>
     requires made { IsMade steps.now }
     requires there { this < length steps.now }
-    requires sound { FormIsSound (root_of steps.now) (length path.old) (list sizing.now (node_at steps.now this)) }
-    ensures packs { Packs (form_events (root_of steps.now) (list sizing.now (node_at steps.now this)) path.old (data_of v.now)) w.old w.new path.new result }
-    ensures path { OnOk result (path.new ≡ path.old) }
+    requires sound { FormIsSound (root_of steps.now) (length trace.old.path) (list sizing.now (node_at steps.now this)) }
+    ensures packs { Packs (form_events (root_of steps.now) (list sizing.now (node_at steps.now this)) trace.old.path (data_of v.now)) w.old w.new trace.new.path trace.new.why result }
+    ensures path { OnOk result (trace.new.path ≡ trace.old.path) }
 {
     match elements_in(v) {
-        Some(elements) => pack_elements::<T, N, S, A>(steps, this, sizing, elements, w, path),
+        Some(elements) => pack_elements::<T, N, S, A>(steps, this, sizing, elements, w, trace),
         None => Ok(()),
     }
 }
@@ -309,19 +316,19 @@ fn pack_elements<'p, T, const N: usize, const S: usize, const A: usize>(
     sizing: &Sizing,
     elements: &[Value],
     w: &mut Writer<'_, 'p, N, S, A>,
-    path: &mut Path,
-) -> Result<(), Halt>
+    trace: &mut Trace,
+) -> Result<(), Halted>
     requires made { IsMade steps.now }
     requires there { this < length steps.now }
-    requires sound { FormIsSound (root_of steps.now) (length path.old) (list sizing.now (node_at steps.now this)) }
-    ensures packs { Packs (form_events (root_of steps.now) (list sizing.now (node_at steps.now this)) path.old (list_of (elements_view elements.now))) w.old w.new path.new result }
-    ensures path { OnOk result (path.new ≡ path.old) }
+    requires sound { FormIsSound (root_of steps.now) (length trace.old.path) (list sizing.now (node_at steps.now this)) }
+    ensures packs { Packs (form_events (root_of steps.now) (list sizing.now (node_at steps.now this)) trace.old.path (list_of (elements_view elements.now))) w.old w.new trace.new.path trace.new.why result }
+    ensures path { OnOk result (trace.new.path ≡ trace.old.path) }
 {
     let n = elements.len() as u64;
-    w.size(sizing, n)?;
-    ask_size(&sizing.rule, n, w)?;
-    pack_run::<T, N, S, A>(steps, this, elements, w, path)?;
-    put_end(&sizing.rule, w)
+    w.size(sizing, n, &mut trace.why)?;
+    ask_size(&sizing.rule, n, w, &mut trace.why)?;
+    pack_run::<T, N, S, A>(steps, this, elements, w, trace)?;
+    put_end(&sizing.rule, w, &mut trace.why)
 }
 
 #[cycle(pack)]
@@ -330,20 +337,20 @@ fn pack_run<'p, T, const N: usize, const S: usize, const A: usize>(
     this: usize,
     elements: &[Value],
     w: &mut Writer<'_, 'p, N, S, A>,
-    path: &mut Path,
-) -> Result<(), Halt>
+    trace: &mut Trace,
+) -> Result<(), Halted>
     requires made { IsMade steps.now }
     requires there { this < length steps.now }
     requires few { length elements.now ≤ MOST_SIZE }
-    requires sound { IsSound (root_of steps.now) (suc (length path.old)) (node_at steps.now this) }
-    ensures packs { Packs (run_events (λ k d. events (root_of steps.now) (node_at steps.now this) (path.old ++ k ∷ []) d) 0 (elements_view elements.now)) w.old w.new path.new result }
-    ensures path { OnOk result (path.new ≡ path.old) }
+    requires sound { IsSound (root_of steps.now) (suc (length trace.old.path)) (node_at steps.now this) }
+    ensures packs { Packs (run_events (λ k d. events (root_of steps.now) (node_at steps.now this) (trace.old.path ++ k ∷ []) d) 0 (elements_view elements.now)) w.old w.new trace.new.path trace.new.why result }
+    ensures path { OnOk result (trace.new.path ≡ trace.old.path) }
 {
     let mut k = 0u32;
     for v in elements {
-        match pack_child::<T, N, S, A>(steps, this, k, v, w, path) {
+        match pack_child::<T, N, S, A>(steps, this, k, v, w, trace) {
             Ok(()) => k += 1,
-            Err(halt) => return Err(halt),
+            Err(halted) => return Err(halted),
         }
     }
     Ok(())
@@ -356,17 +363,17 @@ fn pack_choice<'p, T, const N: usize, const S: usize, const A: usize>(
     rule: ChoiceRule,
     v: &Value,
     w: &mut Writer<'_, 'p, N, S, A>,
-    path: &mut Path,
-) -> Result<(), Halt>
+    trace: &mut Trace,
+) -> Result<(), Halted>
     requires made { IsMade steps.now }
     requires there { this < length steps.now }
     requires is { (step : StepData) → StepAt steps.now this step → step.act ≡ ChoiceAct rule }
-    requires sound { (step : StepData) → StepAt steps.now this step → FormIsSound (root_of steps.now) (length path.old) (form_at steps.now this step) }
-    ensures packs { (step : StepData) → StepAt steps.now this step → Packs (form_events (root_of steps.now) (form_at steps.now this step) path.old (data_of v.now)) w.old w.new path.new result }
-    ensures path { OnOk result (path.new ≡ path.old) }
+    requires sound { (step : StepData) → StepAt steps.now this step → FormIsSound (root_of steps.now) (length trace.old.path) (form_at steps.now this step) }
+    ensures packs { (step : StepData) → StepAt steps.now this step → Packs (form_events (root_of steps.now) (form_at steps.now this step) trace.old.path (data_of v.now)) w.old w.new trace.new.path trace.new.why result }
+    ensures path { OnOk result (trace.new.path ≡ trace.old.path) }
 {
     match case_in(v) {
-        Some((i, inside)) => pack_chosen::<T, N, S, A>(steps, this, rule, i, inside, w, path),
+        Some((i, inside)) => pack_chosen::<T, N, S, A>(steps, this, rule, i, inside, w, trace),
         None => Ok(()),
     }
 }
@@ -380,19 +387,19 @@ fn pack_chosen<'p, T, const N: usize, const S: usize, const A: usize>(
     i: u32,
     v: &Value,
     w: &mut Writer<'_, 'p, N, S, A>,
-    path: &mut Path,
-) -> Result<(), Halt>
+    trace: &mut Trace,
+) -> Result<(), Halted>
     requires made { IsMade steps.now }
     requires there { this < length steps.now }
     requires is { (step : StepData) → StepAt steps.now this step → step.act ≡ ChoiceAct rule }
-    requires sound { (step : StepData) → StepAt steps.now this step → FormIsSound (root_of steps.now) (length path.old) (form_at steps.now this step) }
-    ensures packs { (step : StepData) → StepAt steps.now this step → Packs (form_events (root_of steps.now) (form_at steps.now this step) path.old (alt i (data_of v.now))) w.old w.new path.new result }
-    ensures path { OnOk result (path.new ≡ path.old) }
+    requires sound { (step : StepData) → StepAt steps.now this step → FormIsSound (root_of steps.now) (length trace.old.path) (form_at steps.now this step) }
+    ensures packs { (step : StepData) → StepAt steps.now this step → Packs (form_events (root_of steps.now) (form_at steps.now this step) trace.old.path (alt i (data_of v.now))) w.old w.new trace.new.path trace.new.why result }
+    ensures path { OnOk result (trace.new.path ≡ trace.old.path) }
 {
-    put_index(&rule, i, w)?;
+    put_index(&rule, i, w, &mut trace.why)?;
     let step = at(steps, this);
     match case_of(steps, this + 1, step.next as usize, i) {
-        Some(case) => pack_case::<T, N, S, A>(steps, case, rule, i, v, w, path),
+        Some(case) => pack_case::<T, N, S, A>(steps, case, rule, i, v, w, trace),
         None => Ok(()),
     }
 }
@@ -405,21 +412,21 @@ fn pack_case<'p, T, const N: usize, const S: usize, const A: usize>(
     i: u32,
     v: &Value,
     w: &mut Writer<'_, 'p, N, S, A>,
-    path: &mut Path,
-) -> Result<(), Halt>
+    trace: &mut Trace,
+) -> Result<(), Halted>
     requires made { IsMade steps.now }
     requires there { this < length steps.now }
-    requires sound { IsSound (root_of steps.now) (suc (length path.old)) (node_at steps.now this) }
+    requires sound { IsSound (root_of steps.now) (suc (length trace.old.path)) (node_at steps.now this) }
     requires item { (step : StepData) → StepAt steps.now this step → IsItemed (root_of steps.now) rule step.place }
-    ensures packs { (step : StepData) → StepAt steps.now this step → Packs (rule_events (root_of steps.now) path.old i rule (name_in step.place) (tests_in step.place) ++ events (root_of steps.now) (node_at steps.now this) (path.old ++ i ∷ []) (data_of v.now)) w.old w.new path.new result }
-    ensures path { OnOk result (path.new ≡ path.old) }
+    ensures packs { (step : StepData) → StepAt steps.now this step → Packs (rule_events (root_of steps.now) trace.old.path i rule (name_in step.place) (tests_in step.place) ++ events (root_of steps.now) (node_at steps.now this) (trace.old.path ++ i ∷ []) (data_of v.now)) w.old w.new trace.new.path trace.new.why result }
+    ensures path { OnOk result (trace.new.path ≡ trace.old.path) }
 {
     let step = at(steps, this);
-    ask_item(&rule, &step.place, w)?;
-    path.push(i);
-    ask_case(&rule, &step.place, w)?;
-    pack_step::<T, N, S, A>(steps, this, v, w, path)?;
-    path.pop();
+    ask_item(&rule, &step.place, w, &mut trace.why)?;
+    trace.path.push(i);
+    ask_case(&rule, &step.place, w, &mut trace.why)?;
+    pack_step::<T, N, S, A>(steps, this, v, w, trace)?;
+    trace.path.pop();
     Ok(())
 }
 
@@ -430,16 +437,16 @@ fn pack_contained<'p, T, const N: usize, const S: usize, const A: usize>(
     sizing: &Sizing,
     v: &Value,
     w: &mut Writer<'_, 'p, N, S, A>,
-    path: &mut Path,
-) -> Result<(), Halt>
+    trace: &mut Trace,
+) -> Result<(), Halted>
     requires made { IsMade steps.now }
     requires there { this < length steps.now }
-    requires sound { FormIsSound (root_of steps.now) (length path.old) (contained sizing.now (node_at steps.now this)) }
-    ensures packs { Packs (form_events (root_of steps.now) (contained sizing.now (node_at steps.now this)) path.old (data_of v.now)) w.old w.new path.new result }
-    ensures path { OnOk result (path.new ≡ path.old) }
+    requires sound { FormIsSound (root_of steps.now) (length trace.old.path) (contained sizing.now (node_at steps.now this)) }
+    ensures packs { Packs (form_events (root_of steps.now) (contained sizing.now (node_at steps.now this)) trace.old.path (data_of v.now)) w.old w.new trace.new.path trace.new.why result }
+    ensures path { OnOk result (trace.new.path ≡ trace.old.path) }
 {
-    w.enter(&sizing.rule)?;
-    pack_child::<T, N, S, A>(steps, this, 0, v, w, path)?;
-    w.align(8)?;
-    w.close(sizing)
+    w.enter(&sizing.rule, &mut trace.why)?;
+    pack_child::<T, N, S, A>(steps, this, 0, v, w, trace)?;
+    w.align(8, &mut trace.why)?;
+    w.close(sizing, &mut trace.why)
 }

@@ -1,5 +1,5 @@
 -- What a halt of the events of the whole value says.
-use Rattle.std.proofs.Common.{◌≡◌, ℕ, ◌≤◌, Bool, true, false, List, [], Some, Result, Ok, Err, IfOk, IfErr, refl, sym, subst, arith}
+use Rattle.std.proofs.Common.{◌≡◌, ℕ, ◌≤◌, Bool, true, false, List, [], Some, Result, Ok, Err, IfOk, OnErr, refl, sym, subst, arith}
 use Rattle.std.specs.Prelude.{is_some}
 use Rattle.acn_grammar.specs.Check.{NodeAt}
 use Rattle.acn_grammar.specs.Grammar.{Grammar, Data, node}
@@ -95,6 +95,6 @@ pub each_ok : {A E : Type 0} (r : Result A E) {P Q : A → Type 0} → ((x : A) 
 each_ok (Ok x) f p = f x p
 each_ok (Err e) f p = tt
 
-pub each_err : {A E : Type 0} (r : Result A E) {P Q : E → Type 0} → ((e : E) → P e → Q e) → IfErr r P → IfErr r Q
-each_err (Ok x) f p = tt
-each_err (Err e) f p = f e p
+pub each_fault : {A E : Type 0} (r : Result A E) {P Q : Type 0} → (P → Q) → OnErr r P → OnErr r Q
+each_fault (Ok x) f p = tt
+each_fault (Err e) f p = f p

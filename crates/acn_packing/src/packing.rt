@@ -13,8 +13,10 @@ use crate::refusal::refusal;
 use crate::tries::pack_in;
 use acn_grammar::{Unfit, Value};
 use acn_num::Path;
+use acn_pack::Trace;
 use acn_packet_laws::{fronts_exclude_failures, one_front, one_writing, written_is_read};
 use acn_plan::Plan;
+use acn_writer::Halt;
 
 /// Packs a value, which has the shape of the plan's root, as `shaped` of `acn_tree` tells, into the front of a buffer, and answers
 /// how many bits it has: each determinant has the least permitted number that meets all that is asked of it, and padding and fill
@@ -37,12 +39,15 @@ pub fn pack<const N: usize>(plan: &Plan, v: &Value, buf: &mut [u8; N]) -> Result
     one_writing();
     written_is_read();
     check_octets(buf);
-    let mut path = Path::new();
-    match pack_in(plan, v, buf, &mut path) {
+    let mut trace = Trace {
+        path: Path::new(),
+        why: Halt::Lost,
+    };
+    match pack_in(plan, v, buf, &mut trace) {
         Ok(count) => {
             check_octets(buf);
             Ok(count)
         }
-        Err(halt) => Err(refusal(plan, v, path, halt)),
+        Err(_) => Err(refusal(plan, v, trace.path, trace.why)),
     }
 }

@@ -1,6 +1,6 @@
 //! A value packed with tables of open slots of three sizes, the smallest first.
 
-ghost use Rattle.std.specs.Prelude.{◌≡◌, ◌*◌, ◌^◌, ◌≤◌, length, OnOk, IfOk, IfErr};
+ghost use Rattle.std.specs.Prelude.{◌≡◌, ◌*◌, ◌^◌, ◌≤◌, length, OnOk, OnErr, IfOk};
 ghost use Rattle.acn_bits.specs.Writing.{place_of};
 ghost use Rattle.acn_num.specs.Bits.{bits};
 ghost use Rattle.acn_events.specs.Laws.{first_state};
@@ -23,10 +23,10 @@ use acn_events::{
 use acn_fill::MOST_AVOIDED_IN_ALL;
 use acn_grammar::{MOST_OPEN_SLOTS, Value};
 use acn_num::Path;
-use acn_pack::pack_node;
+use acn_pack::{Trace, pack_node};
 use acn_packet_laws::{accepted_is_sound, lengths_are_told};
 use acn_plan::Plan;
-use acn_writer::{Halt, Writer};
+use acn_writer::{Halt, Halted, Writer};
 
 /// The smallest table has room for so many open slots, and as many contents have room beside it.
 const FEW_SLOTS: usize = 4;
@@ -57,12 +57,12 @@ fn pack_whole<'p, const N: usize, const S: usize, const A: usize>(
     plan: &'p Plan,
     v: &Value,
     writer: &mut Writer<'_, 'p, N, S, A>,
-    path: &mut Path,
-) -> Result<(), Halt>
+    trace: &mut Trace,
+) -> Result<(), Halted>
     requires shaped { Shaped (root_of plan.now.steps) (data_of v.now) }
     requires fresh { state_of writer.old ≡ first_state (state_of writer.old).buf }
     ensures packs { OnOk result (PacksWhole (root_of plan.now.steps) (data_of v.now) writer.old writer.new) }
-    ensures halts { IfErr result (λ halt. HaltsWhole (root_of plan.now.steps) (data_of v.now) (halt_of path.new halt) writer.old writer.new) }
+    ensures halts { OnErr result (HaltsWhole (root_of plan.now.steps) (data_of v.now) (halt_of trace.new.path trace.new.why) writer.old writer.new) }
     ensures same_buffer { writer.new.cursor.buf.ghost_name ≡ writer.old.cursor.buf.ghost_name }
 {
     accepted_is_sound();
@@ -71,13 +71,13 @@ fn pack_whole<'p, const N: usize, const S: usize, const A: usize>(
     stops_keep_what_is_later();
     stops_pass_their_holes();
     let steps = plan.steps();
-    *path = Path::new();
-    match pack_node(steps, 0, v, writer, path) {
+    trace.path = Path::new();
+    match pack_node(steps, 0, v, writer, trace) {
         Ok(()) => {
             let _at = writer.at();
             Ok(())
         }
-        Err(halt) => Err(halt),
+        Err(halted) => Err(halted),
     }
 }
 
@@ -86,16 +86,16 @@ fn pack_with_few<const N: usize>(
     plan: &Plan,
     v: &Value,
     buf: &mut [u8; N],
-    path: &mut Path,
-) -> Result<u64, Halt>
+    trace: &mut Trace,
+) -> Result<u64, Halted>
     requires few { N ≤ 2 ^ 32 }
     requires shaped { Shaped (root_of plan.now.steps) (data_of v.now) }
     ensures packed { IfOk result (λ n. StandsInFront (root_of plan.now.steps) (data_of v.now) n (bits buf.old) (bits buf.new)) }
-    ensures halted { IfErr result (λ halt. HaltsTry (class_of FEW_SLOTS FEW_AVOIDED) (8 * N) (root_of plan.now.steps) (data_of v.now) (halt_of path.new halt) (bits buf.old) (bits buf.new)) }
+    ensures halted { OnErr result (HaltsTry (class_of FEW_SLOTS FEW_AVOIDED) (8 * N) (root_of plan.now.steps) (data_of v.now) (halt_of trace.new.path trace.new.why) (bits buf.old) (bits buf.new)) }
 {
     let cursor = WriteCursor::new(buf);
-    let mut answer = Err(Halt::Lost);
-    let _end = write_with_few(plan, v, cursor, path, &mut answer);
+    let mut answer = Err(Halted);
+    let _end = write_with_few(plan, v, cursor, trace, &mut answer);
     answer
 }
 
@@ -104,25 +104,25 @@ fn write_with_few<'b, const N: usize>(
     plan: &Plan,
     v: &Value,
     cursor: WriteCursor<'b, N>,
-    path: &mut Path,
-    answer: &mut Result<u64, Halt>,
+    trace: &mut Trace,
+    answer: &mut Result<u64, Halted>,
 ) -> WriteCursor<'b, N>
     requires shaped { Shaped (root_of plan.now.steps) (data_of v.now) }
     requires front { place_of cursor ≡ 0 }
     requires long { length cursor.buf.now ≡ N }
     ensures packed { IfOk answer.new (λ n. StandsInFront (root_of plan.now.steps) (data_of v.now) n (bits cursor.entry.buf.now) (bits result.buf.now)) }
-    ensures halted { IfErr answer.new (λ halt. HaltsTry (class_of FEW_SLOTS FEW_AVOIDED) (8 * N) (root_of plan.now.steps) (data_of v.now) (halt_of path.new halt) (bits cursor.entry.buf.now) (bits result.buf.now)) }
+    ensures halted { OnErr answer.new (HaltsTry (class_of FEW_SLOTS FEW_AVOIDED) (8 * N) (root_of plan.now.steps) (data_of v.now) (halt_of trace.new.path trace.new.why) (bits cursor.entry.buf.now) (bits result.buf.now)) }
     ensures same_buffer { result.buf.ghost_name ≡ cursor.entry.buf.ghost_name }
 {
     let mut writer = Writer::<N, FEW_SLOTS, FEW_AVOIDED>::new(cursor);
-    match pack_whole(plan, v, &mut writer, path) {
+    match pack_whole(plan, v, &mut writer, trace) {
         Ok(()) => {
             let mut end = writer.finish();
             *answer = Ok(fill_octet(&mut end));
             end
         }
-        Err(halt) => {
-            *answer = Err(halt);
+        Err(halted) => {
+            *answer = Err(halted);
             writer.abandon()
         }
     }
@@ -134,16 +134,16 @@ fn pack_with_some<const N: usize>(
     plan: &Plan,
     v: &Value,
     buf: &mut [u8; N],
-    path: &mut Path,
-) -> Result<u64, Halt>
+    trace: &mut Trace,
+) -> Result<u64, Halted>
     requires few { N ≤ 2 ^ 32 }
     requires shaped { Shaped (root_of plan.now.steps) (data_of v.now) }
     ensures packed { IfOk result (λ n. StandsInFront (root_of plan.now.steps) (data_of v.now) n (bits buf.old) (bits buf.new)) }
-    ensures halted { IfErr result (λ halt. HaltsTry (class_of SOME_SLOTS SOME_AVOIDED) (8 * N) (root_of plan.now.steps) (data_of v.now) (halt_of path.new halt) (bits buf.old) (bits buf.new)) }
+    ensures halted { OnErr result (HaltsTry (class_of SOME_SLOTS SOME_AVOIDED) (8 * N) (root_of plan.now.steps) (data_of v.now) (halt_of trace.new.path trace.new.why) (bits buf.old) (bits buf.new)) }
 {
     let cursor = WriteCursor::new(buf);
-    let mut answer = Err(Halt::Lost);
-    let _end = write_with_some(plan, v, cursor, path, &mut answer);
+    let mut answer = Err(Halted);
+    let _end = write_with_some(plan, v, cursor, trace, &mut answer);
     answer
 }
 
@@ -153,25 +153,25 @@ fn write_with_some<'b, const N: usize>(
     plan: &Plan,
     v: &Value,
     cursor: WriteCursor<'b, N>,
-    path: &mut Path,
-    answer: &mut Result<u64, Halt>,
+    trace: &mut Trace,
+    answer: &mut Result<u64, Halted>,
 ) -> WriteCursor<'b, N>
     requires shaped { Shaped (root_of plan.now.steps) (data_of v.now) }
     requires front { place_of cursor ≡ 0 }
     requires long { length cursor.buf.now ≡ N }
     ensures packed { IfOk answer.new (λ n. StandsInFront (root_of plan.now.steps) (data_of v.now) n (bits cursor.entry.buf.now) (bits result.buf.now)) }
-    ensures halted { IfErr answer.new (λ halt. HaltsTry (class_of SOME_SLOTS SOME_AVOIDED) (8 * N) (root_of plan.now.steps) (data_of v.now) (halt_of path.new halt) (bits cursor.entry.buf.now) (bits result.buf.now)) }
+    ensures halted { OnErr answer.new (HaltsTry (class_of SOME_SLOTS SOME_AVOIDED) (8 * N) (root_of plan.now.steps) (data_of v.now) (halt_of trace.new.path trace.new.why) (bits cursor.entry.buf.now) (bits result.buf.now)) }
     ensures same_buffer { result.buf.ghost_name ≡ cursor.entry.buf.ghost_name }
 {
     let mut writer = Writer::<N, SOME_SLOTS, SOME_AVOIDED>::new(cursor);
-    match pack_whole(plan, v, &mut writer, path) {
+    match pack_whole(plan, v, &mut writer, trace) {
         Ok(()) => {
             let mut end = writer.finish();
             *answer = Ok(fill_octet(&mut end));
             end
         }
-        Err(halt) => {
-            *answer = Err(halt);
+        Err(halted) => {
+            *answer = Err(halted);
             writer.abandon()
         }
     }
@@ -183,16 +183,16 @@ fn pack_with_most<const N: usize>(
     plan: &Plan,
     v: &Value,
     buf: &mut [u8; N],
-    path: &mut Path,
-) -> Result<u64, Halt>
+    trace: &mut Trace,
+) -> Result<u64, Halted>
     requires few { N ≤ 2 ^ 32 }
     requires shaped { Shaped (root_of plan.now.steps) (data_of v.now) }
     ensures packed { IfOk result (λ n. StandsInFront (root_of plan.now.steps) (data_of v.now) n (bits buf.old) (bits buf.new)) }
-    ensures halted { IfErr result (λ halt. HaltsTry largest (8 * N) (root_of plan.now.steps) (data_of v.now) (halt_of path.new halt) (bits buf.old) (bits buf.new)) }
+    ensures halted { OnErr result (HaltsTry largest (8 * N) (root_of plan.now.steps) (data_of v.now) (halt_of trace.new.path trace.new.why) (bits buf.old) (bits buf.new)) }
 {
     let cursor = WriteCursor::new(buf);
-    let mut answer = Err(Halt::Lost);
-    let _end = write_with_most(plan, v, cursor, path, &mut answer);
+    let mut answer = Err(Halted);
+    let _end = write_with_most(plan, v, cursor, trace, &mut answer);
     answer
 }
 
@@ -202,25 +202,25 @@ fn write_with_most<'b, const N: usize>(
     plan: &Plan,
     v: &Value,
     cursor: WriteCursor<'b, N>,
-    path: &mut Path,
-    answer: &mut Result<u64, Halt>,
+    trace: &mut Trace,
+    answer: &mut Result<u64, Halted>,
 ) -> WriteCursor<'b, N>
     requires shaped { Shaped (root_of plan.now.steps) (data_of v.now) }
     requires front { place_of cursor ≡ 0 }
     requires long { length cursor.buf.now ≡ N }
     ensures packed { IfOk answer.new (λ n. StandsInFront (root_of plan.now.steps) (data_of v.now) n (bits cursor.entry.buf.now) (bits result.buf.now)) }
-    ensures halted { IfErr answer.new (λ halt. HaltsTry largest (8 * N) (root_of plan.now.steps) (data_of v.now) (halt_of path.new halt) (bits cursor.entry.buf.now) (bits result.buf.now)) }
+    ensures halted { OnErr answer.new (HaltsTry largest (8 * N) (root_of plan.now.steps) (data_of v.now) (halt_of trace.new.path trace.new.why) (bits cursor.entry.buf.now) (bits result.buf.now)) }
     ensures same_buffer { result.buf.ghost_name ≡ cursor.entry.buf.ghost_name }
 {
     let mut writer = Writer::<N, MOST_OPEN_SLOTS, MOST_AVOIDED_IN_ALL>::new(cursor);
-    match pack_whole(plan, v, &mut writer, path) {
+    match pack_whole(plan, v, &mut writer, trace) {
         Ok(()) => {
             let mut end = writer.finish();
             *answer = Ok(fill_octet(&mut end));
             end
         }
-        Err(halt) => {
-            *answer = Err(halt);
+        Err(halted) => {
+            *answer = Err(halted);
             writer.abandon()
         }
     }
@@ -231,50 +231,50 @@ fn pack_with_more<const N: usize>(
     plan: &Plan,
     v: &Value,
     buf: &mut [u8; N],
-    path: &mut Path,
-) -> Result<u64, Halt>
+    trace: &mut Trace,
+) -> Result<u64, Halted>
     requires few { N ≤ 2 ^ 32 }
     requires fits { (span (root_of plan.now.steps)).greatest ≤ 8 * N }
     requires shaped { Shaped (root_of plan.now.steps) (data_of v.now) }
     ensures packed { IfOk result (λ n. StandsInFront (root_of plan.now.steps) (data_of v.now) n (bits buf.old) (bits buf.new)) }
-    ensures ends { IfErr result (λ halt. EndsTry (root_of plan.now.steps) (data_of v.now) path.new halt) }
+    ensures ends { OnErr result (EndsTry (root_of plan.now.steps) (data_of v.now) trace.new.path trace.new.why) }
 {
     largest_tables_have_room();
     lengths_are_told();
-    match pack_with_some(plan, v, buf, path) {
+    match pack_with_some(plan, v, buf, trace) {
         Ok(count) => Ok(count),
-        Err(halt) => {
-            if is_full(&halt) {
-                pack_with_most(plan, v, buf, path)
+        Err(halted) => {
+            if is_full(&trace.why) {
+                pack_with_most(plan, v, buf, trace)
             } else {
-                Err(halt)
+                Err(halted)
             }
         }
     }
 }
 
 /// Packs a value with the smallest of three tables that isn't full. With Ok the first bits of the buffer are what is written for
-/// the value, and the answer is how many there are. Else its events stop at this halt, at the path.
+/// the value, and the answer is how many there are. Else its events stop at the halt of the trace.
 pub fn pack_in<const N: usize>(
     plan: &Plan,
     v: &Value,
     buf: &mut [u8; N],
-    path: &mut Path,
-) -> Result<u64, Halt>
+    trace: &mut Trace,
+) -> Result<u64, Halted>
     requires few { N ≤ 2 ^ 32 }
     requires fits { (span (root_of plan.now.steps)).greatest ≤ 8 * N }
     requires shaped { Shaped (root_of plan.now.steps) (data_of v.now) }
     ensures packed { IfOk result (λ n. StandsInFront (root_of plan.now.steps) (data_of v.now) n (bits buf.old) (bits buf.new)) }
-    ensures ends { IfErr result (λ halt. EndsTry (root_of plan.now.steps) (data_of v.now) path.new halt) }
+    ensures ends { OnErr result (EndsTry (root_of plan.now.steps) (data_of v.now) trace.new.path trace.new.why) }
 {
     lengths_are_told();
-    match pack_with_few(plan, v, buf, path) {
+    match pack_with_few(plan, v, buf, trace) {
         Ok(count) => Ok(count),
-        Err(halt) => {
-            if is_full(&halt) {
-                pack_with_more(plan, v, buf, path)
+        Err(halted) => {
+            if is_full(&trace.why) {
+                pack_with_more(plan, v, buf, trace)
             } else {
-                Err(halt)
+                Err(halted)
             }
         }
     }

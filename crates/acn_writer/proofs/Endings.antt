@@ -1,5 +1,5 @@
 -- Slots and contents that end.
-use Rattle.std.proofs.Common.{◌≡◌, ℕ, ◌+◌, ◌<◌, ◌≤◌, ℤ, pos, Bool, true, List, [], ◌∷◌, length, Option, Some, None, Result, Ok, Err, OnOk, IfErr, IsTrue, refl, sym, ap, ◌∙◌, subst, arith}
+use Rattle.std.proofs.Common.{◌≡◌, ℕ, ◌+◌, ◌<◌, ◌≤◌, ℤ, pos, Bool, true, List, [], ◌∷◌, length, Option, Some, None, Result, Ok, Err, OnOk, OnErr, IsTrue, refl, sym, ap, ◌∙◌, subst, arith}
 use Rattle.std.specs.Prelude.{option_map}
 use Rattle.acn_num.specs.Bits.{bits}
 use Rattle.acn_num.specs.Ranges.{has}
@@ -27,6 +27,7 @@ use Rattle.acn_writer.specs.declared.halt.Halt.{Halt}
 use Rattle.acn_writer.specs.declared.halt.Halt.TheVariants.{Breaks, Full, Lost, Miscounts, Unmet}
 use Rattle.acn_writer.specs.declared.writer.Writer.{Writer}
 use Rattle.acn_writer.proofs.LeafLists.{same_some}
+use Rattle.acn_writer.proofs.States.{halts_still, not_both}
 
 -- What follows from what an answer says.
 
@@ -34,9 +35,9 @@ pub on_ok : {X E A B : Type 0} (r : Result X E) → OnOk r A → (A → B) → O
 on_ok (Ok x) h f = f h
 on_ok (Err e) h f = tt
 
-pub if_err : {X E : Type 0} {P Q : E → Type 0} (r : Result X E) → IfErr r P → ((y : E) → P y → Q y) → IfErr r Q
-if_err (Ok x) h f = tt
-if_err (Err e) h f = f e h
+pub on_err : {X E A B : Type 0} (r : Result X E) → OnErr r A → (A → B) → OnErr r B
+on_err (Ok x) h f = tt
+on_err (Err e) h f = f h
 
 -- Slots end.
 
@@ -90,6 +91,13 @@ pub record AsksSo (t : ℕ) (fs : List Frame) (m : State) : Type 0 where
 asks_so : (fs : List Frame) (t k : ℕ) (allowed : Bool) (m : State) → CanClose (Slot t) k allowed fs m → AsksSo t fs m
 asks_so [] t k allowed m c = absurd c
 asks_so (f ∷ fs) t k allowed m c = record { some = omega arith; none = c.0; is_begun = c.1 }
+
+-- contents behind a hole for their size don't end by a slot
+pub asking_lost : {N S A : ℕ} (old : Writer N S A) (t n : ℕ) (sizing : Sizing) (gap : Gap) (why : Halt) → sizing.rule ≡ Slot t → gap_of old.contents ≡ Some gap → why ≡ Lost → HaltsFor (λ path. closes path sizing n) old old why
+asking_lost old t n sizing gap why is own told =
+    let k = octets_in (state_of old) in
+    let allowed = has sizing.sizes (pos k) in
+    halts_still (λ path. closes path sizing n) old why Lost told (λ path can. not_both (gap_of old.contents) gap (asks_so old.contents t k allowed (state_of old) (subst (λ (r : SizeRule). CanClose r k allowed old.contents (state_of old)) is can)).none own)
 
 -- why a slot isn't asked is why contents don't end
 pub asking_halts : {N S A : ℕ} (old new : Writer N S A) (t k n : ℕ) (sizing : Sizing) (why : Halt) → sizing.rule ≡ Slot t → k ≡ octets_in (state_of old) → has sizing.sizes (pos k) ≡ true → AsksHalt S A t (Equal (pos k)) old.slots.table why

@@ -14,10 +14,11 @@ use Rattle.acn_grammar.specs.declared.node.SizeRule.{SizeRule}
 use Rattle.acn_grammar.specs.declared.node.SizeRule.TheVariants.{Prefix, Slot}
 use Rattle.acn_grammar.specs.declared.node.Sizing.{Sizing}
 use Rattle.acn_events.specs.Event.{Frame, State, closes, enters, octets_in}
-use Rattle.acn_events.specs.Steps.{Can, CanClose, CanEnter, Closes, SizeFits, entered, gap_of, tail_of}
+use Rattle.acn_events.specs.Steps.{CanClose, CanEnter, Closes, SizeFits, entered, gap_of, tail_of}
 use Rattle.acn_events.proofs.Joins.{same_state}
 use Rattle.acn_writer.specs.Answers.{Comes, HaltsFor, state_of}
 use Rattle.acn_writer.specs.Slots.{OpenSlots}
+use Rattle.acn_writer.specs.declared.halt.Halt.{Halt}
 use Rattle.acn_writer.specs.declared.halt.Halt.TheVariants.{Lost}
 use Rattle.acn_writer.specs.declared.writer.Writer.{Writer}
 use Rattle.acn_writer.proofs.Buffers.{had_room}
@@ -75,8 +76,8 @@ module _ {N S A : ℕ} (old : Writer N S A) (sizing : Sizing) (low width k n : �
   abbrev EndsSo : Type 0
   EndsSo = SizedSo low width k (has sizing.sizes (pos k)) old.contents (state_of old)
 
-  pub sized_lost : (EndsSo → ⊥) → HaltsFor (λ path. closes path sizing n) old old Lost
-  sized_lost otherwise = halts_still (λ path. closes path sizing n) old Lost (λ path can. otherwise (so can))
+  pub sized_lost : (why : Halt) → why ≡ Lost → (EndsSo → ⊥) → HaltsFor (λ path. closes path sizing n) old old why
+  sized_lost why told otherwise = halts_still (λ path. closes path sizing n) old why Lost told (λ path can. otherwise (so can))
     where
       so : CanClose sizing.rule (octets_in (state_of old)) (has sizing.sizes (pos (octets_in (state_of old)))) old.contents (state_of old) → EndsSo
       so can =

@@ -1,4 +1,5 @@
 mod Abandoned
+mod Asking
 mod Breaches
 mod Buffers
 mod Endings

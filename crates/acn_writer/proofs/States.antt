@@ -1,6 +1,6 @@
 -- What the calls on the parts of a writer mean for its state: each event that comes, and each that
 -- halts.
-use Rattle.std.proofs.Common.{◌≡◌, ℕ, ◌+◌, ◌*◌, ◌^◌, ◌<◌, ◌≤◌, ℤ, pos, Bool, true, false, List, [], ◌∷◌, length, replicate, Some, None, IsTrue, refl, sym, ap, ◌∙◌, subst, arith}
+use Rattle.std.proofs.Common.{◌≡◌, ℕ, ◌+◌, ◌*◌, ◌^◌, ◌<◌, ◌≤◌, ℤ, pos, Bool, true, false, List, [], ◌∷◌, length, replicate, Option, Some, None, IsTrue, refl, sym, ap, ◌∙◌, subst, arith}
 use Rattle.std.proofs.lemmas.List.{length-replicate}
 use Rattle.acn_num.specs.Bits.{bits, low_bits}
 use Rattle.acn_num.specs.Ranges.{has}
@@ -34,10 +34,20 @@ use Rattle.acn_writer.specs.Slots.{OpenSlots}
 use Rattle.acn_writer.specs.declared.halt.Halt.{Halt}
 use Rattle.acn_writer.specs.declared.writer.Writer.{Writer}
 
--- Nothing is changed.
+-- Nothing is changed, and the reason is told.
 
-pub halts_still : {N S A : ℕ} (event_at : List ℕ → Event) (w : Writer N S A) (why : Halt) → ((path : List ℕ) → Halts (class_of S A) (event_at path) (state_of w) (halt_of path why)) → HaltsFor event_at w w why
-halts_still event_at w why h = record { halts = h; same_state = refl; same_buffer = refl }
+pub halts_still : {N S A : ℕ} (event_at : List ℕ → Event) (w : Writer N S A) (why reason : Halt) → why ≡ reason → ((path : List ℕ) → Halts (class_of S A) (event_at path) (state_of w) (halt_of path reason)) → HaltsFor event_at w w why
+halts_still {N} {S} {A} event_at w why reason told h = record { halts = λ path. subst (λ (x : Halt). Halts (class_of S A) (event_at path) (state_of w) (halt_of path x)) (sym told) (h path); same_state = refl; same_buffer = refl }
+
+-- a slot that is begun isn't begun anew
+pub begun_already : (b : Bool) → b ≡ true → b ≡ false → ⊥
+begun_already true e f = cc
+begun_already false e f = cc
+
+-- what isn't there isn't something
+pub not_both : {X : Type 0} (o : Option X) (x : X) → o ≡ None → o ≡ Some x → ⊥
+not_both None x e f = cc
+not_both (Some y) x e f = cc
 
 -- what has no room isn't put
 pub room_lost : {N S A : ℕ} (w : Writer N S A) (n : ℕ) → 8 * N < place_of w.cursor + n → Room n (state_of w) → ⊥

@@ -1,3 +1,5 @@
+ghost use Rattle.std.specs.Prelude.{◌≡◌};
+
 use acn_grammar::Ask;
 
 /// Why an event of writing doesn't come to pass.
@@ -21,4 +23,16 @@ pub enum Halt {
     Full,
     /// The event can't come here.
     Lost,
+}
+
+/// An event didn't come to pass.
+#[derive(Clone, Copy)]
+pub struct Halted;
+
+/// Tells why an event doesn't come to pass.
+pub fn tell(why: &mut Halt, reason: Halt) -> Halted
+    ensures { why.new ≡ reason }
+{
+    *why = reason;
+    Halted
 }

@@ -12,5 +12,5 @@ mod slots;
 mod text;
 mod writer;
 
-pub use halt::Halt;
+pub use halt::{Halt, Halted};
 pub use writer::Writer;

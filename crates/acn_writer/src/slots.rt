@@ -1,4 +1,4 @@
-ghost use Rattle.std.specs.Prelude.{◌≡◌, ◌+◌, ◌<◌, [], ◌∷◌, List, ℕ, ℤ, pos, true, false, Some, None, IsTrue, OnOk, OnErr, IfErr, MatchOption, length};
+ghost use Rattle.std.specs.Prelude.{◌≡◌, ◌+◌, ◌<◌, [], ◌∷◌, List, ℕ, ℤ, pos, true, false, Some, None, IsTrue, OnOk, OnErr, MatchOption, length};
 ghost use Rattle.acn_num.specs.Ranges.{In};
 ghost use Rattle.acn_bits.specs.Overwrite.{Gap};
 ghost use Rattle.acn_fill.specs.Table.{AllBegun, Keeps, OneMore, begun, gap_at};
@@ -14,7 +14,7 @@ ghost use Rattle.acn_writer.specs.Halts.{AsksHalt};
 ghost use Rattle.acn_writer.specs.Slots.{HoleEnds};
 ghost use Rattle.acn_writer.specs.declared.halt.Halt.TheVariants.{Unmet};
 
-use crate::halt::Halt;
+use crate::halt::{Halt, Halted, tell};
 use crate::leaf::{SlotLeaf, place_of};
 use acn_bits::Hole;
 use acn_fill::{Conflict, Fills};
@@ -129,48 +129,48 @@ impl<'p, const S: usize, const A: usize> Slots<'p, S, A> {
     }
 
     /// Asks a slot.
-    pub fn ask(&mut self, slot: u32, ask: Ask) -> Result<(), Halt>
+    pub fn ask(&mut self, slot: u32, ask: Ask, why: &mut Halt) -> Result<(), Halted>
         ensures begun { OnOk result (begun self.old.table slot ≡ true) }
         ensures more { OnOk result (OneMore slot (ask_of ask) self.old.table self.new.table) }
         ensures leaves { self.new.leaves ≡ self.old.leaves }
-        ensures halted { IfErr result (λ why. AsksHalt S A slot (ask_of ask) self.old.table why) }
+        ensures halted { OnErr result (AsksHalt S A slot (ask_of ask) self.old.table why.new) }
         ensures same { OnErr result (self.new ≡ self.old) }
     {
         if !self.fills.is_begun(slot) {
-            return Err(Halt::Lost);
+            return Err(tell(why, Halt::Lost));
         }
         match ask {
-            Ask::Equal(n) => self.equal(slot, n),
-            Ask::Avoid(k) => self.avoid(slot, k),
+            Ask::Equal(n) => self.equal(slot, n, why),
+            Ask::Avoid(k) => self.avoid(slot, k, why),
         }
     }
 
-    fn equal(&mut self, slot: u32, n: i128) -> Result<(), Halt>
+    fn equal(&mut self, slot: u32, n: i128, why: &mut Halt) -> Result<(), Halted>
         requires begun { begun self.old.table slot ≡ true }
         ensures more { OnOk result (OneMore slot (Equal n) self.old.table self.new.table) }
         ensures leaves { self.new.leaves ≡ self.old.leaves }
-        ensures halted { IfErr result (λ why. AsksHalt S A slot (Equal n) self.old.table why) }
+        ensures halted { OnErr result (AsksHalt S A slot (Equal n) self.old.table why.new) }
         ensures same { OnErr result (self.new ≡ self.old) }
     {
         match self.fills.equal(slot, n) {
             Ok(()) => Ok(()),
-            Err(conflict) => Err(unmet(slot, conflict)),
+            Err(conflict) => Err(tell(why, unmet(slot, conflict))),
         }
     }
 
-    fn avoid(&mut self, slot: u32, k: i128) -> Result<(), Halt>
+    fn avoid(&mut self, slot: u32, k: i128, why: &mut Halt) -> Result<(), Halted>
         requires begun { begun self.old.table slot ≡ true }
         ensures more { OnOk result (OneMore slot (Avoid k) self.old.table self.new.table) }
         ensures leaves { self.new.leaves ≡ self.old.leaves }
-        ensures halted { IfErr result (λ why. AsksHalt S A slot (Avoid k) self.old.table why) }
+        ensures halted { OnErr result (AsksHalt S A slot (Avoid k) self.old.table why.new) }
         ensures same { OnErr result (self.new ≡ self.old) }
     {
         if !self.fills.can_avoid(slot, k) {
-            return Err(Halt::Full);
+            return Err(tell(why, Halt::Full));
         }
         match self.fills.avoid(slot, k) {
             Ok(()) => Ok(()),
-            Err(conflict) => Err(unmet(slot, conflict)),
+            Err(conflict) => Err(tell(why, unmet(slot, conflict))),
         }
     }
 

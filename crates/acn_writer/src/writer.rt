@@ -1,4 +1,4 @@
-ghost use Rattle.std.specs.Prelude.{◌≡◌, ◌+◌, ◌*◌, ◌<◌, ◌≤◌, [], ◌∷◌, List, ℕ, IsTrue, OnOk, IfErr, pos, true, false, length};
+ghost use Rattle.std.specs.Prelude.{◌≡◌, ◌+◌, ◌*◌, ◌<◌, ◌≤◌, [], ◌∷◌, List, ℕ, IsTrue, OnOk, OnErr, pos, true, false, length};
 ghost use Rattle.acn_num.specs.Bits.{bits as bits_of};
 ghost use Rattle.acn_num.specs.Ranges.{has};
 ghost use Rattle.acn_bits.specs.Writing.{place_of};
@@ -19,7 +19,7 @@ use crate::cursor::{
     fits, has_room, has_room_for_hole, has_room_for_octets, is_passed, padding, put_bits,
     put_octets, put_zeros,
 };
-use crate::halt::Halt;
+use crate::halt::{Halt, Halted, tell};
 use crate::slots::{Filling, Slots};
 use crate::text::{meets, text_bits};
 use acn_bits::{Hole, WORD_BITS, WriteCursor};
@@ -33,9 +33,9 @@ use acn_text::put_text;
 /// hole, and the contents that aren't ended. There is room for `S` slots and for `S` contents, and
 /// for `A` numbers to avoid on all slots.
 ///
-/// Each event either comes to pass or halts, and where it halts nothing is changed. Since the
-/// writer keeps holes it can't be dropped: `finish` ends it where nothing is begun, and `abandon`
-/// ends it behind a halt. No call takes memory.
+/// Each event either comes to pass or halts, and where it halts nothing is changed but `why`, which
+/// then tells the reason. Since the writer keeps holes it can't be dropped: `finish` ends it where
+/// nothing is begun, and `abandon` ends it behind a halt. No call takes memory.
 pub struct Writer<'b, 'p, const N: usize, const S: usize, const A: usize> {
     cursor: WriteCursor<'b, N>,
     slots: Slots<'p, S, A>,
@@ -86,12 +86,12 @@ impl<'b, 'p, const N: usize, const S: usize, const A: usize> Writer<'b, 'p, N, S
     }
 
     /// Zeros bring the position to a multiple.
-    pub fn align(&mut self, align: u32) -> Result<(), Halt>
+    pub fn align(&mut self, align: u32, why: &mut Halt) -> Result<(), Halted>
         ensures ran { OnOk result (Comes (λ path. aligns align) self.old self.new) }
-        ensures halted { IfErr result (λ why. HaltsFor (λ path. aligns align) self.old self.new why) }
+        ensures halted { OnErr result (HaltsFor (λ path. aligns align) self.old self.new why.new) }
     {
         if align == 0 {
-            return Err(Halt::Lost);
+            return Err(tell(why, Halt::Lost));
         }
         if align == 1 {
             // No bits: it shows that the place lies in the buffer.
@@ -101,7 +101,7 @@ impl<'b, 'p, const N: usize, const S: usize, const A: usize> Writer<'b, 'p, N, S
         let position = self.position();
         let count = padding(align, position);
         if !has_room(&self.cursor, count) {
-            return Err(Halt::Lost);
+            return Err(tell(why, Halt::Lost));
         }
         put_zeros(&mut self.cursor, count);
         Ok(())
@@ -115,56 +115,56 @@ impl<'b, 'p, const N: usize, const S: usize, const A: usize> Writer<'b, 'p, N, S
     }
 
     /// Bits are copied.
-    pub fn copy_bits(&mut self, list: &[bool]) -> Result<(), Halt>
+    pub fn copy_bits(&mut self, list: &[bool], why: &mut Halt) -> Result<(), Halted>
         ensures ran { OnOk result (Comes (λ path. copies list.now) self.old self.new) }
         ensures begun { OnOk result ((homes : List (ℕ × List ℕ)) → Comes (λ path. begins homes list.now) self.old self.new) }
-        ensures halted { IfErr result (λ why. HaltsFor (λ path. copies list.now) self.old self.new why) }
-        ensures not_begun { IfErr result (λ why. (homes : List (ℕ × List ℕ)) → HaltsFor (λ path. begins homes list.now) self.old self.new why) }
+        ensures halted { OnErr result (HaltsFor (λ path. copies list.now) self.old self.new why.new) }
+        ensures not_begun { OnErr result ((homes : List (ℕ × List ℕ)) → HaltsFor (λ path. begins homes list.now) self.old self.new why.new) }
     {
         if !has_room(&self.cursor, list.len() as u64) {
-            return Err(Halt::Lost);
+            return Err(tell(why, Halt::Lost));
         }
         put_bits(&mut self.cursor, list);
         Ok(())
     }
 
     /// The bits of octets are copied.
-    pub fn copy_octets(&mut self, octets: &[u8]) -> Result<(), Halt>
+    pub fn copy_octets(&mut self, octets: &[u8], why: &mut Halt) -> Result<(), Halted>
         ensures ran { OnOk result (Comes (λ path. copies (bits_of octets.now)) self.old self.new) }
-        ensures halted { IfErr result (λ why. HaltsFor (λ path. copies (bits_of octets.now)) self.old self.new why) }
+        ensures halted { OnErr result (HaltsFor (λ path. copies (bits_of octets.now)) self.old self.new why.new) }
     {
         if !has_room_for_octets(&self.cursor, octets.len() as u64) {
-            return Err(Halt::Lost);
+            return Err(tell(why, Halt::Lost));
         }
         put_octets(&mut self.cursor, octets);
         Ok(())
     }
 
     /// A number is put in so many bits.
-    pub fn put(&mut self, width: u32, n: u64) -> Result<(), Halt>
+    pub fn put(&mut self, width: u32, n: u64, why: &mut Halt) -> Result<(), Halted>
         ensures ran { OnOk result (Comes (λ path. puts width n) self.old self.new) }
-        ensures halted { IfErr result (λ why. HaltsFor (λ path. puts width n) self.old self.new why) }
+        ensures halted { OnErr result (HaltsFor (λ path. puts width n) self.old self.new why.new) }
     {
         if !fits(width, n) {
-            return Err(Halt::Lost);
+            return Err(tell(why, Halt::Lost));
         }
         if !has_room(&self.cursor, u64::from(width)) {
-            return Err(Halt::Lost);
+            return Err(tell(why, Halt::Lost));
         }
         self.cursor.put(width, n);
         Ok(())
     }
 
     /// A size is tested, and put in front where the rule says so.
-    pub fn size(&mut self, sizing: &Sizing, n: u64) -> Result<(), Halt>
+    pub fn size(&mut self, sizing: &Sizing, n: u64, why: &mut Halt) -> Result<(), Halted>
         ensures ran { OnOk result (Comes (λ path. sizes sizing.now n) self.old self.new) }
-        ensures halted { IfErr result (λ why. HaltsFor (λ path. sizes sizing.now n) self.old self.new why) }
+        ensures halted { OnErr result (HaltsFor (λ path. sizes sizing.now n) self.old self.new why.new) }
     {
         if !sizing.sizes.holds_natural(n) {
-            return Err(Halt::Breaks);
+            return Err(tell(why, Halt::Breaks));
         }
         match &sizing.rule {
-            SizeRule::Prefix { low, width } => self.put_size(*low, *width, n),
+            SizeRule::Prefix { low, width } => self.put_size(*low, *width, n, why),
             SizeRule::Slot(_) => {
                 self.cursor.put(0, 0);
                 Ok(())
@@ -177,123 +177,123 @@ impl<'b, 'p, const N: usize, const S: usize, const A: usize> Writer<'b, 'p, N, S
     }
 
     // A size that is permitted is put in front.
-    fn put_size(&mut self, low: u64, width: u32, n: u64) -> Result<(), Halt>
+    fn put_size(&mut self, low: u64, width: u32, n: u64, why: &mut Halt) -> Result<(), Halted>
         ensures ran { OnOk result ((sizing : SizingOf) → sizing.rule ≡ Prefix low width → has sizing.sizes (pos n) ≡ true → Comes (λ path. sizes sizing n) self.old self.new) }
-        ensures halted { IfErr result (λ why. (sizing : SizingOf) → sizing.rule ≡ Prefix low width → has sizing.sizes (pos n) ≡ true → HaltsFor (λ path. sizes sizing n) self.old self.new why) }
+        ensures halted { OnErr result ((sizing : SizingOf) → sizing.rule ≡ Prefix low width → has sizing.sizes (pos n) ≡ true → HaltsFor (λ path. sizes sizing n) self.old self.new why.new) }
     {
         if n < low {
-            return Err(Halt::Lost);
+            return Err(tell(why, Halt::Lost));
         }
         if !fits(width, n - low) {
-            return Err(Halt::Lost);
+            return Err(tell(why, Halt::Lost));
         }
         if !has_room(&self.cursor, u64::from(width)) {
-            return Err(Halt::Lost);
+            return Err(tell(why, Halt::Lost));
         }
         self.cursor.put(width, n - low);
         Ok(())
     }
 
     /// A number is tested and coded.
-    pub fn code(&mut self, leaf: &NumLeaf, x: i128) -> Result<(), Halt>
+    pub fn code(&mut self, leaf: &NumLeaf, x: i128, why: &mut Halt) -> Result<(), Halted>
         requires { IsTrue (num_fine leaf.now) }
         ensures ran { OnOk result (Comes (λ path. codes leaf.now x) self.old self.new) }
-        ensures halted { IfErr result (λ why. HaltsFor (λ path. codes leaf.now x) self.old self.new why) }
+        ensures halted { OnErr result (HaltsFor (λ path. codes leaf.now x) self.old self.new why.new) }
     {
         if !leaf.set.holds(x) {
-            return Err(Halt::Breaks);
+            return Err(tell(why, Halt::Breaks));
         }
         if !has_room_for_code(&self.cursor, leaf, x) {
-            return Err(Halt::Lost);
+            return Err(tell(why, Halt::Lost));
         }
         put_num(&mut self.cursor, leaf, x);
         Ok(())
     }
 
     /// A text is tested and put.
-    pub fn text(&mut self, leaf: &TextLeaf, text: &[u8]) -> Result<(), Halt>
+    pub fn text(&mut self, leaf: &TextLeaf, text: &[u8], why: &mut Halt) -> Result<(), Halted>
         requires { IsTrue (text_fine leaf.now) }
         ensures ran { OnOk result (Comes (λ path. texts leaf.now text.now) self.old self.new) }
-        ensures halted { IfErr result (λ why. HaltsFor (λ path. texts leaf.now text.now) self.old self.new why) }
+        ensures halted { OnErr result (HaltsFor (λ path. texts leaf.now text.now) self.old self.new why.new) }
     {
         if !meets(leaf, text) {
-            return Err(Halt::Breaks);
+            return Err(tell(why, Halt::Breaks));
         }
         let bits = text_bits(leaf, text);
         if !has_room(&self.cursor, bits) {
-            return Err(Halt::Lost);
+            return Err(tell(why, Halt::Lost));
         }
         put_text(&mut self.cursor, leaf, text);
         Ok(())
     }
 
     /// A hole is left for the number of a slot.
-    pub fn open(&mut self, slot: u32, leaf: &'p NumLeaf) -> Result<(), Halt>
+    pub fn open(&mut self, slot: u32, leaf: &'p NumLeaf, why: &mut Halt) -> Result<(), Halted>
         requires { IsTrue (num_fine leaf.now) }
         ensures ran { OnOk result (Comes (λ path. opens slot leaf.now) self.old self.new) }
-        ensures halted { IfErr result (λ why. HaltsFor (λ path. opens slot leaf.now) self.old self.new why) }
+        ensures halted { OnErr result (HaltsFor (λ path. opens slot leaf.now) self.old self.new why.new) }
     {
         if self.slots.is_begun(slot) {
-            return Err(Halt::Lost);
+            return Err(tell(why, Halt::Lost));
         }
         if !self.slots.can_begin() {
-            return Err(Halt::Full);
+            return Err(tell(why, Halt::Full));
         }
         match width(leaf) {
             Some(width) => {
                 if !has_room_for_hole(&self.cursor, width) {
-                    return Err(Halt::Lost);
+                    return Err(tell(why, Halt::Lost));
                 }
                 let hole = self.cursor.hole(width);
                 let end = self.cursor.at();
                 self.slots.open(slot, leaf, hole, end);
                 Ok(())
             }
-            None => Err(Halt::Lost),
+            None => Err(tell(why, Halt::Lost)),
         }
     }
 
     /// A slot is given its own number, one of a set.
-    pub fn note(&mut self, slot: u32, set: &RangeSet, x: i128) -> Result<(), Halt>
+    pub fn note(&mut self, slot: u32, set: &RangeSet, x: i128, why: &mut Halt) -> Result<(), Halted>
         ensures ran { OnOk result (Comes (λ path. notes path slot set.now x) self.old self.new) }
-        ensures halted { IfErr result (λ why. HaltsFor (λ path. notes path slot set.now x) self.old self.new why) }
+        ensures halted { OnErr result (HaltsFor (λ path. notes path slot set.now x) self.old self.new why.new) }
     {
         if !set.holds(x) {
-            return Err(Halt::Breaks);
+            return Err(tell(why, Halt::Breaks));
         }
         if self.slots.is_begun(slot) {
-            return Err(Halt::Lost);
+            return Err(tell(why, Halt::Lost));
         }
         if !self.slots.can_begin() {
-            return Err(Halt::Full);
+            return Err(tell(why, Halt::Full));
         }
         self.slots.note(slot, x);
         Ok(())
     }
 
     /// A slot is asked.
-    pub fn want(&mut self, slot: u32, ask: Ask) -> Result<(), Halt>
+    pub fn want(&mut self, slot: u32, ask: Ask, why: &mut Halt) -> Result<(), Halted>
         ensures ran { OnOk result (Comes (λ path. wants path slot (ask_of ask)) self.old self.new) }
-        ensures halted { IfErr result (λ why. HaltsFor (λ path. wants path slot (ask_of ask)) self.old self.new why) }
+        ensures halted { OnErr result (HaltsFor (λ path. wants path slot (ask_of ask)) self.old self.new why.new) }
     {
-        match self.slots.ask(slot, ask) {
+        match self.slots.ask(slot, ask, why) {
             Ok(()) => Ok(()),
-            Err(why) => Err(why),
+            Err(halted) => Err(halted),
         }
     }
 
     /// The hole of a slot is filled, where it has one, and the slot is ended.
-    pub fn fill(&mut self, slot: u32) -> Result<(), Halt>
+    pub fn fill(&mut self, slot: u32, why: &mut Halt) -> Result<(), Halted>
         ensures ran { OnOk result (Comes (λ path. fills slot) self.old self.new) }
-        ensures halted { IfErr result (λ why. HaltsFor (λ path. fills slot) self.old self.new why) }
+        ensures halted { OnErr result (HaltsFor (λ path. fills slot) self.old self.new why.new) }
     {
         if !self.slots.is_begun(slot) {
-            return Err(Halt::Lost);
+            return Err(tell(why, Halt::Lost));
         }
         match self.slots.hole_end(slot) {
             Some(end) => {
                 if end > self.cursor.at() {
-                    return Err(Halt::Lost);
+                    return Err(tell(why, Halt::Lost));
                 }
                 let Filling { hole, leaf, number } = self.slots.end_opened(slot);
                 fill_num(&mut self.cursor, hole, leaf, number);
@@ -307,20 +307,20 @@ impl<'b, 'p, const N: usize, const S: usize, const A: usize> Writer<'b, 'p, N, S
     }
 
     /// Contents begin, behind a hole for their size where it stands in front.
-    pub fn enter(&mut self, rule: &SizeRule) -> Result<(), Halt>
+    pub fn enter(&mut self, rule: &SizeRule, why: &mut Halt) -> Result<(), Halted>
         ensures ran { OnOk result (Comes (λ path. enters rule.now) self.old self.new) }
-        ensures halted { IfErr result (λ why. HaltsFor (λ path. enters rule.now) self.old self.new why) }
+        ensures halted { OnErr result (HaltsFor (λ path. enters rule.now) self.old self.new why.new) }
     {
         if self.contents.depth() >= S {
-            return Err(Halt::Full);
+            return Err(tell(why, Halt::Full));
         }
         if self.contents.depth() >= MOST_STEPS {
-            return Err(Halt::Lost);
+            return Err(tell(why, Halt::Lost));
         }
         match rule {
             SizeRule::Prefix { low: _, width } => {
                 if !has_room_for_hole(&self.cursor, *width) {
-                    return Err(Halt::Lost);
+                    return Err(tell(why, Halt::Lost));
                 }
                 let hole = self.cursor.hole(*width);
                 let base = self.cursor.at();
@@ -332,73 +332,79 @@ impl<'b, 'p, const N: usize, const S: usize, const A: usize> Writer<'b, 'p, N, S
                 self.contents.enter_bare(base);
                 Ok(())
             }
-            SizeRule::Ended(_) => Err(Halt::Lost),
+            SizeRule::Ended(_) => Err(tell(why, Halt::Lost)),
         }
     }
 
     /// Contents end: the count of their octets is tested, and put in front or asked of a slot.
-    pub fn close(&mut self, sizing: &Sizing) -> Result<(), Halt>
+    pub fn close(&mut self, sizing: &Sizing, why: &mut Halt) -> Result<(), Halted>
         ensures ran { OnOk result ((octets : ℕ) → Comes (λ path. closes path sizing.now octets) self.old self.new) }
-        ensures halted { IfErr result (λ why. (octets : ℕ) → HaltsFor (λ path. closes path sizing.now octets) self.old self.new why) }
+        ensures halted { OnErr result ((octets : ℕ) → HaltsFor (λ path. closes path sizing.now octets) self.old self.new why.new) }
     {
         let octets = self.position() / 8;
         if !sizing.sizes.holds_natural(octets) {
-            return Err(Halt::Miscounts { octets });
+            return Err(tell(why, Halt::Miscounts { octets }));
         }
         match &sizing.rule {
-            SizeRule::Prefix { low, width } => self.close_sized(*low, *width, octets),
-            SizeRule::Slot(slot) => self.close_asking(*slot, octets),
-            SizeRule::Ended(_) => Err(Halt::Lost),
+            SizeRule::Prefix { low, width } => self.close_sized(*low, *width, octets, why),
+            SizeRule::Slot(slot) => self.close_asking(*slot, octets, why),
+            SizeRule::Ended(_) => Err(tell(why, Halt::Lost)),
         }
     }
 
     // Contents end, of which the size stands in front.
-    fn close_sized(&mut self, low: u64, width: u32, octets: u64) -> Result<(), Halt>
+    fn close_sized(
+        &mut self,
+        low: u64,
+        width: u32,
+        octets: u64,
+        why: &mut Halt,
+    ) -> Result<(), Halted>
         requires { octets ≡ octets_in (state_of self.old) }
         ensures ran { OnOk result ((sizing : SizingOf) (n : ℕ) → sizing.rule ≡ Prefix low width → has sizing.sizes (pos octets) ≡ true → Comes (λ path. closes path sizing n) self.old self.new) }
-        ensures halted { IfErr result (λ why. (sizing : SizingOf) (n : ℕ) → sizing.rule ≡ Prefix low width → has sizing.sizes (pos octets) ≡ true → HaltsFor (λ path. closes path sizing n) self.old self.new why) }
+        ensures halted { OnErr result ((sizing : SizingOf) (n : ℕ) → sizing.rule ≡ Prefix low width → has sizing.sizes (pos octets) ≡ true → HaltsFor (λ path. closes path sizing n) self.old self.new why.new) }
     {
         if octets < low {
-            return Err(Halt::Lost);
+            return Err(tell(why, Halt::Lost));
         }
         if !fits(width, octets - low) {
-            return Err(Halt::Lost);
+            return Err(tell(why, Halt::Lost));
         }
         match self.contents.hole() {
             Some(hole) => {
                 if hole.1 != width {
-                    return Err(Halt::Lost);
+                    return Err(tell(why, Halt::Lost));
                 }
                 if !is_passed(&self.cursor, hole) {
-                    return Err(Halt::Lost);
+                    return Err(tell(why, Halt::Lost));
                 }
                 let hole = self.contents.leave();
                 self.cursor.fill(hole, octets - low);
                 Ok(())
             }
-            None => Err(Halt::Lost),
+            None => Err(tell(why, Halt::Lost)),
         }
     }
 
     // Contents end, of which the size is asked of a slot.
-    fn close_asking(&mut self, slot: u32, octets: u64) -> Result<(), Halt>
+    fn close_asking(&mut self, slot: u32, octets: u64, why: &mut Halt) -> Result<(), Halted>
         requires { octets ≡ octets_in (state_of self.old) }
         ensures ran { OnOk result ((sizing : SizingOf) (n : ℕ) → sizing.rule ≡ Slot slot → has sizing.sizes (pos octets) ≡ true → Comes (λ path. closes path sizing n) self.old self.new) }
-        ensures halted { IfErr result (λ why. (sizing : SizingOf) (n : ℕ) → sizing.rule ≡ Slot slot → has sizing.sizes (pos octets) ≡ true → HaltsFor (λ path. closes path sizing n) self.old self.new why) }
+        ensures halted { OnErr result ((sizing : SizingOf) (n : ℕ) → sizing.rule ≡ Slot slot → has sizing.sizes (pos octets) ≡ true → HaltsFor (λ path. closes path sizing n) self.old self.new why.new) }
     {
         if self.contents.depth() == 0 {
-            return Err(Halt::Lost);
+            return Err(tell(why, Halt::Lost));
         }
         match self.contents.hole() {
-            Some(_) => Err(Halt::Lost),
+            Some(_) => Err(tell(why, Halt::Lost)),
             None => {
                 let ask = equal(octets);
-                match self.slots.ask(slot, ask) {
+                match self.slots.ask(slot, ask, why) {
                     Ok(()) => {
                         self.contents.leave_bare();
                         Ok(())
                     }
-                    Err(why) => Err(why),
+                    Err(halted) => Err(halted),
                 }
             }
         }

@@ -11,4 +11,4 @@ returns-in-Bit g c = λ path. nothing (presence_events path c.args.there c.args.
 
 pub returns-in-When : goal.returns-in-When
 returns-in-When g c = λ path.
-    packs_as (map (test_event path c.args.there) c.items.result.now) (presence_events path c.args.there c.args.presence.now) c.args.w.now c.ask_tests.new.w path c.ask_tests.result (ap (map (test_event path c.args.there)) c.items.ensures ∙ sym (ap (presence_events path c.args.there) c.in-When.is)) (c.ask_tests.ensures path)
+    packs_as (map (test_event path c.args.there) c.items.result.now) (presence_events path c.args.there c.args.presence.now) c.args.w.now c.ask_tests.new.w path c.ask_tests.new.why c.ask_tests.result (ap (map (test_event path c.args.there)) c.items.ensures ∙ sym (ap (presence_events path c.args.there) c.in-When.is)) (c.ask_tests.ensures path)

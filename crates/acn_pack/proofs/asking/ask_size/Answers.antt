@@ -14,5 +14,5 @@ returns-in-Ended g c = λ path. nothing (size_wants path c.args.n c.args.rule.no
 pub returns-in-Slot : goal.returns-in-Slot
 returns-in-Slot g c = λ path.
     let ask = ask_of c.equal-ask.result in
-    packs_as (wants path c.in-Slot.slot ask ∷ []) (size_wants path c.args.n c.args.rule.now) c.args.w.now c.want.new.self path c.want.result (ap (λ a. wants path c.in-Slot.slot a ∷ []) c.equal-ask.ensures ∙ sym (ap (size_wants path c.args.n) c.in-Slot.is))
-    (one (λ p. wants p c.in-Slot.slot ask) c.args.w.now c.want.new.self path c.want.result c.want.ensures.ran c.want.ensures.halted)
+    packs_as (wants path c.in-Slot.slot ask ∷ []) (size_wants path c.args.n c.args.rule.now) c.args.w.now c.want.new.self path c.want.new.why c.want.result (ap (λ a. wants path c.in-Slot.slot a ∷ []) c.equal-ask.ensures ∙ sym (ap (size_wants path c.args.n) c.in-Slot.is))
+    (one (λ p. wants p c.in-Slot.slot ask) c.args.w.now c.want.new.self path c.want.new.why c.want.result c.want.ensures.ran c.want.ensures.halted)

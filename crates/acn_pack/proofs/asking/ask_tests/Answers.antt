@@ -15,7 +15,7 @@ loop-test-preserved g c =
 pub returns-in_err-ask_test : goal.returns-in_err-ask_test
 returns-in_err-ask_test g c = λ path.
     let l = c.loop-test in
-    each_stops (test_event path c.args.there) c.args.tests.now l.test-index _ c.args.w.now l.w c.loop-test-test.true (l.invariant.done path) path c.ask_test.new.w c.in_err-ask_test.field-0.0 c.from_residual.result c.from_residual.ensures.1 (c.in_err-ask_test.ensures path)
+    each_stops (test_event path c.args.there) c.args.tests.now l.test-index _ c.args.w.now l.w c.loop-test-test.true (l.invariant.done path) path c.ask_test.new.w c.ask_test.new.why c.in_err-ask_test.field-0.0 c.from_residual.result c.from_residual.ensures.1 (c.in_err-ask_test.ensures path)
 
 pub returns : goal.returns
 returns g c = λ path.

@@ -15,7 +15,7 @@ loop-slot-preserved g c =
 pub returns-in_err-fill : goal.returns-in_err-fill
 returns-in_err-fill g c = λ path.
     let l = c.loop-slot in
-    each_stops fills c.args.home.now l.slot-index _ c.args.w.now l.w c.loop-slot-test.true l.invariant.done path c.fill.new.self c.in_err-fill.field-0.0 c.from_residual.result c.from_residual.ensures.1 (halted (fills _) l.w c.fill.new.self path c.in_err-fill.field-0.0 c.in_err-fill.ensures.halted)
+    each_stops fills c.args.home.now l.slot-index _ c.args.w.now l.w c.loop-slot-test.true l.invariant.done path c.fill.new.self c.fill.new.why c.in_err-fill.field-0.0 c.from_residual.result c.from_residual.ensures.1 (halted (fills _) l.w c.fill.new.self path c.fill.new.why c.in_err-fill.ensures.halted)
 
 pub returns : goal.returns
 returns g c = λ path.

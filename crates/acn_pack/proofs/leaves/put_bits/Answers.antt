@@ -7,7 +7,7 @@ use Rattle.acn_pack.proofs.leaves.put_bits.Goals as goal
 
 pub returns-in-Some : goal.returns-in-Some
 returns-in-Some g c = λ root path.
-    packs_as (form_events root (bits c.args.sizing.now) path (bit_string c.in-Some.bits.now)) (form_events root (bits c.args.sizing.now) path (data_of c.args.v.now)) c.args.w.now c.copy_bits.new.w path c.copy_bits.result (ap (form_events root (bits c.args.sizing.now) path) (sym c.in-Some.ensures.some)) (c.copy_bits.ensures root path)
+    packs_as (form_events root (bits c.args.sizing.now) path (bit_string c.in-Some.bits.now)) (form_events root (bits c.args.sizing.now) path (data_of c.args.v.now)) c.args.w.now c.copy_bits.new.w path c.copy_bits.new.why c.copy_bits.result (ap (form_events root (bits c.args.sizing.now) path) (sym c.in-Some.ensures.some)) (c.copy_bits.ensures root path)
 
 pub returns-in-None : goal.returns-in-None
 returns-in-None g c = λ root path. nothing (form_events root (bits c.args.sizing.now) path (data_of c.args.v.now)) c.args.w.now (c.in-None.ensures.none root c.args.sizing.now path)

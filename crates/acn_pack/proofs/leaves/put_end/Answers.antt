@@ -12,5 +12,5 @@ returns-in-Slot g c = λ path. nothing (end_events c.args.rule.now) c.args.w.now
 
 pub returns-in-Ended : goal.returns-in-Ended
 returns-in-Ended g c = λ path.
-    packs_as (copies c.bits-bits.result.now ∷ []) (end_events c.args.rule.now) c.args.w.now c.copy_bits.new.self path c.copy_bits.result (ap (λ p. copies p ∷ []) c.bits-bits.ensures.same ∙ sym (ap end_events c.in-Ended.is))
-    (one (λ p. copies c.bits-bits.result.now) c.args.w.now c.copy_bits.new.self path c.copy_bits.result c.copy_bits.ensures.ran c.copy_bits.ensures.halted)
+    packs_as (copies c.bits-bits.result.now ∷ []) (end_events c.args.rule.now) c.args.w.now c.copy_bits.new.self path c.copy_bits.new.why c.copy_bits.result (ap (λ p. copies p ∷ []) c.bits-bits.ensures.same ∙ sym (ap end_events c.in-Ended.is))
+    (one (λ p. copies c.bits-bits.result.now) c.args.w.now c.copy_bits.new.self path c.copy_bits.new.why c.copy_bits.result c.copy_bits.ensures.ran c.copy_bits.ensures.halted)

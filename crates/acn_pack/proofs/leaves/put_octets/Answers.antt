@@ -7,7 +7,7 @@ use Rattle.acn_pack.proofs.leaves.put_octets.Goals as goal
 
 pub returns-in-Some : goal.returns-in-Some
 returns-in-Some g c = λ root path.
-    packs_as (form_events root (octets c.args.sizing.now) path (octet_string c.in-Some.octets.now)) (form_events root (octets c.args.sizing.now) path (data_of c.args.v.now)) c.args.w.now c.copy_octets.new.w path c.copy_octets.result (ap (form_events root (octets c.args.sizing.now) path) (sym c.in-Some.ensures.some)) (c.copy_octets.ensures root path)
+    packs_as (form_events root (octets c.args.sizing.now) path (octet_string c.in-Some.octets.now)) (form_events root (octets c.args.sizing.now) path (data_of c.args.v.now)) c.args.w.now c.copy_octets.new.w path c.copy_octets.new.why c.copy_octets.result (ap (form_events root (octets c.args.sizing.now) path) (sym c.in-Some.ensures.some)) (c.copy_octets.ensures root path)
 
 pub returns-in-None : goal.returns-in-None
 returns-in-None g c = λ root path. nothing (form_events root (octets c.args.sizing.now) path (data_of c.args.v.now)) c.args.w.now (c.in-None.ensures.none root c.args.sizing.now path)

@@ -20,9 +20,9 @@ returns-in-Some g c = λ root path itemed.
     let slot = c.in-Item.slot in
     let item = subst (λ r. IsItemed root r c.args.place.now) c.in-Item.is itemed in
     let same = some_number c.in-Some.item _ (c.in-Some.ensures ∙ item) in
-    packs_as (wants path slot (ask_of c.equal-ask.result) ∷ []) (item_events root path c.args.rule.now (name_in c.args.place.now)) c.args.w.now c.want.new.self path c.want.result
+    packs_as (wants path slot (ask_of c.equal-ask.result) ∷ []) (item_events root path c.args.rule.now (name_in c.args.place.now)) c.args.w.now c.want.new.self path c.want.new.why c.want.result
     (ap (λ a. wants path slot a ∷ []) (c.equal-ask.ensures ∙ ap (λ (n : ℕ). Equal (pos n)) (c.from.ensures ∙ same)) ∙ ap (λ r. item_events root path r (name_in c.args.place.now)) (sym c.in-Item.is))
-    (one (λ p. wants p slot (ask_of c.equal-ask.result)) c.args.w.now c.want.new.self path c.want.result c.want.ensures.ran c.want.ensures.halted)
+    (one (λ p. wants p slot (ask_of c.equal-ask.result)) c.args.w.now c.want.new.self path c.want.new.why c.want.result c.want.ensures.ran c.want.ensures.halted)
 
 pub unreachable-requires : goal.unreachable-requires
 unreachable-requires g c =

@@ -1,5 +1,5 @@
 use Rattle.std.proofs.Common.{rules, FitsSigned, ◌≡◌, ℕ, ℤ, ◌∷◌, [], Option, sym, ap, ◌∙◌, subst}
-use Rattle.std.specs.Prelude.{IfErr, OnOk}
+use Rattle.std.specs.Prelude.{OnErr, OnOk}
 use Rattle.std.proofs.lemmas.Int.{to_z-of_z}
 use Rattle.std.specs.Int.{w128}
 use Rattle.acn_grammar.specs.Grammar.{Grammar}
@@ -26,11 +26,11 @@ returns-in-Some-number_leaf g c = λ path.
     let is = node_of_number c.args.steps.now c.args.this c.at-step.result.now leaf c.at-step.ensures c.in-Some-number_leaf.ensures.some in
     let fits : FitsSigned w128 c.number-x.result = search rules in
     let e : _ ≡ x = to_z-of_z w128 c.number-x.result fits ∙ c.number-x.ensures in
-    packs_as (notes path slot leaf.set x ∷ []) (own_events path c.args.slot n (data_of c.args.v.now)) c.args.w.now c.note.new.self path c.note.result
+    packs_as (notes path slot leaf.set x ∷ []) (own_events path c.args.slot n (data_of c.args.v.now)) c.args.w.now c.note.new.self path c.note.new.why c.note.result
     (ap (λ (y : Grammar). notes path slot (set_in y) x ∷ []) (sym is) ∙ ap (λ (s : Option ℕ). own_events path s n (data_of c.args.v.now)) (sym c.in-Some.is))
-    (one (λ p. notes p slot leaf.set x) c.args.w.now c.note.new.self path c.note.result
+    (one (λ p. notes p slot leaf.set x) c.args.w.now c.note.new.self path c.note.new.why c.note.result
     (subst (λ (z : ℤ). OnOk c.note.result (Comes (λ p. notes p slot leaf.set z) c.args.w.now c.note.new.self)) e c.note.ensures.ran)
-    (subst (λ (z : ℤ). IfErr c.note.result (HaltsFor (λ p. notes p slot leaf.set z) c.args.w.now c.note.new.self)) e c.note.ensures.halted))
+    (subst (λ (z : ℤ). OnErr c.note.result (HaltsFor (λ p. notes p slot leaf.set z) c.args.w.now c.note.new.self c.note.new.why)) e c.note.ensures.halted))
 
 pub unreachable-requires : goal.unreachable-requires
 unreachable-requires g c =

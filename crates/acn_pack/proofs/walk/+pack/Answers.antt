@@ -33,24 +33,24 @@ pub pack_step-returns-in_err-align-clause-packs : goal.pack_step-returns-in_err-
 pack_step-returns-in_err-align-clause-packs g t c =
     let root = root_of c.args.steps.now in
     let s = c.at-step.result.now in
-    let p = c.args.path.now in
+    let p = c.args.trace.now.path in
     let d = data_of c.args.v.now in
-    failed_one (events root (node_at c.args.steps.now c.args.this) p d) (form_events root (form_at c.args.steps.now c.args.this s) p d) (λ path. aligns s.align) p c.args.w.now c.args.w.now c.align.new.self c.in_err-align.field-0.0 c.from_residual.result c.from_residual.ensures.1
+    failed_one (events root (node_at c.args.steps.now c.args.this) p d) (form_events root (form_at c.args.steps.now c.args.this s) p d) (λ path. aligns s.align) p c.args.w.now c.args.w.now c.align.new.self c.align.new.why c.in_err-align.field-0.0 c.from_residual.result c.from_residual.ensures.1
     (node_begins root c.args.steps.now c.args.this s p d c.args.w.now c.at-step.ensures) c.in_err-align.ensures.halted
 
 pub pack_step-pack_body-requires : goal.pack_step-pack_body-requires
 pack_step-pack_body-requires g t c κs within =
-    (omega arith, (within, (search rules, (search rules, (search rules, (search rules, (c.requires.made, (c.requires.there, (c.at-step.ensures, body_sound (root_of c.args.steps.now) (length c.args.path.now) c.args.steps.now c.args.this c.at-step.result.now c.at-step.ensures c.requires.sound)))))))))
+    (omega arith, (within, (search rules, (search rules, (search rules, (search rules, (c.requires.made, (c.requires.there, (c.at-step.ensures, body_sound (root_of c.args.steps.now) (length c.args.trace.now.path) c.args.steps.now c.args.this c.at-step.result.now c.at-step.ensures c.requires.sound)))))))))
 
 pub pack_step-returns-clause-packs : goal.pack_step-returns-clause-packs
 pack_step-returns-clause-packs g t c =
     let root = root_of c.args.steps.now in
     let s = c.at-step.result.now in
-    let p = c.args.path.now in
+    let p = c.args.trace.now.path in
     let d = data_of c.args.v.now in
     let whole = events root (node_at c.args.steps.now c.args.this) p d in
     let rest = form_events root (form_at c.args.steps.now c.args.this s) p d in
-    last whole rest c.args.w.now c.align.new.self c.pack_body.new.w c.pack_body.new.path c.pack_body.result
+    last whole rest c.args.w.now c.align.new.self c.pack_body.new.w c.pack_body.new.trace.path c.pack_body.new.trace.why c.pack_body.result
     (then_one whole rest (λ path. aligns s.align) p c.args.w.now c.args.w.now c.align.new.self (node_begins root c.args.steps.now c.args.this s p d c.args.w.now c.at-step.ensures) c.in_ok-align.ensures.ran) c.pack_body.ensures.packs
 
 -- Bodies.
@@ -58,51 +58,51 @@ pack_step-returns-clause-packs g t c =
 pub pack_body-put_number-requires : goal.pack_body-put_number-requires
 pack_body-put_number-requires g t c =
     let root = root_of c.args.steps.now in
-    let k = length c.args.path.now in
+    let k = length c.args.trace.now.path in
     (search rules, num_is_fine root k c.in-Num.leaf (form_as root k (form_at c.args.steps.now c.args.this c.args.step.now) (num c.in-Num.leaf) (form_by c.args.steps.now c.args.this c.args.step.now (acts.Num c.in-Num.leaf) c.in-Num.is) c.requires.sound))
 
 pub pack_body-returns-in-Num-clause-packs : goal.pack_body-returns-in-Num-clause-packs
 pack_body-returns-in-Num-clause-packs g t c =
     let root = root_of c.args.steps.now in
-    let p = c.args.path.now in
+    let p = c.args.trace.now.path in
     let d = data_of c.args.v.now in
-    packs_as (form_events root (num c.in-Num.leaf) p d) (form_events root (form_at c.args.steps.now c.args.this c.args.step.now) p d) c.args.w.now c.put_number.new.w p c.put_number.result
+    packs_as (form_events root (num c.in-Num.leaf) p d) (form_events root (form_at c.args.steps.now c.args.this c.args.step.now) p d) c.args.w.now c.put_number.new.w p c.put_number.new.why c.put_number.result
     (ap (λ f. form_events root f p d) (sym (form_by c.args.steps.now c.args.this c.args.step.now (acts.Num c.in-Num.leaf) c.in-Num.is))) (c.put_number.ensures p)
 
 pub pack_body-returns-in-Octets-clause-packs : goal.pack_body-returns-in-Octets-clause-packs
 pack_body-returns-in-Octets-clause-packs g t c =
     let root = root_of c.args.steps.now in
-    let p = c.args.path.now in
+    let p = c.args.trace.now.path in
     let d = data_of c.args.v.now in
-    packs_as (form_events root (octets c.in-Octets.sizing) p d) (form_events root (form_at c.args.steps.now c.args.this c.args.step.now) p d) c.args.w.now c.put_octets.new.w p c.put_octets.result
+    packs_as (form_events root (octets c.in-Octets.sizing) p d) (form_events root (form_at c.args.steps.now c.args.this c.args.step.now) p d) c.args.w.now c.put_octets.new.w p c.put_octets.new.why c.put_octets.result
     (ap (λ f. form_events root f p d) (sym (form_by c.args.steps.now c.args.this c.args.step.now (acts.Octets c.in-Octets.sizing) c.in-Octets.is))) (c.put_octets.ensures root p)
 
 pub pack_body-returns-in-Bits-clause-packs : goal.pack_body-returns-in-Bits-clause-packs
 pack_body-returns-in-Bits-clause-packs g t c =
     let root = root_of c.args.steps.now in
-    let p = c.args.path.now in
+    let p = c.args.trace.now.path in
     let d = data_of c.args.v.now in
-    packs_as (form_events root (bits c.in-Bits.sizing) p d) (form_events root (form_at c.args.steps.now c.args.this c.args.step.now) p d) c.args.w.now c.put_bits.new.w p c.put_bits.result
+    packs_as (form_events root (bits c.in-Bits.sizing) p d) (form_events root (form_at c.args.steps.now c.args.this c.args.step.now) p d) c.args.w.now c.put_bits.new.w p c.put_bits.new.why c.put_bits.result
     (ap (λ f. form_events root f p d) (sym (form_by c.args.steps.now c.args.this c.args.step.now (acts.Bits c.in-Bits.sizing) c.in-Bits.is))) (c.put_bits.ensures root p)
 
 pub pack_body-put_text-requires : goal.pack_body-put_text-requires
 pack_body-put_text-requires g t c =
     let root = root_of c.args.steps.now in
-    let k = length c.args.path.now in
+    let k = length c.args.trace.now.path in
     (search rules, text_is_fine root k c.in-Text.leaf (form_as root k (form_at c.args.steps.now c.args.this c.args.step.now) (text c.in-Text.leaf) (form_by c.args.steps.now c.args.this c.args.step.now (acts.Text c.in-Text.leaf) c.in-Text.is) c.requires.sound))
 
 pub pack_body-returns-in-Text-clause-packs : goal.pack_body-returns-in-Text-clause-packs
 pack_body-returns-in-Text-clause-packs g t c =
     let root = root_of c.args.steps.now in
-    let p = c.args.path.now in
+    let p = c.args.trace.now.path in
     let d = data_of c.args.v.now in
-    packs_as (form_events root (text c.in-Text.leaf) p d) (form_events root (form_at c.args.steps.now c.args.this c.args.step.now) p d) c.args.w.now c.put_text.new.w p c.put_text.result
+    packs_as (form_events root (text c.in-Text.leaf) p d) (form_events root (form_at c.args.steps.now c.args.this c.args.step.now) p d) c.args.w.now c.put_text.new.w p c.put_text.new.why c.put_text.result
     (ap (λ f. form_events root f p d) (sym (form_by c.args.steps.now c.args.this c.args.step.now (acts.Text c.in-Text.leaf) c.in-Text.is))) (c.put_text.ensures root p)
 
 pub pack_body-pack_seq-requires : goal.pack_body-pack_seq-requires
 pack_body-pack_seq-requires g t c κs within =
     let root = root_of c.args.steps.now in
-    let k = length c.args.path.now in
+    let k = length c.args.trace.now.path in
     let s = c.args.step.now in
     let e = form_by c.args.steps.now c.args.this s (acts.Seq c.in-Seq.home) c.in-Seq.is ∙ ap (seq (fields_at c.args.steps.now (c.args.this + 1) s.next)) (sym c.items.ensures) in
     (omega (arith, c.requires.there), (within, (search rules, (search rules, (search rules, (search rules, (c.requires.made, ((made_nested c.args.steps.now c.requires.made c.args.this s c.requires.is).within, form_as root k (form_at c.args.steps.now c.args.this s) (seq (fields_at c.args.steps.now (c.args.this + 1) s.next) c.items.result.now) e c.requires.sound))))))))
@@ -110,16 +110,16 @@ pack_body-pack_seq-requires g t c κs within =
 pub pack_body-returns-in-Seq-clause-packs : goal.pack_body-returns-in-Seq-clause-packs
 pack_body-returns-in-Seq-clause-packs g t c =
     let root = root_of c.args.steps.now in
-    let p = c.args.path.now in
+    let p = c.args.trace.now.path in
     let d = data_of c.args.v.now in
     let s = c.args.step.now in
     let e = form_by c.args.steps.now c.args.this s (acts.Seq c.in-Seq.home) c.in-Seq.is ∙ ap (seq (fields_at c.args.steps.now (c.args.this + 1) s.next)) (sym c.items.ensures) in
-    packs_as (form_events root (seq (fields_at c.args.steps.now (c.args.this + 1) s.next) c.items.result.now) p d) (form_events root (form_at c.args.steps.now c.args.this s) p d) c.args.w.now c.pack_seq.new.w c.pack_seq.new.path c.pack_seq.result (ap (λ f. form_events root f p d) (sym e)) c.pack_seq.ensures.packs
+    packs_as (form_events root (seq (fields_at c.args.steps.now (c.args.this + 1) s.next) c.items.result.now) p d) (form_events root (form_at c.args.steps.now c.args.this s) p d) c.args.w.now c.pack_seq.new.w c.pack_seq.new.trace.path c.pack_seq.new.trace.why c.pack_seq.result (ap (λ f. form_events root f p d) (sym e)) c.pack_seq.ensures.packs
 
 pub pack_body-pack_list-requires : goal.pack_body-pack_list-requires
 pack_body-pack_list-requires g t c κs within =
     let root = root_of c.args.steps.now in
-    let k = length c.args.path.now in
+    let k = length c.args.trace.now.path in
     let s = c.args.step.now in
     let inside = child_inside c.args.steps.now c.args.this s (acts.List c.in-List.sizing) (made_nested c.args.steps.now c.requires.made) c.requires.is c.in-List.is (λ x. x) in
     (omega (arith, c.requires.there), (within, (search rules, (search rules, (search rules, (search rules, (c.requires.made, (inside, form_as root k (form_at c.args.steps.now c.args.this s) (list c.in-List.sizing (node_at c.args.steps.now (c.args.this + 1))) (form_by c.args.steps.now c.args.this s (acts.List c.in-List.sizing) c.in-List.is) c.requires.sound))))))))
@@ -127,15 +127,15 @@ pack_body-pack_list-requires g t c κs within =
 pub pack_body-returns-in-List-clause-packs : goal.pack_body-returns-in-List-clause-packs
 pack_body-returns-in-List-clause-packs g t c =
     let root = root_of c.args.steps.now in
-    let p = c.args.path.now in
+    let p = c.args.trace.now.path in
     let d = data_of c.args.v.now in
-    packs_as (form_events root (list c.in-List.sizing (node_at c.args.steps.now (c.args.this + 1))) p d) (form_events root (form_at c.args.steps.now c.args.this c.args.step.now) p d) c.args.w.now c.pack_list.new.w c.pack_list.new.path c.pack_list.result
+    packs_as (form_events root (list c.in-List.sizing (node_at c.args.steps.now (c.args.this + 1))) p d) (form_events root (form_at c.args.steps.now c.args.this c.args.step.now) p d) c.args.w.now c.pack_list.new.w c.pack_list.new.trace.path c.pack_list.new.trace.why c.pack_list.result
     (ap (λ f. form_events root f p d) (sym (form_by c.args.steps.now c.args.this c.args.step.now (acts.List c.in-List.sizing) c.in-List.is))) c.pack_list.ensures.packs
 
 pub pack_body-pack_choice-requires : goal.pack_body-pack_choice-requires
 pack_body-pack_choice-requires g t c κs within =
     let root = root_of c.args.steps.now in
-    let k = length c.args.path.now in
+    let k = length c.args.trace.now.path in
     let s = c.args.step.now in
     let same : (other : Step) → StepAt c.args.steps.now c.args.this other → s ≡ other = λ other h. same_step c.args.steps.now c.args.this s other c.requires.is h in
     (omega (arith, c.requires.there), (within, (search rules, (search rules, (search rules, (search rules, (c.requires.made, (c.requires.there, ((λ other h. subst (λ x. x.act ≡ acts.Choice c.in-Choice.rule) (same other h) c.in-Choice.is), (λ other h. subst (λ x. FormIsSound root k (form_at c.args.steps.now c.args.this x)) (same other h) c.requires.sound))))))))))
@@ -146,7 +146,7 @@ pack_body-returns-in-Choice-clause-packs g t c = c.pack_choice.ensures.packs c.a
 pub pack_body-pack_contained-requires : goal.pack_body-pack_contained-requires
 pack_body-pack_contained-requires g t c κs within =
     let root = root_of c.args.steps.now in
-    let k = length c.args.path.now in
+    let k = length c.args.trace.now.path in
     let s = c.args.step.now in
     let inside = child_inside c.args.steps.now c.args.this s (acts.Contained c.in-Contained.sizing) (made_nested c.args.steps.now c.requires.made) c.requires.is c.in-Contained.is (λ x. x) in
     (omega (arith, c.requires.there), (within, (search rules, (search rules, (search rules, (search rules, (c.requires.made, (inside, form_as root k (form_at c.args.steps.now c.args.this s) (contained c.in-Contained.sizing (node_at c.args.steps.now (c.args.this + 1))) (form_by c.args.steps.now c.args.this s (acts.Contained c.in-Contained.sizing) c.in-Contained.is) c.requires.sound))))))))
@@ -154,28 +154,28 @@ pack_body-pack_contained-requires g t c κs within =
 pub pack_body-returns-in-Contained-clause-packs : goal.pack_body-returns-in-Contained-clause-packs
 pack_body-returns-in-Contained-clause-packs g t c =
     let root = root_of c.args.steps.now in
-    let p = c.args.path.now in
+    let p = c.args.trace.now.path in
     let d = data_of c.args.v.now in
-    packs_as (form_events root (contained c.in-Contained.sizing (node_at c.args.steps.now (c.args.this + 1))) p d) (form_events root (form_at c.args.steps.now c.args.this c.args.step.now) p d) c.args.w.now c.pack_contained.new.w c.pack_contained.new.path c.pack_contained.result
+    packs_as (form_events root (contained c.in-Contained.sizing (node_at c.args.steps.now (c.args.this + 1))) p d) (form_events root (form_at c.args.steps.now c.args.this c.args.step.now) p d) c.args.w.now c.pack_contained.new.w c.pack_contained.new.trace.path c.pack_contained.new.trace.why c.pack_contained.result
     (ap (λ f. form_events root f p d) (sym (form_by c.args.steps.now c.args.this c.args.step.now (acts.Contained c.in-Contained.sizing) c.in-Contained.is))) c.pack_contained.ensures.packs
 
 -- A node inside another.
 
 pub pack_child-push-requires : goal.pack_child-push-requires
 pack_child-push-requires g t c =
-    let deep = depth_is (root_of c.args.steps.now) (suc (length c.args.path.now)) (node_at c.args.steps.now c.args.this) c.requires.sound in omega (arith, deep)
+    let deep = depth_is (root_of c.args.steps.now) (suc (length c.args.trace.now.path)) (node_at c.args.steps.now c.args.this) c.requires.sound in omega (arith, deep)
 
 pub pack_child-pack_step-requires : goal.pack_child-pack_step-requires
 pack_child-pack_step-requires g t c κs within =
-    (omega arith, (within, (search rules, (search rules, (search rules, (search rules, (c.requires.made, (c.requires.there, deeper (root_of c.args.steps.now) (length c.args.path.now) c.args.path.now c.push.new.self c.args.k (node_at c.args.steps.now c.args.this) refl c.push.ensures c.requires.sound))))))))
+    (omega arith, (within, (search rules, (search rules, (search rules, (search rules, (c.requires.made, (c.requires.there, deeper (root_of c.args.steps.now) (length c.args.trace.now.path) c.args.trace.now.path c.push.new.self c.args.k (node_at c.args.steps.now c.args.this) refl c.push.ensures c.requires.sound))))))))
 
 pub pack_child-returns-in_err-pack_step-clause-packs : goal.pack_child-returns-in_err-pack_step-clause-packs
 pack_child-returns-in_err-pack_step-clause-packs g t c =
     let root = root_of c.args.steps.now in
     let n = node_at c.args.steps.now c.args.this in
     let d = data_of c.args.v.now in
-    failed (events root n (c.args.path.now ++ c.args.k ∷ []) d) c.args.w.now c.pack_step.new.w c.pack_step.new.path c.in_err-pack_step.field-0.0 c.from_residual.result c.from_residual.ensures.1
-    (stopped_as (events root n c.push.new.self d) (events root n (c.args.path.now ++ c.args.k ∷ []) d) c.args.w.now c.pack_step.new.w _ (ap (λ (q : List ℕ). events root n q d) c.push.ensures) c.in_err-pack_step.ensures.packs)
+    failed (events root n (c.args.trace.now.path ++ c.args.k ∷ []) d) c.args.w.now c.pack_step.new.w c.pack_step.new.trace.path c.pack_step.new.trace.why c.in_err-pack_step.field-0.0 c.from_residual.result c.from_residual.ensures.1
+    (stopped_as (events root n c.push.new.self d) (events root n (c.args.trace.now.path ++ c.args.k ∷ []) d) c.args.w.now c.pack_step.new.w _ (ap (λ (q : List ℕ). events root n q d) c.push.ensures) c.in_err-pack_step.ensures.packs)
 
 pub pack_child-returns-clause-packs : goal.pack_child-returns-clause-packs
 pack_child-returns-clause-packs g t c =
@@ -190,53 +190,53 @@ pub pack_seq-returns-in-Some-clause-packs : goal.pack_seq-returns-in-Some-clause
 pack_seq-returns-in-Some-clause-packs g t c =
     let root = root_of c.args.steps.now in
     let form = seq (fields_at c.args.steps.now c.args.first c.args.end) c.args.home.now in
-    packs_as (form_events root form c.args.path.now (record_of (places_view c.in-Some.places.now))) (form_events root form c.args.path.now (data_of c.args.v.now)) c.args.w.now c.pack_places.new.w c.pack_places.new.path c.pack_places.result (ap (form_events root form c.args.path.now) (sym c.in-Some.ensures.some)) c.pack_places.ensures.packs
+    packs_as (form_events root form c.args.trace.now.path (record_of (places_view c.in-Some.places.now))) (form_events root form c.args.trace.now.path (data_of c.args.v.now)) c.args.w.now c.pack_places.new.w c.pack_places.new.trace.path c.pack_places.new.trace.why c.pack_places.result (ap (form_events root form c.args.trace.now.path) (sym c.in-Some.ensures.some)) c.pack_places.ensures.packs
 
 pub pack_seq-returns-in-None-clause-packs : goal.pack_seq-returns-in-None-clause-packs
 pack_seq-returns-in-None-clause-packs g t c =
     let root = root_of c.args.steps.now in
     let fields = fields_at c.args.steps.now c.args.first c.args.end in
-    nothing (form_events root (seq fields c.args.home.now) c.args.path.now (data_of c.args.v.now)) c.args.w.now (c.in-None.ensures.none root fields c.args.home.now c.args.path.now)
+    nothing (form_events root (seq fields c.args.home.now) c.args.trace.now.path (data_of c.args.v.now)) c.args.w.now (c.in-None.ensures.none root fields c.args.home.now c.args.trace.now.path)
 
 pub pack_places-pack_fields-requires : goal.pack_places-pack_fields-requires
 pack_places-pack_fields-requires g t c κs within =
-    (omega arith, (within, (search rules, (search rules, (search rules, (search rules, (c.requires.made, (c.requires.within, fields_sound (root_of c.args.steps.now) (length c.args.path.now) (fields_at c.args.steps.now c.args.first c.args.end) c.args.home.now c.requires.sound))))))))
+    (omega arith, (within, (search rules, (search rules, (search rules, (search rules, (c.requires.made, (c.requires.within, fields_sound (root_of c.args.steps.now) (length c.args.trace.now.path) (fields_at c.args.steps.now c.args.first c.args.end) c.args.home.now c.requires.sound))))))))
 
 pub pack_places-returns-in_err-put_flags-clause-packs : goal.pack_places-returns-in_err-put_flags-clause-packs
 pack_places-returns-in_err-put_flags-clause-packs g t c =
     let root = root_of c.args.steps.now in
-    let p = c.args.path.now in
+    let p = c.args.trace.now.path in
     let fields = fields_at c.args.steps.now c.args.first c.args.end in
     let ps = places_view c.args.places.now in
     let homes = map (λ s. (s, field_path p fields s)) c.args.home.now in
     let whole = form_events root (seq fields c.args.home.now) p (record_of ps) in
-    failed_some whole (begins homes (presence_bits fields ps) ∷ []) (field_events root fields p 0 ps ++ map fills c.args.home.now) p c.args.w.now c.args.w.now c.put_flags.new.w c.in_err-put_flags.field-0.0 c.from_residual.result c.from_residual.ensures.1 (begin whole c.args.w.now) (c.in_err-put_flags.ensures homes p)
+    failed_some whole (begins homes (presence_bits fields ps) ∷ []) (field_events root fields p 0 ps ++ map fills c.args.home.now) p c.args.w.now c.args.w.now c.put_flags.new.w c.put_flags.new.why c.in_err-put_flags.field-0.0 c.from_residual.result c.from_residual.ensures.1 (begin whole c.args.w.now) (c.in_err-put_flags.ensures homes p)
 
 pub pack_places-returns-in_err-pack_fields-clause-packs : goal.pack_places-returns-in_err-pack_fields-clause-packs
 pack_places-returns-in_err-pack_fields-clause-packs g t c =
     let root = root_of c.args.steps.now in
-    let p = c.args.path.now in
+    let p = c.args.trace.now.path in
     let fields = fields_at c.args.steps.now c.args.first c.args.end in
     let ps = places_view c.args.places.now in
     let homes = map (λ s. (s, field_path p fields s)) c.args.home.now in
     let whole = form_events root (seq fields c.args.home.now) p (record_of ps) in
     let inside = field_events root fields p 0 ps in
-    failed_some whole inside (map fills c.args.home.now) c.pack_fields.new.path c.args.w.now c.put_flags.new.w c.pack_fields.new.w c.in_err-pack_fields.field-0.0 c.from_residual-in_err-pack_fields.result c.from_residual-in_err-pack_fields.ensures.1
+    failed_some whole inside (map fills c.args.home.now) c.pack_fields.new.trace.path c.args.w.now c.put_flags.new.w c.pack_fields.new.w c.pack_fields.new.trace.why c.in_err-pack_fields.field-0.0 c.from_residual-in_err-pack_fields.result c.from_residual-in_err-pack_fields.ensures.1
     (then_some whole (begins homes (presence_bits fields ps) ∷ []) (inside ++ map fills c.args.home.now) c.args.w.now c.args.w.now c.put_flags.new.w (begin whole c.args.w.now) (c.in_ok-put_flags.ensures homes p)) c.in_err-pack_fields.ensures.packs
 
 pub pack_places-returns-clause-packs : goal.pack_places-returns-clause-packs
 pack_places-returns-clause-packs g t c =
     let root = root_of c.args.steps.now in
-    let p = c.args.path.now in
+    let p = c.args.trace.now.path in
     let fields = fields_at c.args.steps.now c.args.first c.args.end in
     let ps = places_view c.args.places.now in
     let homes = map (λ s. (s, field_path p fields s)) c.args.home.now in
     let whole = form_events root (seq fields c.args.home.now) p (record_of ps) in
     let inside = field_events root fields p 0 ps in
     let home = map fills c.args.home.now in
-    last whole home c.args.w.now c.pack_fields.new.w c.fill_home.new.w c.pack_fields.new.path c.fill_home.result
+    last whole home c.args.w.now c.pack_fields.new.w c.fill_home.new.w c.pack_fields.new.trace.path c.fill_home.new.why c.fill_home.result
     (then_some whole inside home c.args.w.now c.put_flags.new.w c.pack_fields.new.w (then_some whole (begins homes (presence_bits fields ps) ∷ []) (inside ++ home) c.args.w.now c.args.w.now c.put_flags.new.w (begin whole c.args.w.now) (c.in_ok-put_flags.ensures homes p)) c.in_ok-pack_fields.ensures.packs)
-    (c.fill_home.ensures c.pack_fields.new.path)
+    (c.fill_home.ensures c.pack_fields.new.trace.path)
 
 -- Fields.
 
@@ -247,7 +247,7 @@ pack_fields-loop-this-init g t c = record {
   within = omega arith;
   path = refl;
   sound = c.requires.sound;
-  done = begin (field_events (root_of c.args.steps.now) (fields_at c.args.steps.now c.args.first c.args.end) c.args.path.now 0 (places_view c.args.places.now)) c.args.w.now;
+  done = begin (field_events (root_of c.args.steps.now) (fields_at c.args.steps.now c.args.first c.args.end) c.args.trace.now.path 0 (places_view c.args.places.now)) c.args.w.now;
 }
 
 pub pack_fields-at-step-requires : goal.pack_fields-at-step-requires
@@ -262,7 +262,7 @@ pack_fields-pack_field-requires g t c κs within =
     let a = c.loop-this-test.true in
     let b = c.requires.within in
     let e = l.invariant.from in
-    let sound = subst (λ (fs : Fields). FieldsAreSound root (suc (length c.args.path.now)) fs) more l.invariant.sound in
+    let sound = subst (λ (fs : Fields). FieldsAreSound root (suc (length c.args.trace.now.path)) fs) more l.invariant.sound in
     (omega (arith, a, b, e), (within, (search rules, (search rules, (search rules, (search rules, (c.requires.made, (omega (arith, a, b), (l.invariant.within, (fields_at c.args.steps.now s.next c.args.end, s, c.at-step.ensures, subst (λ (q : List ℕ). FieldsAreSound root (suc (length q)) (with_field (field_by s.place (node_at c.args.steps.now l.this)) (fields_at c.args.steps.now s.next c.args.end))) (sym l.invariant.path) sound))))))))))
 
 pub pack_fields-loop-this-preserved : goal.pack_fields-loop-this-preserved
@@ -279,8 +279,8 @@ pack_fields-loop-this-preserved g t c =
       few = omega (arith, up, l.invariant.few);
       within = subst (λ (o : Option ℕ). IfSome o (λ n. n ≤ length c.args.places.now)) c.in-Ok-Some.field-0-is c.in-Ok-Some.ensures.within;
       path = c.in-Ok-Some.ensures.path ∙ l.invariant.path;
-      sound = rest_sound root (suc (length c.args.path.now)) s.place (node_at c.args.steps.now l.this) fs (subst (λ (x : Fields). FieldsAreSound root (suc (length c.args.path.now)) x) more l.invariant.sound);
-      done = field_on root (field_events root (fields_at c.args.steps.now c.args.first c.args.end) c.args.path.now 0 (places_view c.args.places.now)) (fields_at c.args.steps.now l.this c.args.end) one fs c.args.path.now l.path l.k l.next c.args.places.now c.args.w.now l.w c.pack_field.new.w more l.invariant.path l.invariant.done c.in-Ok-Some.behind (left_as _ _ _ l.w c.pack_field.new.w (ap (left_of root fs l.path (suc l.k) c.args.places.now) c.in-Ok-Some.field-0-is) (c.in-Ok-Some.ensures.packs fs s c.at-step.ensures));
+      sound = rest_sound root (suc (length c.args.trace.now.path)) s.place (node_at c.args.steps.now l.this) fs (subst (λ (x : Fields). FieldsAreSound root (suc (length c.args.trace.now.path)) x) more l.invariant.sound);
+      done = field_on root (field_events root (fields_at c.args.steps.now c.args.first c.args.end) c.args.trace.now.path 0 (places_view c.args.places.now)) (fields_at c.args.steps.now l.this c.args.end) one fs c.args.trace.now.path l.trace.path l.k l.next c.args.places.now c.args.w.now l.w c.pack_field.new.w more l.invariant.path l.invariant.done c.in-Ok-Some.behind (left_as _ _ _ l.w c.pack_field.new.w (ap (left_of root fs l.trace.path (suc l.k) c.args.places.now) c.in-Ok-Some.field-0-is) (c.in-Ok-Some.ensures.packs fs s c.at-step.ensures));
     }
 
 pub pack_fields-returns-in-Ok-None-clause-packs : goal.pack_fields-returns-in-Ok-None-clause-packs
@@ -292,7 +292,7 @@ pack_fields-returns-in-Ok-None-clause-packs g t c =
     let more = fields_more c.args.steps.now l.this c.args.end s c.at-step.ensures c.loop-this-test.true up in
     let fs = fields_at c.args.steps.now s.next c.args.end in
     let one = field_by s.place (node_at c.args.steps.now l.this) in
-    field_ends root (field_events root (fields_at c.args.steps.now c.args.first c.args.end) c.args.path.now 0 (places_view c.args.places.now)) (fields_at c.args.steps.now l.this c.args.end) one fs c.args.path.now l.path l.k l.next c.args.places.now c.args.w.now l.w c.pack_field.new.w more l.invariant.path l.invariant.done (left_as _ _ _ l.w c.pack_field.new.w (ap (left_of root fs l.path (suc l.k) c.args.places.now) c.in-Ok-None.field-0-is) (c.in-Ok-None.ensures.packs fs s c.at-step.ensures))
+    field_ends root (field_events root (fields_at c.args.steps.now c.args.first c.args.end) c.args.trace.now.path 0 (places_view c.args.places.now)) (fields_at c.args.steps.now l.this c.args.end) one fs c.args.trace.now.path l.trace.path l.k l.next c.args.places.now c.args.w.now l.w c.pack_field.new.w more l.invariant.path l.invariant.done (left_as _ _ _ l.w c.pack_field.new.w (ap (left_of root fs l.trace.path (suc l.k) c.args.places.now) c.in-Ok-None.field-0-is) (c.in-Ok-None.ensures.packs fs s c.at-step.ensures))
 
 pub pack_fields-returns-in-Err-clause-packs : goal.pack_fields-returns-in-Err-clause-packs
 pack_fields-returns-in-Err-clause-packs g t c =
@@ -303,15 +303,15 @@ pack_fields-returns-in-Err-clause-packs g t c =
     let more = fields_more c.args.steps.now l.this c.args.end s c.at-step.ensures c.loop-this-test.true up in
     let fs = fields_at c.args.steps.now s.next c.args.end in
     let one = field_by s.place (node_at c.args.steps.now l.this) in
-    field_stops root (field_events root (fields_at c.args.steps.now c.args.first c.args.end) c.args.path.now 0 (places_view c.args.places.now)) (fields_at c.args.steps.now l.this c.args.end) one fs c.args.path.now l.path l.k l.next c.args.places.now c.args.w.now l.w c.pack_field.new.w more l.invariant.path l.invariant.done _ (c.in-Err.ensures.packs fs s c.at-step.ensures)
+    field_stops root (field_events root (fields_at c.args.steps.now c.args.first c.args.end) c.args.trace.now.path 0 (places_view c.args.places.now)) (fields_at c.args.steps.now l.this c.args.end) one fs c.args.trace.now.path l.trace.path l.k l.next c.args.places.now c.args.w.now l.w c.pack_field.new.w more l.invariant.path l.invariant.done _ (c.in-Err.ensures.packs fs s c.at-step.ensures)
 
 pub pack_fields-returns-clause-packs : goal.pack_fields-returns-clause-packs
 pack_fields-returns-clause-packs g t c =
     let l = c.loop-this in
     let root = root_of c.args.steps.now in
-    let whole = field_events root (fields_at c.args.steps.now c.args.first c.args.end) c.args.path.now 0 (places_view c.args.places.now) in
+    let whole = field_events root (fields_at c.args.steps.now c.args.first c.args.end) c.args.trace.now.path 0 (places_view c.args.places.now) in
     let none = fields_none c.args.steps.now l.this c.args.end (let o = c.loop-this-test.false in omega (arith, o)) in
-    ended whole c.args.w.now l.w (left_as whole (field_events root (fields_at c.args.steps.now l.this c.args.end) c.args.path.now l.k (places_view (drop l.next c.args.places.now))) [] c.args.w.now l.w (ap (λ (fs : Fields). field_events root fs c.args.path.now l.k (places_view (drop l.next c.args.places.now))) none) l.invariant.done)
+    ended whole c.args.w.now l.w (left_as whole (field_events root (fields_at c.args.steps.now l.this c.args.end) c.args.trace.now.path l.k (places_view (drop l.next c.args.places.now))) [] c.args.w.now l.w (ap (λ (fs : Fields). field_events root fs c.args.trace.now.path l.k (places_view (drop l.next c.args.places.now))) none) l.invariant.done)
 
 pub pack_fields-returns-clause-path : goal.pack_fields-returns-clause-path
 pack_fields-returns-clause-path g t c = c.loop-this.invariant.path
@@ -330,7 +330,7 @@ pack_fields-overflow_add-k g t c =
 pub pack_field-pack_component-requires : goal.pack_field-pack_component-requires
 pack_field-pack_component-requires g t c κs within =
     let root = root_of c.args.steps.now in
-    let k = suc (length c.args.path.now) in
+    let k = suc (length c.args.trace.now.path) in
     let r = c.requires.sound in
     let n = node_at c.args.steps.now c.args.this in
     let m = c.in-Some.ensures.some in
@@ -344,8 +344,8 @@ pack_field-returns-in_err-pack_component-in-Some-get-clause-packs g t c fs s h =
     let m = c.in-Some.ensures.some in
     let field = ap (λ x. field_by x.place n) (same_step c.args.steps.now c.args.this s c.at-step.result.now h c.at-step.ensures) ∙ m.2 n in
     let there = c.in-Some-get.ensures.lookup in
-    failed_to (field_events (root_of c.args.steps.now) (with_field (field_by s.place n) fs) c.args.path.now c.args.k (places_view (drop c.args.next c.args.places.now))) (left_of (root_of c.args.steps.now) fs c.args.path.now (suc c.args.k) c.args.places.now) c.args.w.now c.pack_component.new.w c.pack_component.new.path c.in_err-pack_component-in-Some-get.field-0.0 c.from_residual.result c.from_residual.ensures.1
-    (component_stops (root_of c.args.steps.now) (field_by s.place n) m.0 n c.in-Some.component.presence.now m.1 c.in-Some.component.slot fs c.args.path.now c.args.k c.args.next c.in-Some-get.place.now c.args.places.now c.args.w.now c.pack_component.new.w _ field (below _ _ there.0) there.1 c.in_err-pack_component-in-Some-get.ensures.packs)
+    failed_to (field_events (root_of c.args.steps.now) (with_field (field_by s.place n) fs) c.args.trace.now.path c.args.k (places_view (drop c.args.next c.args.places.now))) (left_of (root_of c.args.steps.now) fs c.args.trace.now.path (suc c.args.k) c.args.places.now) c.args.w.now c.pack_component.new.w c.pack_component.new.trace.path c.pack_component.new.trace.why c.in_err-pack_component-in-Some-get.field-0.0 c.from_residual.result c.from_residual.ensures.1
+    (component_stops (root_of c.args.steps.now) (field_by s.place n) m.0 n c.in-Some.component.presence.now m.1 c.in-Some.component.slot fs c.args.trace.now.path c.args.k c.args.next c.in-Some-get.place.now c.args.places.now c.args.w.now c.pack_component.new.w _ field (below _ _ there.0) there.1 c.in_err-pack_component-in-Some-get.ensures.packs)
 
 pub pack_field-returns-in_ok-pack_component-in-Some-get-clause-packs : goal.pack_field-returns-in_ok-pack_component-in-Some-get-clause-packs
 pack_field-returns-in_ok-pack_component-in-Some-get-clause-packs g t c fs s h =
@@ -353,20 +353,20 @@ pack_field-returns-in_ok-pack_component-in-Some-get-clause-packs g t c fs s h =
     let m = c.in-Some.ensures.some in
     let field = ap (λ x. field_by x.place n) (same_step c.args.steps.now c.args.this s c.at-step.result.now h c.at-step.ensures) ∙ m.2 n in
     let there = c.in-Some-get.ensures.lookup in
-    component_on (root_of c.args.steps.now) (field_by s.place n) m.0 n c.in-Some.component.presence.now m.1 c.in-Some.component.slot fs c.args.path.now c.args.k c.args.next c.in-Some-get.place.now c.args.places.now c.args.w.now c.pack_component.new.w field (below _ _ there.0) there.1 c.in_ok-pack_component-in-Some-get.ensures.packs
+    component_on (root_of c.args.steps.now) (field_by s.place n) m.0 n c.in-Some.component.presence.now m.1 c.in-Some.component.slot fs c.args.trace.now.path c.args.k c.args.next c.in-Some-get.place.now c.args.places.now c.args.w.now c.pack_component.new.w field (below _ _ there.0) there.1 c.in_ok-pack_component-in-Some-get.ensures.packs
 
 pub pack_field-returns-in-None-get-clause-packs : goal.pack_field-returns-in-None-get-clause-packs
 pack_field-returns-in-None-get-clause-packs g t c fs s h =
     let n = node_at c.args.steps.now c.args.this in
     let m = c.in-Some.ensures.some in
     let field = ap (λ x. field_by x.place n) (same_step c.args.steps.now c.args.this s c.at-step.result.now h c.at-step.ensures) ∙ m.2 n in
-    component_ends (root_of c.args.steps.now) (field_by s.place n) m.0 n c.in-Some.component.presence.now m.1 c.in-Some.component.slot fs c.args.path.now c.args.k c.args.next c.args.places.now c.args.w.now field (c.in-None-get.ensures {u = tt}).lookup.3
+    component_ends (root_of c.args.steps.now) (field_by s.place n) m.0 n c.in-Some.component.presence.now m.1 c.in-Some.component.slot fs c.args.trace.now.path c.args.k c.args.next c.args.places.now c.args.w.now field (c.in-None-get.ensures {u = tt}).lookup.3
 
 pub pack_field-put_inserted-requires : goal.pack_field-put_inserted-requires
 pack_field-put_inserted-requires g t c =
     let r = c.requires.sound in
     let n = node_at c.args.steps.now c.args.this in
-    (search rules, (c.requires.there, (root_of c.args.steps.now, suc (length c.args.path.now), head_sound (root_of c.args.steps.now) (suc (length c.args.path.now)) r.1.place n r.0 r.3)))
+    (search rules, (c.requires.there, (root_of c.args.steps.now, suc (length c.args.trace.now.path), head_sound (root_of c.args.steps.now) (suc (length c.args.trace.now.path)) r.1.place n r.0 r.3)))
 
 pub pack_field-returns-in_err-put_inserted-in-None-clause-packs : goal.pack_field-returns-in_err-put_inserted-in-None-clause-packs
 pack_field-returns-in_err-put_inserted-in-None-clause-packs g t c fs s h =
@@ -375,8 +375,8 @@ pack_field-returns-in_err-put_inserted-in-None-clause-packs g t c fs s h =
     let same = same_step c.args.steps.now c.args.this s c.at-step.result.now h c.at-step.ensures in
     let slot = c.inserted_slot-slot.ensures n n m.0 m.1 m.2 in
     let field = ap (λ x. field_by x.place n) same ∙ m.2 in
-    failed_to (field_events (root_of c.args.steps.now) (with_field (field_by s.place n) fs) c.args.path.now c.args.k (places_view (drop c.args.next c.args.places.now))) (left_of (root_of c.args.steps.now) fs c.args.path.now (suc c.args.k) c.args.places.now) c.args.w.now c.put_inserted.new.w c.args.path.now c.in_err-put_inserted-in-None.field-0.0 c.from_residual-in_err-put_inserted-in-None.result c.from_residual-in_err-put_inserted-in-None.ensures.1
-    (inserted_stops (root_of c.args.steps.now) (field_by s.place n) m.0 n m.1 fs c.args.path.now c.args.k c.args.next c.args.places.now c.args.w.now c.put_inserted.new.w (halt_of c.args.path.now c.in_err-put_inserted-in-None.field-0.0) field (subst (λ (x : Option ℕ). Stopped (inserted_events x n) c.args.w.now c.put_inserted.new.w (halt_of c.args.path.now c.in_err-put_inserted-in-None.field-0.0)) slot (c.in_err-put_inserted-in-None.ensures c.args.path.now)))
+    failed_to (field_events (root_of c.args.steps.now) (with_field (field_by s.place n) fs) c.args.trace.now.path c.args.k (places_view (drop c.args.next c.args.places.now))) (left_of (root_of c.args.steps.now) fs c.args.trace.now.path (suc c.args.k) c.args.places.now) c.args.w.now c.put_inserted.new.w c.args.trace.now.path c.put_inserted.new.why c.in_err-put_inserted-in-None.field-0.0 c.from_residual-in_err-put_inserted-in-None.result c.from_residual-in_err-put_inserted-in-None.ensures.1
+    (inserted_stops (root_of c.args.steps.now) (field_by s.place n) m.0 n m.1 fs c.args.trace.now.path c.args.k c.args.next c.args.places.now c.args.w.now c.put_inserted.new.w (halt_of c.args.trace.now.path c.put_inserted.new.why) field (subst (λ (x : Option ℕ). Stopped (inserted_events x n) c.args.w.now c.put_inserted.new.w (halt_of c.args.trace.now.path c.put_inserted.new.why)) slot (c.in_err-put_inserted-in-None.ensures c.args.trace.now.path)))
 
 pub pack_field-returns-in_ok-put_inserted-in-None-clause-packs : goal.pack_field-returns-in_ok-put_inserted-in-None-clause-packs
 pack_field-returns-in_ok-put_inserted-in-None-clause-packs g t c fs s h =
@@ -385,17 +385,17 @@ pack_field-returns-in_ok-put_inserted-in-None-clause-packs g t c fs s h =
     let same = same_step c.args.steps.now c.args.this s c.at-step.result.now h c.at-step.ensures in
     let slot = c.inserted_slot-slot.ensures n n m.0 m.1 m.2 in
     let field = ap (λ x. field_by x.place n) same ∙ m.2 in
-    inserted_on (root_of c.args.steps.now) (field_by s.place n) m.0 n m.1 fs c.args.path.now c.args.k c.args.next c.args.places.now c.args.w.now c.put_inserted.new.w field (subst (λ (x : Option ℕ). Ran (inserted_events x n) c.args.w.now c.put_inserted.new.w) slot (c.in_ok-put_inserted-in-None.ensures c.args.path.now))
+    inserted_on (root_of c.args.steps.now) (field_by s.place n) m.0 n m.1 fs c.args.trace.now.path c.args.k c.args.next c.args.places.now c.args.w.now c.put_inserted.new.w field (subst (λ (x : Option ℕ). Ran (inserted_events x n) c.args.w.now c.put_inserted.new.w) slot (c.in_ok-put_inserted-in-None.ensures c.args.trace.now.path))
 
 -- Components.
 
 pub pack_component-push-requires : goal.pack_component-push-requires
 pack_component-push-requires g t c =
-    let deep = depth_is (root_of c.args.steps.now) (suc (length c.args.path.now)) (node_at c.args.steps.now c.args.this) c.requires.sound in omega (arith, deep)
+    let deep = depth_is (root_of c.args.steps.now) (suc (length c.args.trace.now.path)) (node_at c.args.steps.now c.args.this) c.requires.sound in omega (arith, deep)
 
 pub pack_component-pack_place-requires : goal.pack_component-pack_place-requires
 pack_component-pack_place-requires g t c κs within =
-    (omega arith, (within, (search rules, (search rules, (search rules, (search rules, (c.requires.made, (c.requires.there, (deeper (root_of c.args.steps.now) (length c.args.path.now) c.args.path.now c.push.new.self c.args.k (node_at c.args.steps.now c.args.this) refl c.push.ensures c.requires.sound, c.requires.own)))))))))
+    (omega arith, (within, (search rules, (search rules, (search rules, (search rules, (c.requires.made, (c.requires.there, (deeper (root_of c.args.steps.now) (length c.args.trace.now.path) c.args.trace.now.path c.push.new.self c.args.k (node_at c.args.steps.now c.args.this) refl c.push.ensures c.requires.sound, c.requires.own)))))))))
 
 pub pack_component-returns-in_err-pack_place-clause-packs : goal.pack_component-returns-in_err-pack_place-clause-packs
 pack_component-returns-in_err-pack_place-clause-packs g t c =
@@ -403,8 +403,8 @@ pack_component-returns-in_err-pack_place-clause-packs g t c =
     let n = node_at c.args.steps.now c.args.this in
     let d = option_map data_of c.args.place.now in
     let es : List ℕ → List Event = λ q. place_events root n c.args.component.presence.now c.args.component.slot q d in
-    failed (es (c.args.path.now ++ c.args.k ∷ [])) c.args.w.now c.pack_place.new.w c.pack_place.new.path c.in_err-pack_place.field-0.0 c.from_residual.result c.from_residual.ensures.1
-    (stopped_as (es c.push.new.self) (es (c.args.path.now ++ c.args.k ∷ [])) c.args.w.now c.pack_place.new.w _ (ap es c.push.ensures) c.in_err-pack_place.ensures.packs)
+    failed (es (c.args.trace.now.path ++ c.args.k ∷ [])) c.args.w.now c.pack_place.new.w c.pack_place.new.trace.path c.pack_place.new.trace.why c.in_err-pack_place.field-0.0 c.from_residual.result c.from_residual.ensures.1
+    (stopped_as (es c.push.new.self) (es (c.args.trace.now.path ++ c.args.k ∷ [])) c.args.w.now c.pack_place.new.w _ (ap es c.push.ensures) c.in_err-pack_place.ensures.packs)
 
 pub pack_component-returns-clause-packs : goal.pack_component-returns-clause-packs
 pack_component-returns-clause-packs g t c =
@@ -415,13 +415,13 @@ pack_component-returns-clause-packs g t c =
 
 pub pack_place-returns-in-Some-clause-packs : goal.pack_place-returns-in-Some-clause-packs
 pack_place-returns-in-Some-clause-packs g t c =
-    let es : Option Value → List Event = λ o. place_events (root_of c.args.steps.now) (node_at c.args.steps.now c.args.this) c.args.component.presence.now c.args.component.slot c.args.path.now (option_map data_of o) in
-    packs_as (es (Some c.in-Some.v)) (es c.args.place.now) c.args.w.now c.pack_there.new.w c.pack_there.new.path c.pack_there.result (ap es (sym c.in-Some.is)) c.pack_there.ensures.packs
+    let es : Option Value → List Event = λ o. place_events (root_of c.args.steps.now) (node_at c.args.steps.now c.args.this) c.args.component.presence.now c.args.component.slot c.args.trace.now.path (option_map data_of o) in
+    packs_as (es (Some c.in-Some.v)) (es c.args.place.now) c.args.w.now c.pack_there.new.w c.pack_there.new.trace.path c.pack_there.new.trace.why c.pack_there.result (ap es (sym c.in-Some.is)) c.pack_there.ensures.packs
 
 pub pack_place-returns-in-None-clause-packs : goal.pack_place-returns-in-None-clause-packs
 pack_place-returns-in-None-clause-packs g t c =
-    let es : Option Value → List Event = λ o. place_events (root_of c.args.steps.now) (node_at c.args.steps.now c.args.this) c.args.component.presence.now c.args.component.slot c.args.path.now (option_map data_of o) in
-    packs_as (es None) (es c.args.place.now) c.args.w.now c.ask_presence.new.w c.args.path.now c.ask_presence.result (ap es (sym c.in-None.is)) (c.ask_presence.ensures c.args.path.now)
+    let es : Option Value → List Event = λ o. place_events (root_of c.args.steps.now) (node_at c.args.steps.now c.args.this) c.args.component.presence.now c.args.component.slot c.args.trace.now.path (option_map data_of o) in
+    packs_as (es None) (es c.args.place.now) c.args.w.now c.ask_presence.new.w c.args.trace.now.path c.ask_presence.new.why c.ask_presence.result (ap es (sym c.in-None.is)) (c.ask_presence.ensures c.args.trace.now.path)
 
 pub pack_there-note_own-requires : goal.pack_there-note_own-requires
 pack_there-note_own-requires g t c = (search rules, (c.requires.there, c.requires.own))
@@ -433,31 +433,31 @@ pub pack_there-returns-in_err-note_own-clause-packs : goal.pack_there-returns-in
 pack_there-returns-in_err-note_own-clause-packs g t c =
     let root = root_of c.args.steps.now in
     let n = node_at c.args.steps.now c.args.this in
-    let p = c.args.path.now in
+    let p = c.args.trace.now.path in
     let d = data_of c.args.v.now in
     let whole = place_events root n c.args.component.presence.now c.args.component.slot p (Some d) in
-    failed_some whole (own_events p c.args.component.slot n d) (presence_events p true c.args.component.presence.now ++ events root n p d) p c.args.w.now c.args.w.now c.note_own.new.w c.in_err-note_own.field-0.0 c.from_residual.result c.from_residual.ensures.1 (begin whole c.args.w.now) (c.in_err-note_own.ensures p)
+    failed_some whole (own_events p c.args.component.slot n d) (presence_events p true c.args.component.presence.now ++ events root n p d) p c.args.w.now c.args.w.now c.note_own.new.w c.note_own.new.why c.in_err-note_own.field-0.0 c.from_residual.result c.from_residual.ensures.1 (begin whole c.args.w.now) (c.in_err-note_own.ensures p)
 
 pub pack_there-returns-in_err-ask_presence-clause-packs : goal.pack_there-returns-in_err-ask_presence-clause-packs
 pack_there-returns-in_err-ask_presence-clause-packs g t c =
     let root = root_of c.args.steps.now in
     let n = node_at c.args.steps.now c.args.this in
-    let p = c.args.path.now in
+    let p = c.args.trace.now.path in
     let d = data_of c.args.v.now in
     let asked = presence_events p true c.args.component.presence.now in
     let whole = place_events root n c.args.component.presence.now c.args.component.slot p (Some d) in
-    failed_some whole asked (events root n p d) p c.args.w.now c.note_own.new.w c.ask_presence.new.w c.in_err-ask_presence.field-0.0 c.from_residual-in_err-ask_presence.result c.from_residual-in_err-ask_presence.ensures.1
+    failed_some whole asked (events root n p d) p c.args.w.now c.note_own.new.w c.ask_presence.new.w c.ask_presence.new.why c.in_err-ask_presence.field-0.0 c.from_residual-in_err-ask_presence.result c.from_residual-in_err-ask_presence.ensures.1
     (then_some whole (own_events p c.args.component.slot n d) (asked ++ events root n p d) c.args.w.now c.args.w.now c.note_own.new.w (begin whole c.args.w.now) (c.in_ok-note_own.ensures p)) (c.in_err-ask_presence.ensures p)
 
 pub pack_there-returns-clause-packs : goal.pack_there-returns-clause-packs
 pack_there-returns-clause-packs g t c =
     let root = root_of c.args.steps.now in
     let n = node_at c.args.steps.now c.args.this in
-    let p = c.args.path.now in
+    let p = c.args.trace.now.path in
     let d = data_of c.args.v.now in
     let asked = presence_events p true c.args.component.presence.now in
     let whole = place_events root n c.args.component.presence.now c.args.component.slot p (Some d) in
-    last whole (events root n p d) c.args.w.now c.ask_presence.new.w c.pack_step.new.w c.pack_step.new.path c.pack_step.result
+    last whole (events root n p d) c.args.w.now c.ask_presence.new.w c.pack_step.new.w c.pack_step.new.trace.path c.pack_step.new.trace.why c.pack_step.result
     (then_some whole asked (events root n p d) c.args.w.now c.note_own.new.w c.ask_presence.new.w (then_some whole (own_events p c.args.component.slot n d) (asked ++ events root n p d) c.args.w.now c.args.w.now c.note_own.new.w (begin whole c.args.w.now) (c.in_ok-note_own.ensures p)) (c.in_ok-ask_presence.ensures p))
     c.pack_step.ensures.packs
 
@@ -467,31 +467,31 @@ pub pack_list-returns-in-Some-clause-packs : goal.pack_list-returns-in-Some-clau
 pack_list-returns-in-Some-clause-packs g t c =
     let root = root_of c.args.steps.now in
     let form = list c.args.sizing.now (node_at c.args.steps.now c.args.this) in
-    packs_as (form_events root form c.args.path.now (list_of (elements_view c.in-Some.elements.now))) (form_events root form c.args.path.now (data_of c.args.v.now)) c.args.w.now c.pack_elements.new.w c.pack_elements.new.path c.pack_elements.result (ap (form_events root form c.args.path.now) (sym c.in-Some.ensures.some)) c.pack_elements.ensures.packs
+    packs_as (form_events root form c.args.trace.now.path (list_of (elements_view c.in-Some.elements.now))) (form_events root form c.args.trace.now.path (data_of c.args.v.now)) c.args.w.now c.pack_elements.new.w c.pack_elements.new.trace.path c.pack_elements.new.trace.why c.pack_elements.result (ap (form_events root form c.args.trace.now.path) (sym c.in-Some.ensures.some)) c.pack_elements.ensures.packs
 
 pub pack_list-returns-in-None-clause-packs : goal.pack_list-returns-in-None-clause-packs
 pack_list-returns-in-None-clause-packs g t c =
     let n = node_at c.args.steps.now c.args.this in
-    nothing (form_events (root_of c.args.steps.now) (list c.args.sizing.now n) c.args.path.now (data_of c.args.v.now)) c.args.w.now (c.in-None.ensures.none (root_of c.args.steps.now) c.args.sizing.now n c.args.path.now)
+    nothing (form_events (root_of c.args.steps.now) (list c.args.sizing.now n) c.args.trace.now.path (data_of c.args.v.now)) c.args.w.now (c.in-None.ensures.none (root_of c.args.steps.now) c.args.sizing.now n c.args.trace.now.path)
 
 pub pack_elements-pack_run-requires : goal.pack_elements-pack_run-requires
 pack_elements-pack_run-requires g t c κs within =
     let root = root_of c.args.steps.now in
     let s = c.args.sizing.now in
     let n = node_at c.args.steps.now c.args.this in
-    let fine = list_is_fine root (length c.args.path.now) s n c.requires.sound in
+    let fine = list_is_fine root (length c.args.trace.now.path) s n c.requires.sound in
     let permitted = (c.in_ok-size.ensures.ran.step []).does.0 in
     let few = size_few s.sizes (length c.args.elements.now) (and_parts (sizes_fine s.sizes) (list_rule_fine (ending s.rule) s) fine).0 permitted in
-    (omega arith, (within, (search rules, (search rules, (search rules, (search rules, (c.requires.made, (c.requires.there, (few, element_sound root (length c.args.path.now) s n c.requires.sound)))))))))
+    (omega arith, (within, (search rules, (search rules, (search rules, (search rules, (c.requires.made, (c.requires.there, (few, element_sound root (length c.args.trace.now.path) s n c.requires.sound)))))))))
 
 pub pack_elements-returns-in_err-size-clause-packs : goal.pack_elements-returns-in_err-size-clause-packs
 pack_elements-returns-in_err-size-clause-packs g t c =
     let root = root_of c.args.steps.now in
     let s = c.args.sizing.now in
     let n = node_at c.args.steps.now c.args.this in
-    let p = c.args.path.now in
+    let p = c.args.trace.now.path in
     let vs = c.args.elements.now in
-    failed_one (form_events root (list s n) p (list_of (elements_view vs))) (size_wants p (length vs) s.rule ++ (run_events (element_events root n p) 0 (elements_view vs) ++ end_events s.rule)) (λ path. sizes s (length vs)) p c.args.w.now c.args.w.now c.size.new.self c.in_err-size.field-0.0 c.from_residual.result c.from_residual.ensures.1
+    failed_one (form_events root (list s n) p (list_of (elements_view vs))) (size_wants p (length vs) s.rule ++ (run_events (element_events root n p) 0 (elements_view vs) ++ end_events s.rule)) (λ path. sizes s (length vs)) p c.args.w.now c.args.w.now c.size.new.self c.size.new.why c.in_err-size.field-0.0 c.from_residual.result c.from_residual.ensures.1
     (list_begins root s n p vs c.args.w.now) c.in_err-size.ensures.halted
 
 pub pack_elements-returns-in_err-ask_size-clause-packs : goal.pack_elements-returns-in_err-ask_size-clause-packs
@@ -499,12 +499,12 @@ pack_elements-returns-in_err-ask_size-clause-packs g t c =
     let root = root_of c.args.steps.now in
     let s = c.args.sizing.now in
     let n = node_at c.args.steps.now c.args.this in
-    let p = c.args.path.now in
+    let p = c.args.trace.now.path in
     let vs = c.args.elements.now in
     let whole = form_events root (list s n) p (list_of (elements_view vs)) in
     let asked = size_wants p (length vs) s.rule in
     let rest = run_events (element_events root n p) 0 (elements_view vs) ++ end_events s.rule in
-    failed_some whole asked rest p c.args.w.now c.size.new.self c.ask_size.new.w c.in_err-ask_size.field-0.0 c.from_residual-in_err-ask_size.result c.from_residual-in_err-ask_size.ensures.1
+    failed_some whole asked rest p c.args.w.now c.size.new.self c.ask_size.new.w c.ask_size.new.why c.in_err-ask_size.field-0.0 c.from_residual-in_err-ask_size.result c.from_residual-in_err-ask_size.ensures.1
     (then_one whole (asked ++ rest) (λ path. sizes s (length vs)) p c.args.w.now c.args.w.now c.size.new.self (list_begins root s n p vs c.args.w.now) c.in_ok-size.ensures.ran) (c.in_err-ask_size.ensures p)
 
 pub pack_elements-returns-in_err-pack_run-clause-packs : goal.pack_elements-returns-in_err-pack_run-clause-packs
@@ -512,14 +512,14 @@ pack_elements-returns-in_err-pack_run-clause-packs g t c =
     let root = root_of c.args.steps.now in
     let s = c.args.sizing.now in
     let n = node_at c.args.steps.now c.args.this in
-    let p = c.args.path.now in
+    let p = c.args.trace.now.path in
     let vs = c.args.elements.now in
     let whole = form_events root (list s n) p (list_of (elements_view vs)) in
     let asked = size_wants p (length vs) s.rule in
     let run = run_events (element_events root n p) 0 (elements_view vs) in
     let end = end_events s.rule in
     let sized = then_one whole (asked ++ (run ++ end)) (λ path. sizes s (length vs)) p c.args.w.now c.args.w.now c.size.new.self (list_begins root s n p vs c.args.w.now) c.in_ok-size.ensures.ran in
-    failed_some whole run end c.pack_run.new.path c.args.w.now c.ask_size.new.w c.pack_run.new.w c.in_err-pack_run.field-0.0 c.from_residual-in_err-pack_run.result c.from_residual-in_err-pack_run.ensures.1
+    failed_some whole run end c.pack_run.new.trace.path c.args.w.now c.ask_size.new.w c.pack_run.new.w c.pack_run.new.trace.why c.in_err-pack_run.field-0.0 c.from_residual-in_err-pack_run.result c.from_residual-in_err-pack_run.ensures.1
     (then_some whole asked (run ++ end) c.args.w.now c.size.new.self c.ask_size.new.w sized (c.in_ok-ask_size.ensures p)) c.in_err-pack_run.ensures.packs
 
 pub pack_elements-returns-clause-packs : goal.pack_elements-returns-clause-packs
@@ -527,7 +527,7 @@ pack_elements-returns-clause-packs g t c =
     let root = root_of c.args.steps.now in
     let s = c.args.sizing.now in
     let n = node_at c.args.steps.now c.args.this in
-    let p = c.args.path.now in
+    let p = c.args.trace.now.path in
     let vs = c.args.elements.now in
     let whole = form_events root (list s n) p (list_of (elements_view vs)) in
     let asked = size_wants p (length vs) s.rule in
@@ -535,13 +535,13 @@ pack_elements-returns-clause-packs g t c =
     let end = end_events s.rule in
     let sized = then_one whole (asked ++ (run ++ end)) (λ path. sizes s (length vs)) p c.args.w.now c.args.w.now c.size.new.self (list_begins root s n p vs c.args.w.now) c.in_ok-size.ensures.ran in
     let told = then_some whole asked (run ++ end) c.args.w.now c.size.new.self c.ask_size.new.w sized (c.in_ok-ask_size.ensures p) in
-    last whole end c.args.w.now c.pack_run.new.w c.put_end.new.w c.pack_run.new.path c.put_end.result (then_some whole run end c.args.w.now c.ask_size.new.w c.pack_run.new.w told c.in_ok-pack_run.ensures.packs) (c.put_end.ensures c.pack_run.new.path)
+    last whole end c.args.w.now c.pack_run.new.w c.put_end.new.w c.pack_run.new.trace.path c.put_end.new.why c.put_end.result (then_some whole run end c.args.w.now c.ask_size.new.w c.pack_run.new.w told c.in_ok-pack_run.ensures.packs) (c.put_end.ensures c.pack_run.new.trace.path)
 
 pub pack_run-loop-v-init : goal.pack_run-loop-v-init
 pack_run-loop-v-init g t c = record {
   number = refl;
   path = refl;
-  done = begin (run_events (element_events (root_of c.args.steps.now) (node_at c.args.steps.now c.args.this) c.args.path.now) 0 (elements_view c.args.elements.now)) c.args.w.now;
+  done = begin (run_events (element_events (root_of c.args.steps.now) (node_at c.args.steps.now c.args.this) c.args.trace.now.path) 0 (elements_view c.args.elements.now)) c.args.w.now;
 }
 
 pub pack_run-pack_child-requires : goal.pack_run-pack_child-requires
@@ -558,7 +558,7 @@ pack_run-loop-v-preserved g t c =
     record {
       number = ap (λ (k : ℕ). k + 1) l.invariant.number;
       path = c.in-Ok.ensures.path ∙ l.invariant.path;
-      done = element_on root n c.args.path.now l.path l.k l.v-index c.v-item.result c.args.elements.now c.args.w.now l.w c.pack_child.new.w c.loop-v-test.true c.v-item.is l.invariant.path l.invariant.done c.in-Ok.ensures.packs;
+      done = element_on root n c.args.trace.now.path l.trace.path l.k l.v-index c.v-item.result c.args.elements.now c.args.w.now l.w c.pack_child.new.w c.loop-v-test.true c.v-item.is l.invariant.path l.invariant.done c.in-Ok.ensures.packs;
     }
 
 pub pack_run-returns-in-Err-clause-packs : goal.pack_run-returns-in-Err-clause-packs
@@ -566,12 +566,12 @@ pack_run-returns-in-Err-clause-packs g t c =
     let l = c.loop-v in
     let root = root_of c.args.steps.now in
     let n = node_at c.args.steps.now c.args.this in
-    element_stops root n c.args.path.now l.path l.k l.v-index c.v-item.result c.args.elements.now c.args.w.now l.w c.pack_child.new.w c.loop-v-test.true c.v-item.is l.invariant.path l.invariant.done _ c.in-Err.ensures.packs
+    element_stops root n c.args.trace.now.path l.trace.path l.k l.v-index c.v-item.result c.args.elements.now c.args.w.now l.w c.pack_child.new.w c.loop-v-test.true c.v-item.is l.invariant.path l.invariant.done _ c.in-Err.ensures.packs
 
 pub pack_run-returns-clause-packs : goal.pack_run-returns-clause-packs
 pack_run-returns-clause-packs g t c =
     let l = c.loop-v in
-    let each = element_events (root_of c.args.steps.now) (node_at c.args.steps.now c.args.this) c.args.path.now in
+    let each = element_events (root_of c.args.steps.now) (node_at c.args.steps.now c.args.this) c.args.trace.now.path in
     let vs = c.args.elements.now in
     let over = c.loop-v-test.false in
     ended (run_events each 0 (elements_view vs)) c.args.w.now l.w (left_as (run_events each 0 (elements_view vs)) (run_events each l.k (elements_view (drop l.v-index vs))) [] c.args.w.now l.w (no_element each l.k l.v-index vs (omega (arith, over))) l.invariant.done)
@@ -593,14 +593,14 @@ pub pack_choice-returns-in-Some-clause-packs : goal.pack_choice-returns-in-Some-
 pack_choice-returns-in-Some-clause-packs g t c s h =
     let form = form_at c.args.steps.now c.args.this s in
     let root = root_of c.args.steps.now in
-    packs_as (form_events root form c.args.path.now (alt c.in-Some.i (data_of c.in-Some.inside.now))) (form_events root form c.args.path.now (data_of c.args.v.now)) c.args.w.now c.pack_chosen.new.w c.pack_chosen.new.path c.pack_chosen.result (ap (form_events root form c.args.path.now) (sym c.in-Some.ensures.some)) (c.pack_chosen.ensures.packs s h)
+    packs_as (form_events root form c.args.trace.now.path (alt c.in-Some.i (data_of c.in-Some.inside.now))) (form_events root form c.args.trace.now.path (data_of c.args.v.now)) c.args.w.now c.pack_chosen.new.w c.pack_chosen.new.trace.path c.pack_chosen.new.trace.why c.pack_chosen.result (ap (form_events root form c.args.trace.now.path) (sym c.in-Some.ensures.some)) (c.pack_chosen.ensures.packs s h)
 
 pub pack_choice-returns-in-None-clause-packs : goal.pack_choice-returns-in-None-clause-packs
 pack_choice-returns-in-None-clause-packs g t c s h =
     let root = root_of c.args.steps.now in
     let cases = cases_at c.args.steps.now (c.args.this + 1) s.next in
-    nothing (form_events root (form_at c.args.steps.now c.args.this s) c.args.path.now (data_of c.args.v.now)) c.args.w.now
-    (ap (λ f. form_events root f c.args.path.now (data_of c.args.v.now)) (form_by c.args.steps.now c.args.this s (acts.Choice c.args.rule) (c.requires.is s h)) ∙ c.in-None.ensures.none root cases c.args.rule c.args.path.now)
+    nothing (form_events root (form_at c.args.steps.now c.args.this s) c.args.trace.now.path (data_of c.args.v.now)) c.args.w.now
+    (ap (λ f. form_events root f c.args.trace.now.path (data_of c.args.v.now)) (form_by c.args.steps.now c.args.this s (acts.Choice c.args.rule) (c.requires.is s h)) ∙ c.in-None.ensures.none root cases c.args.rule c.args.trace.now.path)
 
 pub pack_chosen-case_of-requires : goal.pack_chosen-case_of-requires
 pack_chosen-case_of-requires g t c = record { made = c.requires.made; within = (made_nested c.args.steps.now c.requires.made c.args.this c.at-step.result.now c.at-step.ensures).within }
@@ -608,7 +608,7 @@ pack_chosen-case_of-requires g t c = record { made = c.requires.made; within = (
 pub pack_chosen-pack_case-requires : goal.pack_chosen-pack_case-requires
 pack_chosen-pack_case-requires g t c κs within =
     let root = root_of c.args.steps.now in
-    let k = length c.args.path.now in
+    let k = length c.args.trace.now.path in
     let s = c.at-step.result.now in
     let cases = cases_at c.args.steps.now (c.args.this + 1) s.next in
     let act = c.requires.is s c.at-step.ensures in
@@ -621,18 +621,18 @@ pack_chosen-pack_case-requires g t c κs within =
 pub pack_chosen-returns-in_err-put_index-clause-packs : goal.pack_chosen-returns-in_err-put_index-clause-packs
 pack_chosen-returns-in_err-put_index-clause-packs g t c s h =
     let root = root_of c.args.steps.now in
-    let p = c.args.path.now in
+    let p = c.args.trace.now.path in
     let d = data_of c.args.v.now in
     let cases = cases_at c.args.steps.now (c.args.this + 1) s.next in
     let form = form_by c.args.steps.now c.args.this s (acts.Choice c.args.rule) (c.requires.is s h) in
     let whole = form_events root (choice cases c.args.rule) p (alt c.args.i d) in
-    packs_as whole (form_events root (form_at c.args.steps.now c.args.this s) p (alt c.args.i d)) c.args.w.now c.put_index.new.w p c.from_residual.result (ap (λ f. form_events root f p (alt c.args.i d)) (sym form))
-    (failed_some whole (index_events c.args.rule c.args.i) (case_events root cases c.args.rule p c.args.i c.args.i d) p c.args.w.now c.args.w.now c.put_index.new.w c.in_err-put_index.field-0.0 c.from_residual.result c.from_residual.ensures.1 (begin whole c.args.w.now) (c.in_err-put_index.ensures p))
+    packs_as whole (form_events root (form_at c.args.steps.now c.args.this s) p (alt c.args.i d)) c.args.w.now c.put_index.new.w p c.put_index.new.why c.from_residual.result (ap (λ f. form_events root f p (alt c.args.i d)) (sym form))
+    (failed_some whole (index_events c.args.rule c.args.i) (case_events root cases c.args.rule p c.args.i c.args.i d) p c.args.w.now c.args.w.now c.put_index.new.w c.put_index.new.why c.in_err-put_index.field-0.0 c.from_residual.result c.from_residual.ensures.1 (begin whole c.args.w.now) (c.in_err-put_index.ensures p))
 
 pub pack_chosen-returns-in-Some-clause-packs : goal.pack_chosen-returns-in-Some-clause-packs
 pack_chosen-returns-in-Some-clause-packs g t c s h =
     let root = root_of c.args.steps.now in
-    let p = c.args.path.now in
+    let p = c.args.trace.now.path in
     let d = data_of c.args.v.now in
     let same = same_step c.args.steps.now c.args.this c.at-step.result.now s c.at-step.ensures h in
     let cases = cases_at c.args.steps.now (c.args.this + 1) s.next in
@@ -641,15 +641,15 @@ pack_chosen-returns-in-Some-clause-packs g t c s h =
     let here = c.in-Some.ensures.there in
     let is = ap (λ x. nth_case (cases_at c.args.steps.now (c.args.this + 1) x.next) c.args.i) (sym same) ∙ here.is in
     let one = nth_events root c.args.rule p cases c.args.i c.args.i _ d is in
-    packs_as whole (form_events root (form_at c.args.steps.now c.args.this s) p (alt c.args.i d)) c.args.w.now c.pack_case.new.w c.pack_case.new.path c.pack_case.result (ap (λ f. form_events root f p (alt c.args.i d)) (sym form))
-    (last whole (case_events root cases c.args.rule p c.args.i c.args.i d) c.args.w.now c.put_index.new.w c.pack_case.new.w c.pack_case.new.path c.pack_case.result
+    packs_as whole (form_events root (form_at c.args.steps.now c.args.this s) p (alt c.args.i d)) c.args.w.now c.pack_case.new.w c.pack_case.new.trace.path c.pack_case.new.trace.why c.pack_case.result (ap (λ f. form_events root f p (alt c.args.i d)) (sym form))
+    (last whole (case_events root cases c.args.rule p c.args.i c.args.i d) c.args.w.now c.put_index.new.w c.pack_case.new.w c.pack_case.new.trace.path c.pack_case.new.trace.why c.pack_case.result
     (then_some whole (index_events c.args.rule c.args.i) (case_events root cases c.args.rule p c.args.i c.args.i d) c.args.w.now c.args.w.now c.put_index.new.w (begin whole c.args.w.now) (c.in_ok-put_index.ensures p))
-    (packs_as _ (case_events root cases c.args.rule p c.args.i c.args.i d) c.put_index.new.w c.pack_case.new.w c.pack_case.new.path c.pack_case.result (sym one) (c.pack_case.ensures.packs here.step here.at)))
+    (packs_as _ (case_events root cases c.args.rule p c.args.i c.args.i d) c.put_index.new.w c.pack_case.new.w c.pack_case.new.trace.path c.pack_case.new.trace.why c.pack_case.result (sym one) (c.pack_case.ensures.packs here.step here.at)))
 
 pub pack_chosen-returns-in-None-clause-packs : goal.pack_chosen-returns-in-None-clause-packs
 pack_chosen-returns-in-None-clause-packs g t c s h =
     let root = root_of c.args.steps.now in
-    let p = c.args.path.now in
+    let p = c.args.trace.now.path in
     let d = data_of c.args.v.now in
     let same = same_step c.args.steps.now c.args.this c.at-step.result.now s c.at-step.ensures h in
     let cases = cases_at c.args.steps.now (c.args.this + 1) s.next in
@@ -662,44 +662,44 @@ pack_chosen-returns-in-None-clause-packs g t c s h =
 
 pub pack_case-push-requires : goal.pack_case-push-requires
 pack_case-push-requires g t c =
-    let deep = depth_is (root_of c.args.steps.now) (suc (length c.args.path.now)) (node_at c.args.steps.now c.args.this) c.requires.sound in omega (arith, deep)
+    let deep = depth_is (root_of c.args.steps.now) (suc (length c.args.trace.now.path)) (node_at c.args.steps.now c.args.this) c.requires.sound in omega (arith, deep)
 
 pub pack_case-ask_item-requires : goal.pack_case-ask_item-requires
 pack_case-ask_item-requires g t c = (search rules, (root_of c.args.steps.now, c.requires.item c.at-step.result.now c.at-step.ensures))
 
 pub pack_case-pack_step-requires : goal.pack_case-pack_step-requires
 pack_case-pack_step-requires g t c κs within =
-    (omega arith, (within, (search rules, (search rules, (search rules, (search rules, (c.requires.made, (c.requires.there, deeper (root_of c.args.steps.now) (length c.args.path.now) c.args.path.now c.push.new.self c.args.i (node_at c.args.steps.now c.args.this) refl c.push.ensures c.requires.sound))))))))
+    (omega arith, (within, (search rules, (search rules, (search rules, (c.requires-raw.1.1.1.1.1.0, (c.requires.made, (c.requires.there, deeper (root_of c.args.steps.now) (length c.args.trace.now.path) c.args.trace.now.path c.push.new.self c.args.i (node_at c.args.steps.now c.args.this) refl c.push.ensures c.requires.sound))))))))
 
 pub pack_case-returns-in_err-ask_item-clause-packs : goal.pack_case-returns-in_err-ask_item-clause-packs
 pack_case-returns-in_err-ask_item-clause-packs g t c s h =
     let root = root_of c.args.steps.now in
-    let p = c.args.path.now in
+    let p = c.args.trace.now.path in
     let place = c.at-step.result.now.place in
     let same = same_step c.args.steps.now c.args.this c.at-step.result.now s c.at-step.ensures h in
-    failed (case_whole root c.args.rule p c.args.i (node_at c.args.steps.now c.args.this) (data_of c.args.v.now) s.place) c.args.w.now c.ask_item.new.w p c.in_err-ask_item.field-0.0 c.from_residual.result c.from_residual.ensures.1
-    (subst (λ x. Stopped (case_whole root c.args.rule p c.args.i (node_at c.args.steps.now c.args.this) (data_of c.args.v.now) x.place) c.args.w.now c.ask_item.new.w (halt_of p c.in_err-ask_item.field-0.0)) same
-    (stop_some _ (item_events root p c.args.rule (name_in place)) _ c.args.w.now c.args.w.now c.ask_item.new.w (halt_of p c.in_err-ask_item.field-0.0) (case_begins root c.args.rule p c.args.i (node_at c.args.steps.now c.args.this) (data_of c.args.v.now) place c.args.w.now) (c.in_err-ask_item.ensures root p (c.requires.item c.at-step.result.now c.at-step.ensures))))
+    failed (case_whole root c.args.rule p c.args.i (node_at c.args.steps.now c.args.this) (data_of c.args.v.now) s.place) c.args.w.now c.ask_item.new.w p c.ask_item.new.why c.in_err-ask_item.field-0.0 c.from_residual.result c.from_residual.ensures.1
+    (subst (λ x. Stopped (case_whole root c.args.rule p c.args.i (node_at c.args.steps.now c.args.this) (data_of c.args.v.now) x.place) c.args.w.now c.ask_item.new.w (halt_of p c.ask_item.new.why)) same
+    (stop_some _ (item_events root p c.args.rule (name_in place)) _ c.args.w.now c.args.w.now c.ask_item.new.w (halt_of p c.ask_item.new.why) (case_begins root c.args.rule p c.args.i (node_at c.args.steps.now c.args.this) (data_of c.args.v.now) place c.args.w.now) (c.in_err-ask_item.ensures root p (c.requires.item c.at-step.result.now c.at-step.ensures))))
 
 pub pack_case-returns-in_err-ask_case-clause-packs : goal.pack_case-returns-in_err-ask_case-clause-packs
 pack_case-returns-in_err-ask_case-clause-packs g t c s h =
     let root = root_of c.args.steps.now in
-    let p = c.args.path.now in
+    let p = c.args.trace.now.path in
     let q = p ++ c.args.i ∷ [] in
     let n = node_at c.args.steps.now c.args.this in
     let d = data_of c.args.v.now in
     let place = c.at-step.result.now.place in
     let same = same_step c.args.steps.now c.args.this c.at-step.result.now s c.at-step.ensures h in
     let item = then_some (case_whole root c.args.rule p c.args.i n d place) (item_events root p c.args.rule (name_in place)) (case_tests q c.args.rule (tests_in place) ++ events root n q d) c.args.w.now c.args.w.now c.ask_item.new.w (case_begins root c.args.rule p c.args.i n d place c.args.w.now) (c.in_ok-ask_item.ensures root p (c.requires.item c.at-step.result.now c.at-step.ensures)) in
-    failed (case_whole root c.args.rule p c.args.i n d s.place) c.args.w.now c.ask_case.new.w c.push.new.self c.in_err-ask_case.field-0.0 c.from_residual-in_err-ask_case.result c.from_residual-in_err-ask_case.ensures.1
-    (subst (λ x. Stopped (case_whole root c.args.rule p c.args.i n d x.place) c.args.w.now c.ask_case.new.w (halt_of c.push.new.self c.in_err-ask_case.field-0.0)) same
-    (stop_some (case_whole root c.args.rule p c.args.i n d place) (case_tests q c.args.rule (tests_in place)) (events root n q d) c.args.w.now c.ask_item.new.w c.ask_case.new.w (halt_of c.push.new.self c.in_err-ask_case.field-0.0) item
-    (subst (λ (x : List ℕ). Stopped (case_tests x c.args.rule (tests_in place)) c.ask_item.new.w c.ask_case.new.w (halt_of c.push.new.self c.in_err-ask_case.field-0.0)) c.push.ensures (c.in_err-ask_case.ensures c.push.new.self))))
+    failed (case_whole root c.args.rule p c.args.i n d s.place) c.args.w.now c.ask_case.new.w c.push.new.self c.ask_case.new.why c.in_err-ask_case.field-0.0 c.from_residual-in_err-ask_case.result c.from_residual-in_err-ask_case.ensures.1
+    (subst (λ x. Stopped (case_whole root c.args.rule p c.args.i n d x.place) c.args.w.now c.ask_case.new.w (halt_of c.push.new.self c.ask_case.new.why)) same
+    (stop_some (case_whole root c.args.rule p c.args.i n d place) (case_tests q c.args.rule (tests_in place)) (events root n q d) c.args.w.now c.ask_item.new.w c.ask_case.new.w (halt_of c.push.new.self c.ask_case.new.why) item
+    (subst (λ (x : List ℕ). Stopped (case_tests x c.args.rule (tests_in place)) c.ask_item.new.w c.ask_case.new.w (halt_of c.push.new.self c.ask_case.new.why)) c.push.ensures (c.in_err-ask_case.ensures c.push.new.self))))
 
 pub pack_case-returns-in_err-pack_step-clause-packs : goal.pack_case-returns-in_err-pack_step-clause-packs
 pack_case-returns-in_err-pack_step-clause-packs g t c s h =
     let root = root_of c.args.steps.now in
-    let p = c.args.path.now in
+    let p = c.args.trace.now.path in
     let q = p ++ c.args.i ∷ [] in
     let n = node_at c.args.steps.now c.args.this in
     let d = data_of c.args.v.now in
@@ -708,14 +708,14 @@ pack_case-returns-in_err-pack_step-clause-packs g t c s h =
     let whole = case_whole root c.args.rule p c.args.i n d place in
     let item = then_some whole (item_events root p c.args.rule (name_in place)) (case_tests q c.args.rule (tests_in place) ++ events root n q d) c.args.w.now c.args.w.now c.ask_item.new.w (case_begins root c.args.rule p c.args.i n d place c.args.w.now) (c.in_ok-ask_item.ensures root p (c.requires.item c.at-step.result.now c.at-step.ensures)) in
     let tests = then_some whole (case_tests q c.args.rule (tests_in place)) (events root n q d) c.args.w.now c.ask_item.new.w c.ask_case.new.w item (subst (λ (x : List ℕ). Ran (case_tests x c.args.rule (tests_in place)) c.ask_item.new.w c.ask_case.new.w) c.push.ensures (c.in_ok-ask_case.ensures c.push.new.self)) in
-    failed (case_whole root c.args.rule p c.args.i n d s.place) c.args.w.now c.pack_step.new.w c.pack_step.new.path c.in_err-pack_step.field-0.0 c.from_residual-in_err-pack_step.result c.from_residual-in_err-pack_step.ensures.1
-    (subst (λ x. Stopped (case_whole root c.args.rule p c.args.i n d x.place) c.args.w.now c.pack_step.new.w (halt_of c.pack_step.new.path c.in_err-pack_step.field-0.0)) same
-    (stop_on whole (events root n q d) c.args.w.now c.ask_case.new.w c.pack_step.new.w (halt_of c.pack_step.new.path c.in_err-pack_step.field-0.0) tests (subst (λ (x : List ℕ). Stopped (events root n x d) c.ask_case.new.w c.pack_step.new.w (halt_of c.pack_step.new.path c.in_err-pack_step.field-0.0)) c.push.ensures c.in_err-pack_step.ensures.packs)))
+    failed (case_whole root c.args.rule p c.args.i n d s.place) c.args.w.now c.pack_step.new.w c.pack_step.new.trace.path c.pack_step.new.trace.why c.in_err-pack_step.field-0.0 c.from_residual-in_err-pack_step.result c.from_residual-in_err-pack_step.ensures.1
+    (subst (λ x. Stopped (case_whole root c.args.rule p c.args.i n d x.place) c.args.w.now c.pack_step.new.w (halt_of c.pack_step.new.trace.path c.pack_step.new.trace.why)) same
+    (stop_on whole (events root n q d) c.args.w.now c.ask_case.new.w c.pack_step.new.w (halt_of c.pack_step.new.trace.path c.pack_step.new.trace.why) tests (subst (λ (x : List ℕ). Stopped (events root n x d) c.ask_case.new.w c.pack_step.new.w (halt_of c.pack_step.new.trace.path c.pack_step.new.trace.why)) c.push.ensures c.in_err-pack_step.ensures.packs)))
 
 pub pack_case-returns-clause-packs : goal.pack_case-returns-clause-packs
 pack_case-returns-clause-packs g t c s h =
     let root = root_of c.args.steps.now in
-    let p = c.args.path.now in
+    let p = c.args.trace.now.path in
     let q = p ++ c.args.i ∷ [] in
     let n = node_at c.args.steps.now c.args.this in
     let d = data_of c.args.v.now in
@@ -729,49 +729,49 @@ pack_case-returns-clause-packs g t c s h =
 
 pub pack_case-returns-clause-path : goal.pack_case-returns-clause-path
 pack_case-returns-clause-path g t c =
-    back c.args.path.now c.pack_step.new.path c.pop.new.self c.args.i c.pop.result (c.in_ok-pack_step.ensures.path ∙ c.push.ensures) c.pop.ensures
+    back c.args.trace.now.path c.pack_step.new.trace.path c.pop.new.self c.args.i c.pop.result (c.in_ok-pack_step.ensures.path ∙ c.push.ensures) c.pop.ensures
 
 -- Contents.
 
 pub pack_contained-pack_child-requires : goal.pack_contained-pack_child-requires
 pack_contained-pack_child-requires g t c κs within =
-    (omega arith, (within, (search rules, (search rules, (search rules, (search rules, (c.requires.made, (c.requires.there, content_sound (root_of c.args.steps.now) (length c.args.path.now) c.args.sizing.now (node_at c.args.steps.now c.args.this) c.requires.sound))))))))
+    (omega arith, (within, (search rules, (search rules, (search rules, (search rules, (c.requires.made, (c.requires.there, content_sound (root_of c.args.steps.now) (length c.args.trace.now.path) c.args.sizing.now (node_at c.args.steps.now c.args.this) c.requires.sound))))))))
 
 pub pack_contained-returns-in_err-enter-clause-packs : goal.pack_contained-returns-in_err-enter-clause-packs
 pack_contained-returns-in_err-enter-clause-packs g t c =
     let root = root_of c.args.steps.now in
     let n = node_at c.args.steps.now c.args.this in
-    let p = c.args.path.now in
+    let p = c.args.trace.now.path in
     let s = c.args.sizing.now in
     let d = data_of c.args.v.now in
     let whole = form_events root (contained s n) p d in
     let end = aligns 8 ∷ closes p s (octets_for (bit_length n 0 d)) ∷ [] in
-    failed_one whole (events root n (p ++ 0 ∷ []) d ++ end) (λ path. enters s.rule) p c.args.w.now c.args.w.now c.enter.new.self c.in_err-enter.field-0.0 c.from_residual.result c.from_residual.ensures.1 (begin whole c.args.w.now) c.in_err-enter.ensures.halted
+    failed_one whole (events root n (p ++ 0 ∷ []) d ++ end) (λ path. enters s.rule) p c.args.w.now c.args.w.now c.enter.new.self c.enter.new.why c.in_err-enter.field-0.0 c.from_residual.result c.from_residual.ensures.1 (begin whole c.args.w.now) c.in_err-enter.ensures.halted
 
 pub pack_contained-returns-in_err-pack_child-clause-packs : goal.pack_contained-returns-in_err-pack_child-clause-packs
 pack_contained-returns-in_err-pack_child-clause-packs g t c =
     let root = root_of c.args.steps.now in
     let n = node_at c.args.steps.now c.args.this in
-    let p = c.args.path.now in
+    let p = c.args.trace.now.path in
     let s = c.args.sizing.now in
     let d = data_of c.args.v.now in
     let whole = form_events root (contained s n) p d in
     let inner = events root n (p ++ 0 ∷ []) d in
     let end = aligns 8 ∷ closes p s (octets_for (bit_length n 0 d)) ∷ [] in
-    failed_some whole inner end c.pack_child.new.path c.args.w.now c.enter.new.self c.pack_child.new.w c.in_err-pack_child.field-0.0 c.from_residual-in_err-pack_child.result c.from_residual-in_err-pack_child.ensures.1
+    failed_some whole inner end c.pack_child.new.trace.path c.args.w.now c.enter.new.self c.pack_child.new.w c.pack_child.new.trace.why c.in_err-pack_child.field-0.0 c.from_residual-in_err-pack_child.result c.from_residual-in_err-pack_child.ensures.1
     (then_one whole (inner ++ end) (λ path. enters s.rule) p c.args.w.now c.args.w.now c.enter.new.self (begin whole c.args.w.now) c.in_ok-enter.ensures.ran) c.in_err-pack_child.ensures.packs
 
 pub pack_contained-returns-in_err-align-clause-packs : goal.pack_contained-returns-in_err-align-clause-packs
 pack_contained-returns-in_err-align-clause-packs g t c =
     let root = root_of c.args.steps.now in
     let n = node_at c.args.steps.now c.args.this in
-    let p = c.args.path.now in
+    let p = c.args.trace.now.path in
     let s = c.args.sizing.now in
     let d = data_of c.args.v.now in
     let whole = form_events root (contained s n) p d in
     let inner = events root n (p ++ 0 ∷ []) d in
     let last' = closes p s (octets_for (bit_length n 0 d)) ∷ [] in
-    failed_one whole last' (λ path. aligns 8) c.pack_child.new.path c.args.w.now c.pack_child.new.w c.align.new.self c.in_err-align.field-0.0 c.from_residual-in_err-align.result c.from_residual-in_err-align.ensures.1
+    failed_one whole last' (λ path. aligns 8) c.pack_child.new.trace.path c.args.w.now c.pack_child.new.w c.align.new.self c.align.new.why c.in_err-align.field-0.0 c.from_residual-in_err-align.result c.from_residual-in_err-align.ensures.1
     (then_some whole inner (aligns 8 ∷ last') c.args.w.now c.enter.new.self c.pack_child.new.w (then_one whole (inner ++ aligns 8 ∷ last') (λ path. enters s.rule) p c.args.w.now c.args.w.now c.enter.new.self (begin whole c.args.w.now) c.in_ok-enter.ensures.ran) c.in_ok-pack_child.ensures.packs)
     c.in_err-align.ensures.halted
 
@@ -779,7 +779,7 @@ pub pack_contained-returns-clause-packs : goal.pack_contained-returns-clause-pac
 pack_contained-returns-clause-packs g t c =
     let root = root_of c.args.steps.now in
     let n = node_at c.args.steps.now c.args.this in
-    let p = c.args.path.now in
+    let p = c.args.trace.now.path in
     let s = c.args.sizing.now in
     let d = data_of c.args.v.now in
     let whole = form_events root (contained s n) p d in
@@ -787,8 +787,8 @@ pack_contained-returns-clause-packs g t c =
     let octets' = octets_for (bit_length n 0 d) in
     let last' = closes p s octets' ∷ [] in
     let within = then_some whole inner (aligns 8 ∷ last') c.args.w.now c.enter.new.self c.pack_child.new.w (then_one whole (inner ++ aligns 8 ∷ last') (λ path. enters s.rule) p c.args.w.now c.args.w.now c.enter.new.self (begin whole c.args.w.now) c.in_ok-enter.ensures.ran) c.in_ok-pack_child.ensures.packs in
-    subst (λ (q : List ℕ). Packs whole c.args.w.now c.close.new.self q c.close.result) (sym c.in_ok-pack_child.ensures.path)
-    (last_one whole (λ path. closes path s octets') c.args.w.now c.align.new.self c.close.new.self p c.close.result (then_one whole last' (λ path. aligns 8) p c.args.w.now c.pack_child.new.w c.align.new.self within c.in_ok-align.ensures.ran) (close_ran (λ k path. closes path s k) c.align.new.self c.close.new.self c.close.result c.close.ensures.ran octets') (close_halted (λ k path. closes path s k) c.align.new.self c.close.new.self c.close.result c.close.ensures.halted octets'))
+    subst (λ (q : List ℕ). Packs whole c.args.w.now c.close.new.self q c.close.new.why c.close.result) (sym c.in_ok-pack_child.ensures.path)
+    (last_one whole (λ path. closes path s octets') c.args.w.now c.align.new.self c.close.new.self p c.close.new.why c.close.result (then_one whole last' (λ path. aligns 8) p c.args.w.now c.pack_child.new.w c.align.new.self within c.in_ok-align.ensures.ran) (close_ran (λ k path. closes path s k) c.align.new.self c.close.new.self c.close.result c.close.ensures.ran octets') (close_halted (λ k path. closes path s k) c.align.new.self c.close.new.self c.close.new.why c.close.result c.close.ensures.halted octets'))
 
 -- The search doesn't get so far down in what is required of the writer's size.
 pub pack_contained-close-requires : goal.pack_contained-close-requires

@@ -62,9 +62,9 @@ invariant-pack_fields-loop-this g l = record {
   from : l.first ≤ l.this;
   few : l.k + l.first ≤ l.this;
   within : l.next ≤ length l.places;
-  path : l.path ≡ l.fn.path;
-  sound : FieldsAreSound (root_of l.steps) (suc (length l.fn.path)) (fields_at l.steps l.this l.end);
-  done : GoesOn (field_events (root_of l.steps) (fields_at l.steps l.first l.end) l.fn.path 0 (places_view l.places)) (field_events (root_of l.steps) (fields_at l.steps l.this l.end) l.fn.path l.k (places_view (drop l.next l.places))) l.fn.w l.w;
+  path : l.trace.path ≡ l.fn.trace.path;
+  sound : FieldsAreSound (root_of l.steps) (suc (length l.fn.trace.path)) (fields_at l.steps l.this l.end);
+  done : GoesOn (field_events (root_of l.steps) (fields_at l.steps l.first l.end) l.fn.trace.path 0 (places_view l.places)) (field_events (root_of l.steps) (fields_at l.steps l.this l.end) l.fn.trace.path l.k (places_view (drop l.next l.places))) l.fn.w l.w;
 }
 
 abbrev pub decreases-pack_fields-loop-this : goal.decreases-pack_fields-loop-this
@@ -73,6 +73,6 @@ decreases-pack_fields-loop-this g l = l.end - l.this
 abbrev pub invariant-pack_run-loop-v : goal.invariant-pack_run-loop-v
 invariant-pack_run-loop-v g l = record {
   number : l.k ≡ l.v-index;
-  path : l.path ≡ l.fn.path;
-  done : GoesOn (run_events (λ k d. events (root_of l.steps) (node_at l.steps l.this) (l.fn.path ++ k ∷ []) d) 0 (elements_view l.elements)) (run_events (λ k d. events (root_of l.steps) (node_at l.steps l.this) (l.fn.path ++ k ∷ []) d) l.k (elements_view (drop l.v-index l.elements))) l.fn.w l.w;
+  path : l.trace.path ≡ l.fn.trace.path;
+  done : GoesOn (run_events (λ k d. events (root_of l.steps) (node_at l.steps l.this) (l.fn.trace.path ++ k ∷ []) d) 0 (elements_view l.elements)) (run_events (λ k d. events (root_of l.steps) (node_at l.steps l.this) (l.fn.trace.path ++ k ∷ []) d) l.k (elements_view (drop l.v-index l.elements))) l.fn.w l.w;
 }

@@ -18,4 +18,4 @@ pub returns-else-is_full-clause-ends : goal.returns-else-is_full-clause-ends
 returns-else-is_full-clause-ends g c =
     let root = root_of c.args.plan.now.steps in
     let d = data_of c.args.v.now in
-    ends_here root d (class_of FEW_SLOTS FEW_AVOIDED) _ c.pack_with_few.new.path c.in-Err.halt (bits c.args.buf.now) (bits c.pack_with_few.new.buf) c.requires.fits (sym c.is_full.ensures ∙ c.if-is_full.false) c.in-Err.ensures.halted
+    ends_here root d (class_of FEW_SLOTS FEW_AVOIDED) _ c.pack_with_few.new.trace.path c.pack_with_few.new.trace.why (bits c.args.buf.now) (bits c.pack_with_few.new.buf) c.requires.fits (sym c.is_full.ensures ∙ c.if-is_full.false) c.in-Err.ensures.halted

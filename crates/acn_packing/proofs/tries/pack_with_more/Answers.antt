@@ -3,7 +3,7 @@ use Rattle.acn_num.specs.Bits.{bits}
 use Rattle.acn_grammar.specs.View.{data_of}
 use Rattle.acn_plan.specs.Back.{root_of}
 use Rattle.acn_writer.specs.Halts.{class_of}
-use Rattle.acn_packing.proofs.Halting.{each_err, each_ok, ends_here, ends_with_most}
+use Rattle.acn_packing.proofs.Halting.{each_fault, each_ok, ends_here, ends_with_most}
 use Rattle.acn_packing.proofs.InFront.{stands_again}
 use Rattle.acn_packing.specs.declared.tries.TheConstants.{SOME_SLOTS, SOME_AVOIDED}
 use Rattle.acn_packing.proofs.tries.pack_with_more.Goals as goal
@@ -18,10 +18,10 @@ pub returns-then-is_full-clause-ends : goal.returns-then-is_full-clause-ends
 returns-then-is_full-clause-ends g c =
     let root = root_of c.args.plan.now.steps in
     let d = data_of c.args.v.now in
-    each_err c.pack_with_most.result (λ halt t. ends_with_most c.largest_tables_have_room.ensures root d _ c.pack_with_most.new.path halt (bits c.pack_with_some.new.buf) (bits c.pack_with_most.new.buf) c.args.plan.now.made.accepted c.requires.shaped c.requires.fits t) c.pack_with_most.ensures.halted
+    each_fault c.pack_with_most.result (λ t. ends_with_most c.largest_tables_have_room.ensures root d _ c.pack_with_most.new.trace.path c.pack_with_most.new.trace.why (bits c.pack_with_some.new.buf) (bits c.pack_with_most.new.buf) c.args.plan.now.made.accepted c.requires.shaped c.requires.fits t) c.pack_with_most.ensures.halted
 
 pub returns-else-is_full-clause-ends : goal.returns-else-is_full-clause-ends
 returns-else-is_full-clause-ends g c =
     let root = root_of c.args.plan.now.steps in
     let d = data_of c.args.v.now in
-    ends_here root d (class_of SOME_SLOTS SOME_AVOIDED) _ c.pack_with_some.new.path c.in-Err.halt (bits c.args.buf.now) (bits c.pack_with_some.new.buf) c.requires.fits (sym c.is_full.ensures ∙ c.if-is_full.false) c.in-Err.ensures.halted
+    ends_here root d (class_of SOME_SLOTS SOME_AVOIDED) _ c.pack_with_some.new.trace.path c.pack_with_some.new.trace.why (bits c.args.buf.now) (bits c.pack_with_some.new.buf) c.requires.fits (sym c.is_full.ensures ∙ c.if-is_full.false) c.in-Err.ensures.halted

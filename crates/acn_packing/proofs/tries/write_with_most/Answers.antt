@@ -19,5 +19,5 @@ returns-in-Ok-clause-packed g c =
 
 pub returns-in-Err-clause-halted : goal.returns-in-Err-clause-halted
 returns-in-Err-clause-halted g c =
-    halted (root_of c.args.plan.now.steps) (data_of c.args.v.now) (halt_of c.pack_whole.new.path c.in-Err.halt) c.args.cursor.buf.now c.abandon.result.buf.now c.new-writer.result c.pack_whole.new.writer c.abandon.result c.requires.long
+    halted (root_of c.args.plan.now.steps) (data_of c.args.v.now) (halt_of c.pack_whole.new.trace.path c.pack_whole.new.trace.why) c.args.cursor.buf.now c.abandon.result.buf.now c.new-writer.result c.pack_whole.new.writer c.abandon.result c.requires.long
     (ap (λ (z : State). z.buf) c.new-writer.ensures.state) c.in-Err.ensures.halts c.abandon.ensures refl

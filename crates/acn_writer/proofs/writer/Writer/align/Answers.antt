@@ -14,7 +14,7 @@ returns-then-align-eq1-clause-ran g c = aligned c.args.self.now _ refl refl c.ar
 pub returns-then-not-has_room-clause-halted : goal.returns-then-not-has_room-clause-halted
 returns-then-not-has_room-clause-halted g c =
     let is : c.padding-count.result ≡ padding c.args.align (position (state_of c.args.self.now)) = search rules in
-    halts_still (λ path. aligns c.args.align) c.args.self.now Lost (λ path can. room_lost c.args.self.now c.padding-count.result (c.has_room.ensures.none c.if-not-has_room.true) (subst (λ k. Room k (state_of c.args.self.now)) (sym is) can.1))
+    halts_still (λ path. aligns c.args.align) c.args.self.now _ Lost c.tell-then-not-has_room.ensures (λ path can. room_lost c.args.self.now c.padding-count.result (c.has_room.ensures.none c.if-not-has_room.true) (subst (λ k. Room k (state_of c.args.self.now)) (sym is) can.1))
 
 pub put_zeros-requires : goal.put_zeros-requires
 put_zeros-requires g c = (search rules, c.has_room.ensures.room c.if-not-has_room.false)

@@ -1,4 +1,4 @@
-use Rattle.std.proofs.Common.{rules, ◌≡◌, ◌+◌, ◌-◌, ◌*◌, ◌^◌, ◌<◌, ◌≤◌, ℕ, Some, refl, sym, ap, ◌∙◌, subst, arith}
+use Rattle.std.proofs.Common.{rules, ◌≡◌, ◌+◌, ◌-◌, ◌^◌, ◌<◌, ◌≤◌, ℕ, refl, sym, ap, ◌∙◌, subst, arith}
 use Rattle.std.specs.Prelude.{option_map}
 use Rattle.acn_bits.specs.Overwrite.{Gap}
 use Rattle.acn_writer.specs.Contents.{gap_shown}
@@ -8,18 +8,18 @@ use Rattle.acn_writer.proofs.writer.Writer.close_sized.Goals as goal
 
 pub returns-then-not-fits-clause-halted : goal.returns-then-not-fits-clause-halted
 returns-then-not-fits-clause-halted g c sizing n is permitted =
-    sized_lost c.args.self.now sizing c.args.low c.args.width c.args.octets n is c.requires (λ s. (let f = s.fits permitted in let over = c.fits.ensures.no c.if-not-fits.true f.1 in let small = f.2 in omega (arith, over, small)))
+    sized_lost c.args.self.now sizing c.args.low c.args.width c.args.octets n is c.requires _ c.tell-then-not-fits.ensures (λ s. (let f = s.fits permitted in let over = c.fits.ensures.no c.if-not-fits.true f.1 in let small = f.2 in omega (arith, over, small)))
 
 pub returns-then-hole-width-clause-halted : goal.returns-then-hole-width-clause-halted
 returns-then-hole-width-clause-halted g c sizing n is permitted =
     let shown = c.hole.ensures ∙ ap (option_map gap_shown) c.in-Some.is in
-    sized_lost c.args.self.now sizing c.args.low c.args.width c.args.octets n is c.requires (λ s. (let same = ap (λ (z : Gap). z.width) (same_some (sym s.is ∙ shown)) in let wide = s.wide in omega (arith, same, wide, c.if-hole-width.true)))
+    sized_lost c.args.self.now sizing c.args.low c.args.width c.args.octets n is c.requires _ c.tell-then-hole-width.ensures (λ s. (let same = ap (λ (z : Gap). z.width) (same_some (sym s.is ∙ shown)) in let wide = s.wide in omega (arith, same, wide, c.if-hole-width.true)))
 
 pub returns-then-not-is_passed-clause-halted : goal.returns-then-not-is_passed-clause-halted
 returns-then-not-is_passed-clause-halted g c sizing n is permitted =
     let shown = c.hole.ensures ∙ ap (option_map gap_shown) c.in-Some.is in
     let late = c.is_passed.ensures.no c.if-not-is_passed.true in
-    sized_lost c.args.self.now sizing c.args.low c.args.width c.args.octets n is c.requires (λ s. (let same = ap (λ (z : Gap). z.place + z.width) (same_some (sym s.is ∙ shown)) in let passed = s.passed in omega (arith, same, passed, late)))
+    sized_lost c.args.self.now sizing c.args.low c.args.width c.args.octets n is c.requires _ c.tell-then-not-is_passed.ensures (λ s. (let same = ap (λ (z : Gap). z.place + z.width) (same_some (sym s.is ∙ shown)) in let passed = s.passed in omega (arith, same, passed, late)))
 
 pub fill-requires : goal.fill-requires
 fill-requires g c =

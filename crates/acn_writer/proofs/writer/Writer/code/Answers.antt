@@ -11,13 +11,13 @@ pub returns-then-not-holds-clause-halted : goal.returns-then-not-holds-clause-ha
 returns-then-not-holds-clause-halted g c =
     let plain = to_z-of_z w128 c.args.x c.ranges.x in
     let holds = rw plain at c.holds.ensures in
-    halts_still (λ path. codes c.args.leaf.now c.args.x) c.args.self.now Breaks (λ path. sym holds ∙ c.if-not-holds.true)
+    halts_still (λ path. codes c.args.leaf.now c.args.x) c.args.self.now _ Breaks c.tell.ensures (λ path. sym holds ∙ c.if-not-holds.true)
 
 pub returns-then-not-has_room_for_code-clause-halted : goal.returns-then-not-has_room_for_code-clause-halted
 returns-then-not-has_room_for_code-clause-halted g c =
     let plain = to_z-of_z w128 c.args.x c.ranges.x in
     let late = rw plain at c.has_room_for_code.ensures.none c.if-not-has_room_for_code.true in
-    halts_still (λ path. codes c.args.leaf.now c.args.x) c.args.self.now Lost (λ path room. room_lost c.args.self.now (num_length c.args.leaf.now c.args.x) late room)
+    halts_still (λ path. codes c.args.leaf.now c.args.x) c.args.self.now _ Lost c.tell-then-not-has_room_for_code.ensures (λ path room. room_lost c.args.self.now (num_length c.args.leaf.now c.args.x) late room)
 
 pub returns-clause-ran : goal.returns-clause-ran
 returns-clause-ran g c =

@@ -12,7 +12,7 @@ pub returns-then-not-has_room_for_octets-clause-halted : goal.returns-then-not-h
 returns-then-not-has_room_for_octets-clause-halted g c =
     let octets = c.args.octets.now in
     let late = c.has_room_for_octets.ensures.none c.if-not-has_room_for_octets.true in
-    halts_still (λ path. copies (bits octets)) c.args.self.now Lost (λ path room. room_lost c.args.self.now (8 * length octets) late (subst (λ (k : ℕ). Room k (state_of c.args.self.now)) (length-bits octets) room))
+    halts_still (λ path. copies (bits octets)) c.args.self.now _ Lost c.tell.ensures (λ path room. room_lost c.args.self.now (8 * length octets) late (subst (λ (k : ℕ). Room k (state_of c.args.self.now)) (length-bits octets) room))
 
 pub returns-clause-ran : goal.returns-clause-ran
 returns-clause-ran g c = copied c.args.self.now _ refl refl (bits c.args.octets.now) (8 * length c.args.octets.now) (length-bits c.args.octets.now) c.put_octets.ensures
