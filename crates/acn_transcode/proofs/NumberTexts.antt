@@ -82,10 +82,50 @@ when_ok (Err y) e p = absurd (cc)
 abbrev pub LeafPut : NumLeaf → Option ℕ → Reading → Reading → Draft → Draft → Type 0
 LeafPut leaf slot cur cur' draft draft' = (d : Data) × Reads (λ bs. (x : ℤ) × NumberOf leaf.kind d x × Code Any leaf x bs) cur cur' × Puts (compact_text (num_json leaf.kind leaf.items.items d)) draft draft' × (draft'.slots.items ≡ noted_by slot (number_of d) draft.slots.items)
 
-pub leaf_put : (leaf : NumLeaf) (slot : Option ℕ) (x : ℤ) (cur cur' : Reading) (draft draft' : Draft) → Reads (Code Any leaf x) cur cur' → Said leaf.kind leaf.items.items x draft.text.items draft'.text.items → draft'.aside ≡ draft.aside → draft'.spans ≡ draft.spans → draft'.slots.items ≡ noted_by slot x draft.slots.items → LeafPut leaf slot cur cur' draft draft'
-leaf_put leaf slot x cur cur' draft draft' read said aside spans noted = (
+pub leaf_put : (leaf : NumLeaf) (slot : Option ℕ) (x : ℤ) (cur cur' : Reading) (draft draft' : Draft) → Reads (Code Any leaf x) cur cur' → Said leaf.kind leaf.items.items x draft.text.items draft'.text.items → draft'.aside ≡ draft.aside → draft'.parts ≡ draft.parts → draft'.slots.items ≡ noted_by slot x draft.slots.items → LeafPut leaf slot cur cur' draft draft'
+leaf_put leaf slot x cur cur' draft draft' read said aside parts noted = (
   said.0,
   record { front = read.front; split = read.split; moved = read.moved; window = read.window; holds = (x, said.1, read.holds) },
-  record { added = said.2; aside = ap (λ v. v.items) aside; spans = ap (λ v. v.items) spans },
+  record { added = said.2; aside = ap (λ v. v.items) aside; parts = ap (λ v. v.items) parts },
   noted ∙ ap (λ y. noted_by slot y draft.slots.items) (sym (number_is leaf.kind said.0 x said.1)),
 )
+
+-- a number was read, so its value was
+pub value_read : (leaf : NumLeaf) (d : Data) (x : ℤ) (cur cur' : Reading) → NumberOf leaf.kind d x → Reads (Code Any leaf x) cur cur' → Reads (λ bs. (x : ℤ) × NumberOf leaf.kind d x × Code Any leaf x bs) cur cur'
+value_read leaf d x cur cur' is read = record { front = read.front; split = read.split; moved = read.moved; window = read.window; holds = (x, is, read.holds) }
+
+-- the value of a number
+abbrev value_of : NumKind → ℤ → Data
+value_of Integer x = int x
+value_of Boolean x = boolean (int_eq x (pos 1))
+value_of Enumerated x = item (nat_abs x)
+value_of Null x = null
+
+is_value : (kind : NumKind) (d : Data) (x : ℤ) → NumberOf kind d x → d ≡ value_of kind x
+is_value Integer (int y) x h = ap int (sym h)
+is_value Boolean (boolean true) x h = ap (λ z. boolean (int_eq z (pos 1))) (sym h)
+is_value Boolean (boolean false) x h = ap (λ z. boolean (int_eq z (pos 1))) (sym h)
+is_value Enumerated (item i) x h = ap (λ z. item (nat_abs z)) (sym h)
+is_value Null null x h = refl
+is_value _ _ x h = absurd h
+
+-- only one value has a number
+one_value : (kind : NumKind) (d e : Data) (x : ℤ) → NumberOf kind d x → NumberOf kind e x → d ≡ e
+one_value kind d e x h k = is_value kind d x h ∙ sym (is_value kind e x k)
+
+-- a leaf's number is that of a value
+pub value_there : (leaf : NumLeaf) (x : ℤ) → IsTrue (num_fine leaf) → FormItemsNamed (num leaf) → In leaf.set x → (d : Data) × NumberOf leaf.kind d x
+value_there leaf x fine named p = of leaf.kind refl
+  where
+    said : (kind : NumKind) (d : Data) → leaf.kind ≡ kind → NumberOf kind d x → (d : Data) × NumberOf leaf.kind d x
+    said kind d is v = (d, subst (λ (k : NumKind). NumberOf k d x) (sym is) v)
+
+    of : (kind : NumKind) → leaf.kind ≡ kind → (d : Data) × NumberOf leaf.kind d x
+    of Integer is = said Integer (int x) is refl
+    of Boolean is = said Boolean (boolean (int_eq x (pos 1))) is (truth_number x (int_eq x (pos 1)) refl (in_range (pos 0) (pos 1) leaf.set x (and_parts (is_range (pos 0) (pos 1) leaf.set) (no_items leaf.items) (set_rules leaf Boolean fine is)).0 p))
+    of Enumerated is = said Enumerated (item (nat_abs x)) is (natural_is x (item_small leaf x fine named p is).0)
+    of Null is = (null, null_number leaf x fine is p)
+
+-- the value of a number was put, and so the one value that has it
+pub value_said : (leaf : NumLeaf) (x : ℤ) (d : Data) (old new : List ℕ) → NumberOf leaf.kind d x → Said leaf.kind leaf.items.items x old new → new ≡ old ++ compact_text (num_json leaf.kind leaf.items.items d)
+value_said leaf x d old new is said = said.2 ∙ ap (λ v. old ++ compact_text (num_json leaf.kind leaf.items.items v)) (one_value leaf.kind said.0 d x said.1 is)

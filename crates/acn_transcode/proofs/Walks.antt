@@ -1,5 +1,5 @@
 -- Texts that are put one behind the other, and what a walk knows where it puts them.
-use Rattle.std.proofs.Common.{◌≡◌, ℕ, zero, suc, ◌+◌, ◌-◌, ◌≤◌, Bool, true, false, List, [], ◌∷◌, ◌++◌, length, take, drop, slice_get, Result, Ok, Err, OnOk, if◌then◌else◌, nat_lt, rules, Option, Some, None, refl, sym, ap, subst, ◌∙◌, arith, append_assoc, append-nil, length-append}
+use Rattle.std.proofs.Common.{◌≡◌, ℕ, zero, suc, ◌+◌, ◌-◌, ◌≤◌, Bool, true, false, List, [], ◌∷◌, ◌++◌, ℤ, length, take, drop, slice_get, Result, Ok, Err, OnOk, if◌then◌else◌, nat_lt, rules, Option, Some, None, refl, sym, ap, subst, ◌∙◌, arith, append_assoc, append-nil, length-append}
 use Rattle.std.proofs.lemmas.Bool.Decides.{nat_tests}
 use Rattle.std.specs.Result.{is_ok, is_err}
 use Rattle.json.specs.Print.{quoted}
@@ -8,7 +8,7 @@ use Rattle.serde_json.specs.Written.{compact_text, comma_if, items_text, members
 use Rattle.acn_bits.specs.Reading.{Reading, passed, window_of}
 use Rattle.acn_grammar.specs.Env.{Env}
 use Rattle.acn_grammar.specs.Fails.{Here, presence_count}
-use Rattle.acn_grammar.specs.Grammar.{Grammar, Form, Fields, Data, Elements, num, seq, record_of, no_fields, no_places, empty, filled, component, inserted, no_elements, element}
+use Rattle.acn_grammar.specs.Grammar.{Grammar, Form, Fields, Data, Elements, node, num, seq, record_of, no_fields, no_places, empty, filled, component, inserted, no_elements, element}
 use Rattle.acn_grammar.specs.View.{elements_of, places_of, grammar_of, form_of, alternatives_view, fields_view}
 use Rattle.acn_grammar.specs.declared.node.Alternative.{Alternative}
 use Rattle.acn_grammar.specs.declared.node.Body.TheVariants.{Num}
@@ -26,13 +26,15 @@ use Rattle.acn_reads.proofs.Seqs.{seq_ready}
 use Rattle.acn_reads.proofs.Turns.{seq_read}
 use Rattle.std.specs.Prelude.{filter, not}
 use Rattle.acn_grammar.specs.Tree.{holds}
-use Rattle.acn_transcode.specs.Puts.{Puts, Lays, AreLaid, PutsItems, some_before}
+use Rattle.acn_transcode.specs.Puts.{Puts, Lays, Shows, IsNumber, IsLaid, AreLaid, PutsItems, some_before}
 use Rattle.acn_transcode.specs.declared.draft.Draft.{Draft}
+use Rattle.acn_transcode.specs.declared.draft.Part.{Part}
+use Rattle.acn_transcode.specs.declared.draft.Part.TheVariants.{Away, Text, Number}
 use Rattle.acn_transcode.specs.declared.draft.Span.{Span}
 
 -- no field yet
 pub none_laid : (all : Fields) (draft : Draft) → Lays all all [] draft draft
-none_laid all draft = record { aside = refl; text = []; added = sym (append-nil _); spans = []; noted = sym (append-nil _); laid = λ more later ds h. h }
+none_laid all draft = record { aside = refl; text = []; added = sym (append-nil _); parts = []; noted = sym (append-nil _); laid = λ more later ds h. h }
 
 -- some fields, and some more
 pub more_laid : (all mid rest : Fields) (done more : List (Option Data)) (old between new : Draft) → Lays all mid done old between → Lays mid rest more between new → Lays all rest (done ++ more) old new
@@ -40,14 +42,14 @@ more_laid all mid rest done more old between new p q = record {
   aside = q.aside ∙ p.aside;
   text = p.text ++ q.text;
   added = q.added ∙ (ap (λ t. t ++ q.text) p.added ∙ append_assoc old.text.items p.text q.text);
-  spans = p.spans ++ q.spans;
-  noted = q.noted ∙ (ap (λ s. s ++ q.spans) p.noted ∙ append_assoc old.spans.items p.spans q.spans);
+  parts = p.parts ++ q.parts;
+  noted = q.noted ∙ (ap (λ s. s ++ q.parts) p.noted ∙ append_assoc old.parts.items p.parts q.parts);
   laid = λ behind later ds h.
       let texts : new.text.items ++ behind ≡ between.text.items ++ (q.text ++ behind) = ap (λ t. t ++ behind) q.added ∙ append_assoc between.text.items q.text behind in
-      let inner = subst (λ t. AreLaid t mid (q.spans ++ later) (more ++ ds)) texts (q.laid behind later ds h) in
-      let outer = subst (λ t. AreLaid t all (p.spans ++ (q.spans ++ later)) (done ++ (more ++ ds))) (sym texts) (p.laid (q.text ++ behind) (q.spans ++ later) (more ++ ds) inner) in
-      subst (λ s. AreLaid (new.text.items ++ behind) all s ((done ++ more) ++ ds)) (sym (append_assoc p.spans q.spans later))
-      (subst (λ x. AreLaid (new.text.items ++ behind) all (p.spans ++ (q.spans ++ later)) x) (sym (append_assoc done more ds)) outer);
+      let inner = subst (λ t. AreLaid t mid (q.parts ++ later) (more ++ ds)) texts (q.laid behind later ds h) in
+      let outer = subst (λ t. AreLaid t all (p.parts ++ (q.parts ++ later)) (done ++ (more ++ ds))) (sym texts) (p.laid (q.text ++ behind) (q.parts ++ later) (more ++ ds) inner) in
+      subst (λ s. AreLaid (new.text.items ++ behind) all s ((done ++ more) ++ ds)) (sym (append_assoc p.parts q.parts later))
+      (subst (λ x. AreLaid (new.text.items ++ behind) all (p.parts ++ (q.parts ++ later)) x) (sym (append_assoc done more ds)) outer);
 }
 
 take_front : {A : Type 0} (a b : List A) → take (length a) (a ++ b) ≡ a
@@ -67,54 +69,64 @@ behind_text a b c =
     ap (λ n. take n (drop (length a) ((a ++ b) ++ c))) (length_behind a b)
     ∙ (ap (λ t. take (length b) t) (ap (λ t. drop (length a) t) (append_assoc a b c) ∙ drop_front a (b ++ c)) ∙ take_front b c)
 
--- a component that is there
-pub there_laid : (name : List ℕ) (g : Grammar) (presence : Presence) (default : Option (List ℕ)) (own : Option ℕ) (fs : Fields) (d : Data) (span : Span) (old mid new : Draft)
-    → Puts (compact_text (json_of g d)) old mid → span.from ≡ length old.text.items → span.to ≡ length mid.text.items → new.text.items ≡ mid.text.items → new.aside.items ≡ mid.aside.items → new.spans.items ≡ mid.spans.items ++ Some span ∷ []
-    → Lays (component name g presence default own fs) fs (Some d ∷ []) old new
-there_laid name g presence default own fs d span old mid new p from to texts asides spans =
+-- the text of a component
+pub text_shown : (g : Grammar) (d : Data) (span : Span) (old new : Draft) → Puts (compact_text (json_of g d)) old new → span.from ≡ length old.text.items → span.to ≡ length new.text.items → Shows g (Text span) d old new
+text_shown g d span old new p from to =
     let word = compact_text (json_of g d) in
-    let whole : new.text.items ≡ old.text.items ++ word = texts ∙ p.added in
     let long = length-append old.text.items word in
     let count = ap length p.added in
     let ends : span.to ≡ length (old.text.items ++ word) = to ∙ count in
     record {
-      aside = asides ∙ p.aside;
+      aside = p.aside;
+      parts = p.parts;
       text = word;
-      added = whole;
-      spans = Some span ∷ [];
-      noted = spans ∙ ap (λ s. s ++ Some span ∷ []) p.spans;
-      laid = λ more later ds h. (
-        (
-          (let e = ends in omega (arith, from, e, long)),
-          (let l = length-append new.text.items more in let e = ends in let w = ap length whole in omega (arith, l, e, w)),
-          subst (λ t. take (span.to - span.from) (drop span.from (t ++ more)) ≡ word) (sym whole)
-              (subst (λ n. take (n - span.from) (drop span.from ((old.text.items ++ word) ++ more)) ≡ word) (sym ends)
-              (subst (λ n. take (length (old.text.items ++ word) - n) (drop n ((old.text.items ++ word) ++ more)) ≡ word) (sym from) (behind_text old.text.items word more))),
-        ),
-        h,
+      added = p.added;
+      tells = λ more. (
+        (let e = ends in omega (arith, from, e, long)),
+        (let l = length-append new.text.items more in let e = ends in let w = ap length p.added in omega (arith, l, e, w)),
+        subst (λ t. take (span.to - span.from) (drop span.from (t ++ more)) ≡ word) (sym p.added)
+            (subst (λ n. take (n - span.from) (drop span.from ((old.text.items ++ word) ++ more)) ≡ word) (sym ends)
+            (subst (λ n. take (length (old.text.items ++ word) - n) (drop n ((old.text.items ++ word) ++ more)) ≡ word) (sym from) (behind_text old.text.items word more))),
       );
     }
 
+-- the number of one that is a number leaf
+pub number_shown : (align : ℕ) (leaf : NumLeaf) (x : ℤ) (d : Data) (old new : Draft) → IsNumber (node align (num leaf)) x d → new.text.items ≡ old.text.items → new.aside.items ≡ old.aside.items → new.parts.items ≡ old.parts.items → Shows (node align (num leaf)) (Number x) d old new
+number_shown align leaf x d old new is text aside parts = record { aside = aside; parts = parts; text = []; added = text ∙ sym (append-nil _); tells = λ more. is }
+
+-- a component that is there
+pub there_laid : (name : List ℕ) (g : Grammar) (presence : Presence) (default : Option (List ℕ)) (own : Option ℕ) (fs : Fields) (d : Data) (part : Part) (old mid new : Draft)
+    → Shows g part d old mid → new.text.items ≡ mid.text.items → new.aside.items ≡ mid.aside.items → new.parts.items ≡ mid.parts.items ++ part ∷ []
+    → Lays (component name g presence default own fs) fs (Some d ∷ []) old new
+there_laid name g presence default own fs d part old mid new p texts asides parts = record {
+  aside = asides ∙ p.aside;
+  text = p.text;
+  added = texts ∙ p.added;
+  parts = part ∷ [];
+  noted = parts ∙ ap (λ s. s ++ part ∷ []) p.parts;
+  laid = λ more later ds h. (subst (λ t. IsLaid (t ++ more) part g (Some d)) (sym texts) (p.tells more), h);
+}
+
 -- one that is away
-pub away_laid : (name : List ℕ) (g : Grammar) (presence : Presence) (default : Option (List ℕ)) (own : Option ℕ) (fs : Fields) (old new : Draft) → new.text.items ≡ old.text.items → new.aside.items ≡ old.aside.items → new.spans.items ≡ old.spans.items ++ None ∷ []
+pub away_laid : (name : List ℕ) (g : Grammar) (presence : Presence) (default : Option (List ℕ)) (own : Option ℕ) (fs : Fields) (old new : Draft) → new.text.items ≡ old.text.items → new.aside.items ≡ old.aside.items → new.parts.items ≡ old.parts.items ++ Away ∷ []
     → Lays (component name g presence default own fs) fs (None ∷ []) old new
-away_laid name g presence default own fs old new texts asides spans = record {
+away_laid name g presence default own fs old new texts asides parts = record {
   aside = asides;
   text = [];
   added = texts ∙ sym (append-nil _);
-  spans = None ∷ [];
-  noted = spans;
+  parts = Away ∷ [];
+  noted = parts;
   laid = λ more later ds h. (tt, h);
 }
 
 -- a field without a text
 pub passed_laid : (name : List ℕ) (g : Grammar) (slot : Option ℕ) (fs : Fields) (old new : Draft) → Puts [] old new → Lays (inserted name g slot fs) fs [] old new
-passed_laid name g slot fs old new p = record { aside = p.aside; text = []; added = p.added; spans = []; noted = p.spans ∙ sym (append-nil _); laid = λ more later ds h. h }
+passed_laid name g slot fs old new p = record { aside = p.aside; text = []; added = p.added; parts = []; noted = p.parts ∙ sym (append-nil _); laid = λ more later ds h. h }
 
 -- Elements.
 
 pub no_items_put : (g : Grammar) (draft : Draft) → PutsItems g [] draft draft
-no_items_put g draft = record { goes = λ es. refl; aside = refl; spans = refl }
+no_items_put g draft = record { goes = λ es. refl; aside = refl; parts = refl }
 
 in_front_more : (a b : List Data) (es : Elements) → in_front (a ++ b) es ≡ in_front a (in_front b es)
 in_front_more [] b es = refl
@@ -124,9 +136,9 @@ some_behind : {A : Type 0} (xs : List A) (x : A) → some_before (xs ++ x ∷ []
 some_behind [] x = refl
 some_behind (y ∷ xs) x = refl
 
-pub item_put : (g : Grammar) (ds : List Data) (d : Data) (later : Bool) (old mid comma new : Draft) → PutsItems g ds old mid → later ≡ some_before ds → comma.text.items ≡ mid.text.items ++ comma_if later → comma.aside.items ≡ mid.aside.items → comma.spans.items ≡ mid.spans.items
+pub item_put : (g : Grammar) (ds : List Data) (d : Data) (later : Bool) (old mid comma new : Draft) → PutsItems g ds old mid → later ≡ some_before ds → comma.text.items ≡ mid.text.items ++ comma_if later → comma.aside.items ≡ mid.aside.items → comma.parts.items ≡ mid.parts.items
     → Puts (compact_text (json_of g d)) comma new → PutsItems g (ds ++ d ∷ []) old new
-item_put g ds d later old mid comma new p is texts asides spans q = record {
+item_put g ds d later old mid comma new p is texts asides parts q = record {
   goes = λ es.
       let rest = items_text true (each_json (json_of g) es) in
       let word = compact_text (json_of g d) in
@@ -138,19 +150,19 @@ item_put g ds d later old mid comma new p is texts asides spans q = record {
       ∙ (p.goes (element d es)
       ∙ ap (λ x. old.text.items ++ items_text false (each_json (json_of g) x)) (sym (in_front_more ds (d ∷ []) es))))));
   aside = q.aside ∙ (asides ∙ p.aside);
-  spans = q.spans ∙ (spans ∙ p.spans);
+  parts = q.parts ∙ (parts ∙ p.parts);
 }
 
 -- an array, with its brackets
-pub array_put : (g : Grammar) (ds : List Data) (old opened mid new : Draft) → opened.text.items ≡ old.text.items ++ 91 ∷ [] → opened.aside.items ≡ old.aside.items → opened.spans.items ≡ old.spans.items → PutsItems g ds opened mid
-    → new.text.items ≡ mid.text.items ++ 93 ∷ [] → new.aside.items ≡ mid.aside.items → new.spans.items ≡ mid.spans.items → Puts (91 ∷ items_text false (each_json (json_of g) (elements_of ds))) old new
+pub array_put : (g : Grammar) (ds : List Data) (old opened mid new : Draft) → opened.text.items ≡ old.text.items ++ 91 ∷ [] → opened.aside.items ≡ old.aside.items → opened.parts.items ≡ old.parts.items → PutsItems g ds opened mid
+    → new.text.items ≡ mid.text.items ++ 93 ∷ [] → new.aside.items ≡ mid.aside.items → new.parts.items ≡ mid.parts.items → Puts (91 ∷ items_text false (each_json (json_of g) (elements_of ds))) old new
 array_put g ds old opened mid new begun a s p ended b t = record {
   added = ended
       ∙ (p.goes no_elements
       ∙ (ap (λ x. opened.text.items ++ items_text false (each_json (json_of g) x)) (in_front_all ds)
       ∙ (ap (λ x. x ++ items_text false (each_json (json_of g) (elements_of ds))) begun ∙ append_assoc old.text.items (91 ∷ []) (items_text false (each_json (json_of g) (elements_of ds))))));
   aside = b ∙ (p.aside ∙ a);
-  spans = t ∙ (p.spans ∙ s);
+  parts = t ∙ (p.parts ∙ s);
 }
 
 -- Answers.
@@ -236,15 +248,15 @@ behind_all : {A : Type 0} (a b : List A) → take (length (a ++ b) - length a) (
 behind_all a b = subst (λ x. take (length (a ++ b) - length a) (drop (length a) x) ≡ b) (append-nil (a ++ b)) (behind_text a b [])
 
 -- where the texts of all components stand
-pub all_laid : (all : Fields) (ds : List (Option Data)) (old new : Draft) (first : ℕ) → Lays all no_fields ds old new → first ≡ length old.spans.items → AreLaid new.text.items all (take (length new.spans.items - first) (drop first new.spans.items)) ds
+pub all_laid : (all : Fields) (ds : List (Option Data)) (old new : Draft) (first : ℕ) → Lays all no_fields ds old new → first ≡ length old.parts.items → AreLaid new.text.items all (take (length new.parts.items - first) (drop first new.parts.items)) ds
 all_laid all ds old new first p from =
     let whole = p.laid [] [] [] tt in
-    let texts = subst (λ t. AreLaid t all (p.spans ++ []) (ds ++ [])) (append-nil new.text.items) whole in
-    let spans = subst (λ s. AreLaid new.text.items all s (ds ++ [])) (append-nil p.spans) texts in
-    let values = subst (λ x. AreLaid new.text.items all p.spans x) (append-nil ds) spans in
-    let noted : take (length new.spans.items - first) (drop first new.spans.items) ≡ p.spans =
-    ap (λ n. take (length new.spans.items - n) (drop n new.spans.items)) from
-    ∙ (ap (λ s. take (length s - length old.spans.items) (drop (length old.spans.items) s)) p.noted ∙ behind_all old.spans.items p.spans) in
+    let texts = subst (λ t. AreLaid t all (p.parts ++ []) (ds ++ [])) (append-nil new.text.items) whole in
+    let parts = subst (λ s. AreLaid new.text.items all s (ds ++ [])) (append-nil p.parts) texts in
+    let values = subst (λ x. AreLaid new.text.items all p.parts x) (append-nil ds) parts in
+    let noted : take (length new.parts.items - first) (drop first new.parts.items) ≡ p.parts =
+    ap (λ n. take (length new.parts.items - n) (drop n new.parts.items)) from
+    ∙ (ap (λ s. take (length s - length old.parts.items) (drop (length old.parts.items) s)) p.noted ∙ behind_all old.parts.items p.parts) in
     subst (λ s. AreLaid new.text.items all s ds) (sym noted) values
 
 -- what was put aside is taken away

@@ -11,14 +11,23 @@ pub struct Span {
     pub to: usize,
 }
 
-/// A line in the making: its text, texts that wait for their turn, where the text of each component
-/// stands that is there, and the numbers of slots that were read. One is kept from packet to
-/// packet, so that its room is.
+/// What is kept of a component until its turn: that it is away, where its text stands, or its
+/// number, whose text is put in its turn.
+#[derive(Clone, Copy)]
+pub enum Part {
+    Away,
+    Text(Span),
+    Number(i128),
+}
+
+/// A line in the making: its text, texts that wait for their turn, what is kept of each component,
+/// and the numbers of slots that were read. One is kept from packet to packet, so that its room
+/// is.
 #[derive(Drop)]
 pub struct Draft {
     pub text: Vec<u8>,
     pub aside: Vec<u8>,
-    pub spans: Vec<Option<Span>>,
+    pub parts: Vec<Part>,
     pub slots: Vec<(u32, i128)>,
 }
 
@@ -28,7 +37,7 @@ impl Draft {
         Draft {
             text: Vec::new(alloc),
             aside: Vec::new(alloc),
-            spans: Vec::new(alloc),
+            parts: Vec::new(alloc),
             slots: Vec::new(alloc),
         }
     }
@@ -37,12 +46,12 @@ impl Draft {
     pub fn clear(&mut self)
         ensures text { self.new.text.items ≡ [] }
         ensures aside { self.new.aside.items ≡ [] }
-        ensures spans { self.new.spans.items ≡ [] }
+        ensures parts { self.new.parts.items ≡ [] }
         ensures slots { self.new.slots.items ≡ [] }
     {
         self.text.clear();
         self.aside.clear();
-        self.spans.clear();
+        self.parts.clear();
         self.slots.clear();
     }
 }

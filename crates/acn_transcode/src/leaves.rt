@@ -146,8 +146,8 @@ fn is_one(x: &i128) -> bool
     *x == 1
 }
 
-// Puts the value of a leaf's number.
-fn put_value(leaf: &NumLeaf, x: &i128, text: &mut Vec<u8>) -> Result<(), NoMemory>
+/// Puts the value of a leaf's number.
+pub fn put_value(leaf: &NumLeaf, x: &i128, text: &mut Vec<u8>) -> Result<(), NoMemory>
     requires fine { IsTrue (num_fine leaf.now) }
     requires named { FormItemsNamed (num leaf.now) }
     requires permitted { In leaf.now.set x.now }
@@ -175,6 +175,26 @@ pub fn note(slots: &mut Vec<(u32, i128)>, slot: Option<u32>, x: &i128) -> bool
     match slot {
         Some(slot) => slots.push((slot, *x)).is_ok(),
         None => true,
+    }
+}
+
+/// The number of a leaf, whose code is passed, and which is noted where it is a slot's.
+#[inline(always)]
+pub fn note_number(
+    leaf: &NumLeaf,
+    order: &Order,
+    slot: Option<u32>,
+    cur: &mut ReadCursor<'_>,
+    slots: &mut Vec<(u32, i128)>,
+) -> Option<i128>
+    requires fine { IsTrue (num_fine leaf.now) }
+    requires named { FormItemsNamed (num leaf.now) }
+    requires order { IsLeafOrder leaf.now order.now }
+    ensures read { IfSome result (λ x. (d : Data) × NumberOf leaf.now.kind d x × In leaf.now.set x × Reads (Code Any leaf.now x) cur.old cur.new × (slots.new.items ≡ noted_by slot x slots.old.items)) }
+{
+    match number(cur, leaf, &order.cut) {
+        Some(x) => { if note(slots, slot, &x) { Some(x) } else { None } }
+        None => None,
     }
 }
 

@@ -12,5 +12,5 @@ mod strings;
 mod walk;
 mod words;
 
-pub use draft::{Draft, Span};
+pub use draft::{Draft, Part, Span};
 pub use front::put_front;

@@ -2,13 +2,16 @@
 
 ghost use Rattle.std.specs.Prelude.{◌≡◌, ◌++◌, ◌∷◌, List, Option, Some, None, IfSome, OnOk, ◌≤◌, length, true, false};
 ghost use Rattle.serde_json.specs.Data.{Members};
-ghost use Rattle.serde_json.specs.Written.{comma_if, members_text};
-ghost use Rattle.acn_grammar.specs.Grammar.{Fields, Data, no_places};
+ghost use Rattle.serde_json.specs.Written.{comma_if, compact_text, members_text};
+ghost use Rattle.acn_grammar.specs.Grammar.{Data, no_places};
+ghost use Rattle.acn_grammar.specs.View.{field_of, fields_view};
 ghost use Rattle.acn_lines.specs.Order as order_spec;
 ghost use Rattle.acn_reads.specs.Decoded.{placed};
 ghost use Rattle.acn_transcode.specs.Puts as spec;
 
-use crate::draft::Span;
+use crate::draft::{Part, Span};
+use crate::leaves::put_value;
+use acn_grammar::{Body, Field};
 use acn_json::{put, put_comma, put_octet};
 use acn_lines::Turn;
 use acn_num::NoMemory;
@@ -31,42 +34,79 @@ fn put_pair(later: bool, key: &[u8], value: &[u8], text: &mut Vec<u8>) -> Result
     put(value, text)
 }
 
+// Puts a key and the value of its field's number, behind a comma where one is wanted.
+#[inline(always)]
+fn put_numbered(later: bool, key: &[u8], field: &Field, x: &i128, text: &mut Vec<u8>) -> bool
+    requires number { (d : Data) × spec.IsFieldNumber (field_of field.now) x.now d }
+    ensures put { result ≡ true → (d : Data) → spec.IsFieldNumber (field_of field.now) x.now d → text.new.items ≡ text.old.items ++ comma_if later ++ key.now ++ compact_text (order_spec.field_json (field_of field.now) d) }
+{
+    match field {
+        Field::Component { node, .. } => match &node.body {
+            Body::Num(leaf) => {
+                put_comma(later, text).is_ok()
+                    && put(key, text).is_ok()
+                    && put_value(leaf, x, text).is_ok()
+            }
+            _ => false,
+        },
+        Field::Inserted { .. } => false,
+    }
+}
+
 // Puts the member of a turn, if it is there. The answer says whether a comma is wanted behind it;
 // None where memory is wanting.
 #[inline(always)]
 fn put_member(
     turn: &Turn,
-    spans: &[Option<Span>],
+    fields: &[Field],
+    parts: &[Part],
     aside: &[u8],
     later: bool,
     text: &mut Vec<u8>,
 ) -> Option<bool>
-    requires laid { (fs : Fields) × (ds : List (Option Data)) × spec.AreLaid aside.now fs spans.now ds × order_spec.HasKey (order_spec.field_at fs turn.now.field) turn.now.key × (turn.now.place ≡ order_spec.place_of fs turn.now.field) }
-    ensures put { IfSome result (λ more. (fs : Fields) (ds : List (Option Data)) → spec.AreLaid aside.now fs spans.now ds → order_spec.HasKey (order_spec.field_at fs turn.now.field) turn.now.key → turn.now.place ≡ order_spec.place_of fs turn.now.field → (ms : Members) → text.new.items ++ members_text more ms ≡ text.old.items ++ members_text later (order_spec.member_at (order_spec.field_at fs turn.now.field) (order_spec.place_at (placed ds no_places) turn.now.place) ms)) }
+    requires laid { (ds : List (Option Data)) × spec.AreLaid aside.now (fields_view fields.now) parts.now ds × order_spec.HasKey (order_spec.field_at (fields_view fields.now) turn.now.field) turn.now.key × (turn.now.place ≡ order_spec.place_of (fields_view fields.now) turn.now.field) }
+    ensures put { IfSome result (λ more. (ds : List (Option Data)) → spec.AreLaid aside.now (fields_view fields.now) parts.now ds → order_spec.HasKey (order_spec.field_at (fields_view fields.now) turn.now.field) turn.now.key → turn.now.place ≡ order_spec.place_of (fields_view fields.now) turn.now.field → (ms : Members) → text.new.items ++ members_text more ms ≡ text.old.items ++ members_text later (order_spec.member_at (order_spec.field_at (fields_view fields.now) turn.now.field) (order_spec.place_at (placed ds no_places) turn.now.place) ms)) }
 {
-    match spans.get(turn.place) {
-        Some(Some(span)) => {
+    match parts.get(turn.place) {
+        Some(Part::Text(span)) => {
             match put_pair(later, turn.key.items(), cut_out(aside, span), text) {
                 Ok(()) => Some(true),
                 Err(_) => None,
             }
         }
-        Some(None) => Some(later),
+        Some(Part::Number(x)) => match fields.get(turn.field) {
+            Some(field) => {
+                if put_numbered(later, turn.key.items(), field, x, text) {
+                    Some(true)
+                } else {
+                    None
+                }
+            }
+            None => None,
+        },
+        Some(Part::Away) => Some(later),
         None => None,
     }
 }
 
-/// Puts the object of these turns, whose texts stand aside.
-pub fn put_members(turns: &[Turn], spans: &[Option<Span>], aside: &[u8], text: &mut Vec<u8>) -> bool
-    requires laid { (fs : Fields) × (ds : List (Option Data)) × spec.AreLaid aside.now fs spans.now ds × order_spec.AreKeyed fs turns.now × order_spec.ArePlaced fs turns.now }
-    ensures put { result ≡ true → (fs : Fields) (ds : List (Option Data)) → spec.AreLaid aside.now fs spans.now ds → order_spec.AreKeyed fs turns.now → order_spec.ArePlaced fs turns.now → text.new.items ≡ text.old.items ++ 123 ∷ members_text false (order_spec.in_order fs turns.now (placed ds no_places)) }
+/// Puts the object of these turns, of whose components these parts are kept and whose texts stand
+/// aside.
+pub fn put_members(
+    turns: &[Turn],
+    fields: &[Field],
+    parts: &[Part],
+    aside: &[u8],
+    text: &mut Vec<u8>,
+) -> bool
+    requires laid { (ds : List (Option Data)) × spec.AreLaid aside.now (fields_view fields.now) parts.now ds × order_spec.AreKeyed (fields_view fields.now) turns.now × order_spec.ArePlaced (fields_view fields.now) turns.now }
+    ensures put { result ≡ true → (ds : List (Option Data)) → spec.AreLaid aside.now (fields_view fields.now) parts.now ds → order_spec.AreKeyed (fields_view fields.now) turns.now → order_spec.ArePlaced (fields_view fields.now) turns.now → text.new.items ≡ text.old.items ++ 123 ∷ members_text false (order_spec.in_order (fields_view fields.now) turns.now (placed ds no_places)) }
 {
     if put_octet(b'{', text).is_err() {
         return false;
     }
     let mut later = false;
     for turn in turns {
-        match put_member(turn, spans, aside, later, text) {
+        match put_member(turn, fields, parts, aside, later, text) {
             Some(more) => later = more,
             None => return false,
         }

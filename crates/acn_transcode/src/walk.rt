@@ -1,6 +1,6 @@
 //! The walk over a tree.
 
-ghost use Rattle.std.specs.Prelude.{◌≡◌, ◌<◌, ◌≤◌, ◌+◌, ◌^◌, ℕ, suc, ◌∷◌, [], ◌++◌, List, Bool, Option, None, Some, true, false, IsTrue, length};
+ghost use Rattle.std.specs.Prelude.{◌≡◌, ◌<◌, ◌≤◌, ◌+◌, ◌^◌, ℕ, suc, ◌∷◌, [], ◌++◌, List, Bool, Option, None, Some, true, false, IsTrue, IfSome, length};
 ghost use Rattle.serde_json.specs.Written.{compact_text, members_text};
 ghost use Rattle.acn_grammar.specs.Fails.{Here, flags_behind, presence_count};
 ghost use Rattle.acn_grammar.specs.Grammar.{Grammar, Fields, Data, component, no_fields, list, contained, inserted};
@@ -18,8 +18,8 @@ ghost use Rattle.acn_reads.specs.Present.{BitThere, there_now};
 ghost use Rattle.acn_transcode.specs.Puts as spec;
 ghost use Rattle.acn_transcode.specs.Puts.{Puts, Lays};
 
-use crate::draft::{Draft, Span};
-use crate::leaves::{note, number, put_leaf};
+use crate::draft::{Draft, Part, Span};
+use crate::leaves::{note, note_number, number, put_leaf};
 use crate::members::put_members;
 use crate::sizes::size;
 use crate::slots::forget;
@@ -80,8 +80,8 @@ fn put_body(
     }
 }
 
-// Puts an object. The texts of its members are put in the order of the packet, and wait for their
-// turn.
+// Puts an object. The texts of its members, but those of numbers, are put in the order of the
+// packet, and wait for their turn.
 #[cycle(put)]
 fn put_sequence(
     seq: &Seq,
@@ -96,39 +96,35 @@ fn put_sequence(
     requires order { order_spec.IsFormOrder (form_of (Seq_body seq.now)) order.now }
     ensures put { result ≡ true → (d : Data) × FormRead (grammar_of root.now) (form_of (Seq_body seq.now)) d draft.old.slots.items draft.new.slots.items cur.old cur.new × Puts (compact_text (form_json (form_of (Seq_body seq.now)) d)) draft.old draft.new }
 {
-    let Ok(window) = cur.window(count_of(seq.fields.items())) else {
+    let fields = seq.fields.items();
+    let Ok(window) = cur.window(count_of(fields)) else {
         return false;
     };
     let mut flags = window;
     let mark = draft.aside.len();
-    let first = draft.spans.len();
+    let first = draft.parts.len();
     swap(&mut draft.text, &mut draft.aside);
-    if !put_fields(
-        seq.fields.items(),
-        order.inside.items(),
-        root,
-        &mut flags,
-        cur,
-        draft,
-    ) {
+    if !put_fields(fields, order.inside.items(), root, &mut flags, cur, draft) {
         return false;
     }
     swap(&mut draft.text, &mut draft.aside);
     if !put_members(
         order.turns.items(),
-        &draft.spans[first..],
+        fields,
+        &draft.parts[first..],
         &draft.aside,
         &mut draft.text,
     ) {
         return false;
     }
     draft.aside.truncate(mark);
-    draft.spans.truncate(first);
+    draft.parts.truncate(first);
     forget(seq.home.items(), &mut draft.slots);
     true
 }
 
-// Puts the values of the fields' components one behind the other, and notes where they stand.
+// Puts the values of the fields' components one behind the other, but for numbers, and notes where
+// they stand, and the numbers.
 #[cycle(put)]
 fn put_fields(
     fields: &[Field],
@@ -212,45 +208,52 @@ fn put_component(
     ensures put { result ≡ true → (d : Option Data) × ((here : Here) (k : ℕ) (name : List ℕ) (default : Option (List ℕ)) (fs : Fields) → Turn (grammar_of root.now) here cur.old.origin k (suc k) (component name (grammar_of node.now) presence.now default slot fs) fs (d ∷ []) draft.old.slots.items draft.new.slots.items flags.old.rest flags.new.rest cur.old cur.new) × ((name : List ℕ) (default : Option (List ℕ)) (fs : Fields) → Lays (component name (grammar_of node.now) presence.now default slot fs) fs (d ∷ []) draft.old draft.new) }
 {
     if is_here(presence, flags, &draft.slots) {
-        let from = draft.text.len();
-        if !put_present(node, slot, order, root, cur, draft) {
-            return false;
+        match lay_present(node, slot, order, root, cur, draft) {
+            Some(part) => draft.parts.push(part).is_ok(),
+            None => false,
         }
-        let span = Span {
-            from,
-            to: draft.text.len(),
-        };
-        draft.spans.push(Some(span)).is_ok()
     } else {
-        draft.spans.push(None).is_ok()
+        draft.parts.push(Part::Away).is_ok()
     }
 }
 
-// A component that is there, whose number is noted where it is a slot's. For a number no walk is
-// begun, since nothing stands inside it.
+// A component that is there: its text, or its number, which is noted where it is a slot's. For a
+// number no walk is begun, since nothing stands inside it.
 #[inline(always)]
 #[cycle(put)]
-fn put_present(
+fn lay_present(
     node: &Node,
     slot: Option<u32>,
     order: &Order,
     root: &Node,
     cur: &mut ReadCursor<'_>,
     draft: &mut Draft,
-) -> bool
+) -> Option<Part>
     requires ready { (k : ℕ) × (around : List ℕ) × NodeStands (grammar_of root.now) k (grammar_of node.now) draft.old.slots.items around }
     requires named { ItemsNamed (grammar_of node.now) }
     requires fine { Fine (grammar_of root.now) draft.old.slots.items }
     requires order { order_spec.IsNodeOrder (grammar_of node.now) order.now }
-    ensures put { result ≡ true → (d : Data) × spec.PresentRead (grammar_of root.now) (grammar_of node.now) slot d draft.old.slots.items draft.new.slots.items cur.old cur.new × Puts (compact_text (json_of (grammar_of node.now) d)) draft.old draft.new }
+    ensures laid { IfSome result (λ part. (d : Data) × spec.PresentRead (grammar_of root.now) (grammar_of node.now) slot d draft.old.slots.items draft.new.slots.items cur.old cur.new × spec.Shows (grammar_of node.now) part d draft.old draft.new) }
 {
     match (&node.body, slot) {
         (Body::Num(leaf), slot) => match pad(cur, node.align) {
-            Ok(()) => put_leaf(leaf, order, slot, cur, draft),
-            Err(_) => false,
+            Ok(()) => match note_number(leaf, order, slot, cur, &mut draft.slots) {
+                Some(x) => Some(Part::Number(x)),
+                None => None,
+            },
+            Err(_) => None,
         },
-        (_, None) => put_node(node, order, root, cur, draft),
-        (_, Some(_)) => false,
+        (_, None) => {
+            let from = draft.text.len();
+            if !put_node(node, order, root, cur, draft) {
+                return None;
+            }
+            Some(Part::Text(Span {
+                from,
+                to: draft.text.len(),
+            }))
+        }
+        (_, Some(_)) => None,
     }
 }
 

@@ -2,10 +2,13 @@ use Rattle.std.proofs.Common.{◌≡◌, ℕ, ℤ, zero, suc, ◌+◌, ◌≤◌
 use Rattle.std.proofs.lemmas.Grind.{common_steps}
 use Rattle.std.proofs.lemmas.Bool.{ltb-true}
 use Rattle.std.specs.Result.{is_ok}
+use Rattle.std.specs.Int.{w128}
+use Rattle.std.proofs.lemmas.Int.{to_z-of_z}
 use Rattle.serde_json.specs.Written.{compact_text, members_text}
 use Rattle.acn_grammar.specs.Env.{Env}
 use Rattle.acn_grammar.specs.Fails.{presence_count}
-use Rattle.acn_grammar.specs.Grammar.{Grammar, Form, Fields, num, octets, bits, text, seq, choice, component, no_places, record_of, list_of, alt, octet_string, bit_string, characters}
+use Rattle.acn_grammar.specs.Length.{number_of}
+use Rattle.acn_grammar.specs.Grammar.{Grammar, Form, Fields, node, num, octets, bits, text, seq, choice, component, no_places, record_of, list_of, alt, octet_string, bit_string, characters}
 use Rattle.acn_grammar.specs.View.{OneField, grammar_of, form_of, field_of, fields_view, with_field, alternatives_view, places_of, elements_of}
 use Rattle.acn_grammar.specs.declared.node.Alternative.{the_lemmas as alternative_lemmas}
 use Rattle.acn_grammar.specs.declared.node.Body.TheVariants.{Choice as Choice_body, Seq as Seq_body}
@@ -20,6 +23,8 @@ use Rattle.acn_lines.proofs.Parts.{orders-within, order-here, alternatives-withi
 use Rattle.acn_reads.specs.Choices.{Picked}
 use Rattle.acn_reads.specs.Decoded.{FormStands, NodeRead, FormRead, Turn, Passes, placed}
 use Rattle.acn_reads.specs.Present.{there_now}
+use Rattle.acn_reads.specs.Steps.{noted_by}
+use Rattle.acn_reads.proofs.Small.{number_is}
 use Rattle.acn_reads.proofs.ChoiceReads.{body_is, choice_few, choice_rule_known, choice_fits, choice_inner, choice_named, choice_read, case_there, case_at, case_inner, count_cases, same_case, view_choice, view_named}
 use Rattle.acn_reads.proofs.EndReads.{ended_list}
 use Rattle.acn_reads.proofs.Loops.{fields_from, next_ready, all_turns, named_at}
@@ -29,10 +34,41 @@ use Rattle.acn_reads.proofs.Seqs.{few_fields, fields_named, fields_ready, flags_
 use Rattle.acn_reads.proofs.SlotTurns.{component_read}
 use Rattle.acn_reads.proofs.StringReads.{bits_rule, form_passed, octets_rule, text_rule, view_bits, view_octets, view_text}
 use Rattle.acn_reads.proofs.Turns.{away_turn, more_turns, no_turn, there_told}
-use Rattle.acn_transcode.specs.Puts.{Puts, Lays, AreLaid}
-use Rattle.acn_transcode.proofs.Walks.{all_laid, alternative_put, array_put, away_laid, front_left, if_true, item_put, later_is, more_laid, no_err, no_items_put, none_laid, object_put, one_longer, passed_laid, seen_form, seq_put_read, there_laid, view_num, when_ok}
+use Rattle.acn_transcode.specs.Puts.{Puts, Lays, Shows, IsNumber, AreLaid}
+use Rattle.acn_transcode.specs.declared.draft.Draft.{Draft}
+use Rattle.acn_transcode.specs.declared.draft.Part.TheVariants.{Number}
+use Rattle.acn_transcode.proofs.NumberTexts.{value_read}
+use Rattle.acn_transcode.proofs.Walks.{all_laid, alternative_put, array_put, away_laid, front_left, if_true, item_put, later_is, more_laid, no_err, no_items_put, none_laid, number_shown, object_put, one_longer, passed_laid, seen_form, seq_put_read, text_shown, there_laid, view_num, when_ok}
 use Rattle.acn_transcode.proofs.walk.+put.Goals.{put_list-then-is_ended+else-not-put_elements, put_list-else-is_ended+in-Some+else-not-put_run}
 use Rattle.acn_transcode.proofs.walk.+put.Goals as goal
+
+pub lay_present-returns-in-Some : goal.lay_present-returns-in-Some
+lay_present-returns-in-Some t c =
+    let q = c.in-Some.ensures.read in
+    let leaf = c.in-Num-default.leaf in
+    let x = c.in-Some.x in
+    let plain = to_z-of_z w128 x (record { sfits = search rules }) in
+    let v = node_of_number c.args.node.now leaf c.in-Num-default.is-0 in
+    let root = grammar_of c.args.root.now in
+    let old = c.args.draft.now in
+    let slots = old.slots.items in
+    let new : Draft = record { text = old.text; aside = old.aside; parts = old.parts; slots = c.note_number.new.slots } in
+    let is : IsNumber (node c.args.node.now.align (num leaf)) x q.0 = (search rules, search rules, q.2, q.1) in
+    record {
+      laid = (
+        q.0,
+        (slots, q.4 ∙ ap (λ y. noted_by c.args.slot y slots) (sym (number_is leaf.kind q.0 x q.1)), subst (λ (g : Grammar). NodeRead root g q.0 slots slots c.args.cur.now c.note_number.new.cur) (sym v) (node_read root c.args.node.now.align (num leaf) q.0 slots slots c.args.cur.now c.pad.new.cur c.note_number.new.cur c.in-Ok.ensures.passed (num_read root leaf q.0 slots c.pad.new.cur c.note_number.new.cur c.requires.fine (value_read leaf q.0 x c.pad.new.cur c.note_number.new.cur q.1 q.3)))),
+        subst (λ (y : ℤ). Shows (grammar_of c.args.node.now) (Number y) q.0 old new) (sym plain) (subst (λ (g : Grammar). Shows g (Number x) q.0 old new) (sym v) (number_shown c.args.node.now.align leaf x q.0 old new is refl refl refl)),
+      );
+    }
+
+pub lay_present-returns-else-not-put_node : goal.lay_present-returns-else-not-put_node
+lay_present-returns-else-not-put_node t c =
+    let q = c.put_node.ensures.put c.if-not-put_node.false in
+    let from : c.len-from.result ≡ length c.args.draft.now.text.items = search rules in
+    let to : c.len.result ≡ length c.put_node.new.draft.text.items = search rules in
+    let noted : c.put_node.new.draft.slots.items ≡ noted_by c.args.slot (number_of q.0) c.put_node.new.draft.slots.items = search rules in
+    record { laid = (q.0, (c.put_node.new.draft.slots.items, noted, q.1), text_shown (grammar_of c.args.node.now) q.0 (record { from = c.len-from.result; to = c.len.result }) c.args.draft.now c.put_node.new.draft q.2 from to) }
 
 pub put_alternative-bounds-orders-i : goal.put_alternative-bounds-orders-i
 put_alternative-bounds-orders-i t c = alternatives-within c.args.alternatives.now c.args.orders.now c.args.i c.requires.orders c.requires.there
@@ -63,7 +99,7 @@ put_alternative-returns-else-not-put_node t c =
             record {
               added = alternative_put as' c.args.i a p.0 c.args.draft.now.text.items c.put_octet.new.out.items c.put_key.new.out.items c.put_node.new.draft.text.items c.put_octet-in-Some.new.out.items at opened (keyed ∙ ap (λ (n : List ℕ). c.put_octet.new.out.items ++ (Rattle.json.specs.Print.quoted n ++ 58 ∷ [])) c.bytes.ensures) p.2.added closed;
               aside = p.2.aside;
-              spans = p.2.spans;
+              parts = p.2.parts;
             },
           );
     }
@@ -96,7 +132,7 @@ put_body-returns-in-Octets t c = record {
       seen_form (grammar_of c.args.root.now) (form_of c.args.body.now) form c.args.draft.now.slots.items c.args.draft.now.slots.items c.args.cur.now c.put_octets.new.cur c.args.draft.now _ (ap form_of c.in-Octets.is ∙ view_octets c.in-Octets.sizing) (
         octet_string p.0,
         form_passed (grammar_of c.args.root.now) form (octet_string p.0) c.args.draft.now.slots.items c.args.cur.now c.put_octets.new.cur (λ ks. refl) c.requires.fine (subst (λ (x : Env). Passes (λ env. Rattle.acn_grammar.specs.Spell.FormPart (grammar_of c.args.root.now) Rattle.acn_grammar.specs.Code.Any form env (octet_string p.0)) x c.args.cur.now c.put_octets.new.cur) c.deref.ensures.value (p.1 (grammar_of c.args.root.now))),
-        record { added = p.2; aside = refl; spans = refl },
+        record { added = p.2; aside = refl; parts = refl },
       );
 }
 
@@ -108,7 +144,7 @@ put_body-returns-in-Bits t c = record {
       seen_form (grammar_of c.args.root.now) (form_of c.args.body.now) form c.args.draft.now.slots.items c.args.draft.now.slots.items c.args.cur.now c.put_bits.new.cur c.args.draft.now _ (ap form_of c.in-Bits.is ∙ view_bits c.in-Bits.sizing) (
         bit_string p.0,
         form_passed (grammar_of c.args.root.now) form (bit_string p.0) c.args.draft.now.slots.items c.args.cur.now c.put_bits.new.cur (λ ks. refl) c.requires.fine (subst (λ (x : Env). Passes (λ env. Rattle.acn_grammar.specs.Spell.FormPart (grammar_of c.args.root.now) Rattle.acn_grammar.specs.Code.Any form env (bit_string p.0)) x c.args.cur.now c.put_bits.new.cur) c.deref-in-Bits.ensures.value (p.1 (grammar_of c.args.root.now))),
-        record { added = p.2; aside = refl; spans = refl },
+        record { added = p.2; aside = refl; parts = refl },
       );
 }
 
@@ -120,7 +156,7 @@ put_body-returns-in-Text t c = record {
       seen_form (grammar_of c.args.root.now) (form_of c.args.body.now) form c.args.draft.now.slots.items c.args.draft.now.slots.items c.args.cur.now c.put_text.new.cur c.args.draft.now _ (ap form_of c.in-Text.is ∙ view_text c.in-Text.leaf) (
         characters p.0,
         form_passed (grammar_of c.args.root.now) form (characters p.0) c.args.draft.now.slots.items c.args.cur.now c.put_text.new.cur (λ ks. refl) c.requires.fine (subst (λ (x : Env). Passes (λ env. Rattle.acn_grammar.specs.Spell.FormPart (grammar_of c.args.root.now) Rattle.acn_grammar.specs.Code.Any form env (characters p.0)) x c.args.cur.now c.put_text.new.cur) c.deref-in-Text.ensures.value (p.1 (grammar_of c.args.root.now))),
-        record { added = p.2; aside = c.put_text.ensures.aside sure; spans = refl },
+        record { added = p.2; aside = c.put_text.ensures.aside sure; parts = refl },
       );
 }
 
@@ -175,21 +211,19 @@ put_choice-returns-in-Ok t c = record {
       (alt c.in-Ok.i p.0, choice_read root cases inside.rule c.in-Ok.i g.0 p.0 c.args.draft.now.slots.items c.put_alternative.new.draft.slots.items c.args.cur.now c.pick.new.cur c.put_alternative.new.cur g.1 picked (p.1 g.0 g.1), p.2);
 }
 
-pub put_component-returns-else-not-put_present : goal.put_component-returns-else-not-put_present
-put_component-returns-else-not-put_present t c = record {
+pub put_component-returns-in-Some : goal.put_component-returns-in-Some
+put_component-returns-in-Some t c = record {
   put = λ sure.
       let r = c.requires.ready in
       let root = grammar_of c.args.root.now in
-      let q = c.put_present.ensures.put c.if-not-put_present.false in
+      let q = c.in-Some.ensures.laid in
       let there : there_now c.args.presence.now c.args.draft.now.slots.items c.args.flags.now.rest ≡ true = ap (λ x. there_now c.args.presence.now x c.args.flags.now.rest) (sym c.deref.ensures.value) ∙ (sym c.is_here.ensures.there ∙ c.if-is_here.true) in
-      let from : c.len-from.result ≡ length c.args.draft.now.text.items = search rules in
-      let to : c.len.result ≡ length c.put_present.new.draft.text.items = search rules in
       let pushed = if_true (is_ok c.push.result) _ _ _ (sym c.is_ok.ensures.value ∙ sure) c.push.ensures.items in (
         Some q.0,
-        λ here k name default fs. subst (λ (x : Env). Turn root here c.args.cur.now.origin k (suc k) (component name (grammar_of c.args.node.now) c.args.presence.now default c.args.slot fs) fs (Some q.0 ∷ []) c.args.draft.now.slots.items x c.args.flags.now.rest c.is_here.new.flags.rest c.args.cur.now c.put_present.new.cur) (sym q.1.1)
-            (component_read root here c.args.cur.now.origin k name (grammar_of c.args.node.now) c.args.presence.now default c.args.slot fs r.2 q.0 c.args.draft.now.slots.items q.1.0 c.args.flags.now.rest c.is_here.new.flags.rest c.args.cur.now c.put_present.new.cur r.0 r.1 r.3 c.requires.named
+        λ here k name default fs. subst (λ (x : Env). Turn root here c.args.cur.now.origin k (suc k) (component name (grammar_of c.args.node.now) c.args.presence.now default c.args.slot fs) fs (Some q.0 ∷ []) c.args.draft.now.slots.items x c.args.flags.now.rest c.is_here.new.flags.rest c.args.cur.now c.lay_present.new.cur) (sym q.1.1)
+            (component_read root here c.args.cur.now.origin k name (grammar_of c.args.node.now) c.args.presence.now default c.args.slot fs r.2 q.0 c.args.draft.now.slots.items q.1.0 c.args.flags.now.rest c.is_here.new.flags.rest c.args.cur.now c.lay_present.new.cur r.0 r.1 r.3 c.requires.named
             c.is_here.ensures.flags (λ env f. (there_told root r.3.known c.args.draft.now.slots.items env c.args.presence.now c.args.flags.now.rest r.3.noted.has r.3.is.0 f).0 there) q.1.2),
-        λ name default fs. there_laid name (grammar_of c.args.node.now) c.args.presence.now default c.args.slot fs q.0 (record { from = c.len-from.result; to = c.len.result }) c.args.draft.now c.put_present.new.draft _ q.2 from to refl refl pushed,
+        λ name default fs. there_laid name (grammar_of c.args.node.now) c.args.presence.now default c.args.slot fs q.0 c.in-Some.part c.args.draft.now c.lay_present.new.draft _ q.2 refl refl pushed,
       );
 }
 
@@ -403,20 +437,6 @@ put_node-returns-in-Ok t c = record {
       );
 }
 
-pub put_present-returns-in-Ok : goal.put_present-returns-in-Ok
-put_present-returns-in-Ok t c = record {
-  put = λ sure.
-      let p = c.put_leaf.ensures.put sure in
-      let leaf = c.in-Num-default.leaf in
-      let v = node_of_number c.args.node.now leaf c.in-Num-default.is-0 in
-      let root = grammar_of c.args.root.now in
-      let slots = c.args.draft.now.slots.items in (
-        p.0,
-        (slots, p.3, subst (λ (g : Grammar). NodeRead root g p.0 slots slots c.args.cur.now c.put_leaf.new.cur) (sym v) (node_read root c.args.node.now.align (num leaf) p.0 slots slots c.args.cur.now c.pad.new.cur c.put_leaf.new.cur c.in-Ok.ensures.passed (num_read root leaf p.0 slots c.pad.new.cur c.put_leaf.new.cur c.requires.fine p.1))),
-        subst (λ (g : Grammar). Puts (compact_text (json_of g p.0)) c.args.draft.now c.put_leaf.new.draft) (sym v) p.2,
-      );
-}
-
 pub put_run-loop-i-init : goal.put_run-loop-i-init
 put_run-loop-i-init t c = record { put = ([], refl, λ here. no_run (grammar_of c.args.root.now) here c.args.cur.now.origin (grammar_of c.args.node.now) 0 c.args.draft.now.slots.items c.args.cur.now c.requires.fine, no_items_put (grammar_of c.args.node.now) c.args.draft.now) }
 
@@ -451,36 +471,35 @@ put_run-returns t c =
     record { put = λ sure. (p.0, count, p.2, p.3) }
 
 pub put_sequence-count_of-requires : goal.put_sequence-count_of-requires
-put_sequence-count_of-requires t c = (let r = c.requires.ready in few_fields (grammar_of c.args.root.now) _ c.args.seq.now.fields c.items.result.now c.args.seq.now.home r.0 c.args.draft.now.slots.items (view_seq_form c.args.seq.now) c.items.ensures (r.1, r.2))
+put_sequence-count_of-requires t c = (let r = c.requires.ready in few_fields (grammar_of c.args.root.now) _ c.args.seq.now.fields c.items-fields.result.now c.args.seq.now.home r.0 c.args.draft.now.slots.items (view_seq_form c.args.seq.now) c.items-fields.ensures (r.1, r.2))
 
 pub put_sequence-put_fields-requires : goal.put_sequence-put_fields-requires
 put_sequence-put_fields-requires t c =
     let root = grammar_of c.args.root.now in
     let v = view_seq_form c.args.seq.now in
     let r = c.requires.ready in
-    let count : c.count_of.result ≡ presence_count (fields_view c.args.seq.now.fields) = c.count_of.ensures ∙ ap (λ x. presence_count (fields_view x)) c.items.ensures in
-    let q = fields_ready root _ c.args.seq.now.fields c.items-2.result.now c.args.seq.now.home r.0 c.args.draft.now.slots.items v c.items-2.ensures (r.1, r.2) in
+    let count : c.count_of.result ≡ presence_count (fields_view c.args.seq.now.fields) = c.count_of.ensures ∙ ap (λ x. presence_count (fields_view x)) c.items-fields.ensures in
+    let q = fields_ready root _ c.args.seq.now.fields c.items-fields.result.now c.args.seq.now.home r.0 c.args.draft.now.slots.items v c.items-fields.ensures (r.1, r.2) in
     let o = subst (λ (x : Form). IsFormOrder x c.args.order.now) v c.requires.order in
-    let orders = subst (λ (x : List Order). AreFieldOrders (fields_view c.items-2.result.now) x) (sym c.items-3.ensures) (subst (λ (x : List Field). AreFieldOrders (fields_view x) (out-Order c.args.order.now).inside) (sym c.items-2.ensures) o.1) in (
+    let orders = subst (λ (x : List Order). AreFieldOrders (fields_view c.items-fields.result.now) x) (sym c.items.ensures) (subst (λ (x : List Field). AreFieldOrders (fields_view x) (out-Order c.args.order.now).inside) (sym c.items-fields.ensures) o.1) in (
       search (rules, the_lemmas),
       (
-        flags_are root c.args.seq.now.fields c.items-2.result.now c.count_of.result c.args.cur.now c.in-Ok.window c.items-2.ensures count c.in-Ok.ensures.within c.in-Ok.ensures.window,
-        ((suc r.0, q.0, q.1), (fields_named _ c.args.seq.now.fields c.items-2.result.now c.args.seq.now.home v c.items-2.ensures c.requires.named, (c.requires.fine, orders))),
+        flags_are root c.args.seq.now.fields c.items-fields.result.now c.count_of.result c.args.cur.now c.in-Ok.window c.items-fields.ensures count c.in-Ok.ensures.within c.in-Ok.ensures.window,
+        ((suc r.0, q.0, q.1), (fields_named _ c.args.seq.now.fields c.items-fields.result.now c.args.seq.now.home v c.items-fields.ensures c.requires.named, (c.requires.fine, orders))),
       ),
     )
 
 pub put_sequence-put_members-requires : goal.put_sequence-put_members-requires
 put_sequence-put_members-requires t c =
-    let fields = c.items-2.result.now in
+    let fields = c.items-fields.result.now in
     let p = c.put_fields.ensures.put c.if-not-put_fields.false in
     let o = subst (λ (x : Form). IsFormOrder x c.args.order.now) (view_seq_form c.args.seq.now) c.requires.order in
-    let turns = subst (λ ts. AreTurns (fields_view fields) ts) (sym c.items-4.ensures) (subst (λ (x : List Field). AreTurns (fields_view x) (out-Order c.args.order.now).turns) (sym c.items-2.ensures) o.0) in
+    let turns = subst (λ ts. AreTurns (fields_view fields) ts) (sym c.items-2.ensures) (subst (λ (x : List Field). AreTurns (fields_view x) (out-Order c.args.order.now).turns) (sym c.items-fields.ensures) o.0) in
     let texts = c.deref-2.ensures.value ∙ ap (λ v. v.items) c.swap-2.ensures.y_after in
     let first = c.len-first.result in
-    let before : first ≡ length c.args.draft.now.spans.items = search rules in
+    let before : first ≡ length c.args.draft.now.parts.items = search rules in
     record {
       laid = (
-        fields_view fields,
         p.0,
         subst (λ x. AreLaid x (fields_view fields) (take (length c.deref.result.now - first) (drop first c.deref.result.now)) p.0) (sym texts)
             (subst (λ x. AreLaid c.put_fields.new.draft.text.items (fields_view fields) (take (length x - first) (drop first x)) p.0) (sym c.deref.ensures.value) (all_laid (fields_view fields) p.0 _ c.put_fields.new.draft first p.2 before)),
@@ -493,29 +512,29 @@ pub put_sequence-returns : goal.put_sequence-returns
 put_sequence-returns t c = record {
   put = λ sure.
       let root = grammar_of c.args.root.now in
-      let fields = c.items-2.result.now in
+      let fields = c.items-fields.result.now in
       let form = form_of (Seq_body c.args.seq.now) in
       let v = view_seq_form c.args.seq.now in
       let r = c.requires.ready in
       let p = c.put_fields.ensures.put c.if-not-put_fields.false in
-      let count : c.count_of.result ≡ presence_count (fields_view c.args.seq.now.fields) = c.count_of.ensures ∙ ap (λ x. presence_count (fields_view x)) c.items.ensures in
+      let count : c.count_of.result ≡ presence_count (fields_view c.args.seq.now.fields) = c.count_of.ensures ∙ ap (λ x. presence_count (fields_view x)) c.items-fields.ensures in
       let o = subst (λ (x : Form). IsFormOrder x c.args.order.now) v c.requires.order in
-      let turns = subst (λ ts. AreTurns (fields_view fields) ts) (sym c.items-4.ensures) (subst (λ (x : List Field). AreTurns (fields_view x) (out-Order c.args.order.now).turns) (sym c.items-2.ensures) o.0) in
+      let turns = subst (λ ts. AreTurns (fields_view fields) ts) (sym c.items-2.ensures) (subst (λ (x : List Field). AreTurns (fields_view x) (out-Order c.args.order.now).turns) (sym c.items-fields.ensures) o.0) in
       let first = c.len-first.result in
-      let before : first ≡ length c.args.draft.now.spans.items = search rules in
+      let before : first ≡ length c.args.draft.now.parts.items = search rules in
       let mark : c.len-mark.result ≡ length c.args.draft.now.aside.items = search rules in
       let texts = c.deref-2.ensures.value ∙ ap (λ v. v.items) c.swap-2.ensures.y_after in
       let laid = subst (λ x. AreLaid x (fields_view fields) (take (length c.deref.result.now - first) (drop first c.deref.result.now)) p.0) (sym texts)
       (subst (λ x. AreLaid c.put_fields.new.draft.text.items (fields_view fields) (take (length x - first) (drop first x)) p.0) (sym c.deref.ensures.value) (all_laid (fields_view fields) p.0 _ c.put_fields.new.draft first p.2 before)) in
       let base = ap (λ v. v.items) c.swap-2.ensures.x_after ∙ (p.2.aside ∙ ap (λ v. v.items) c.swap.ensures.y_after) in
-      let said = c.put_members.ensures.put c.if-not-put_members.false (fields_view fields) p.0 laid turns.0 turns.2 in (
+      let said = c.put_members.ensures.put c.if-not-put_members.false p.0 laid turns.0 turns.2 in (
         record_of (places_of p.0),
-        seq_put_read root r.0 _ form c.args.seq.now.fields fields c.args.seq.now.home c.items-5.result.now p.0 c.args.draft.now.slots.items c.put_fields.new.draft.slots.items c.forget.new.slots.items c.args.cur.now c.window.new.self c.put_fields.new.cur c.in-Ok.window c.count_of.result _
-            v c.items-2.ensures c.items-5.ensures c.forget.ensures count c.in-Ok.ensures.within c.in-Ok.ensures.window c.in-Ok.ensures.moved (r.1, r.2) p.1,
+        seq_put_read root r.0 _ form c.args.seq.now.fields fields c.args.seq.now.home c.items-3.result.now p.0 c.args.draft.now.slots.items c.put_fields.new.draft.slots.items c.forget.new.slots.items c.args.cur.now c.window.new.self c.put_fields.new.cur c.in-Ok.window c.count_of.result _
+            v c.items-fields.ensures c.items-3.ensures c.forget.ensures count c.in-Ok.ensures.within c.in-Ok.ensures.window c.in-Ok.ensures.moved (r.1, r.2) p.1,
         record {
-          added = object_put (fields_view fields) c.args.seq.now.home c.items-4.result.now p.0 form c.args.draft.now.text.items c.put_members.new.text.items (v ∙ ap (λ (x : List Field). seq (fields_view x) c.args.seq.now.home) (sym c.items-2.ensures)) turns (said ∙ ap (λ x. x ++ 123 ∷ members_text false (in_order (fields_view fields) c.items-4.result.now (placed p.0 no_places))) base);
+          added = object_put (fields_view fields) c.args.seq.now.home c.items-2.result.now p.0 form c.args.draft.now.text.items c.put_members.new.text.items (v ∙ ap (λ (x : List Field). seq (fields_view x) c.args.seq.now.home) (sym c.items-fields.ensures)) turns (said ∙ ap (λ x. x ++ 123 ∷ members_text false (in_order (fields_view fields) c.items-2.result.now (placed p.0 no_places))) base);
           aside = front_left c.args.draft.now.aside.items p.2.text c.swap-2.new.y.items c.truncate.new.self.items c.len-mark.result mark (ap (λ v. v.items) c.swap-2.ensures.y_after ∙ (p.2.added ∙ ap (λ v. v.items ++ p.2.text) c.swap.ensures.x_after)) c.truncate.ensures.items;
-          spans = front_left c.args.draft.now.spans.items p.2.spans c.put_fields.new.draft.spans.items c.truncate-2.new.self.items first before p.2.noted c.truncate-2.ensures.items;
+          parts = front_left c.args.draft.now.parts.items p.2.parts c.put_fields.new.draft.parts.items c.truncate-2.new.self.items first before p.2.noted c.truncate-2.ensures.items;
         },
       );
 }
