@@ -1,297 +1,70 @@
 //! Answers to cases.
 
-use crate::outcome::outcome_in_words;
-use crate::pieces::pieces_in_words;
-use crate::routed::{Apids, add_each, routed_in_words};
-use crate::setting::{Question, Setting, setting_of};
-use acn_case_lines::{octets_in_words, octets_of, small, word};
+use crate::json::json_told;
+use crate::reports::report_told;
+use crate::streams::stream_told;
+use acn_case_lines::word;
 use acn_case_trees::{Built, Sheet};
-use acn_check::{Checked, check};
-use acn_explain::explain_all;
 use acn_num::{Boxed, NoMemory};
-use acn_outside::{MemSink, MemSource};
-use acn_plan::compile;
-use acn_route::{Routes, route_all};
-use acn_stream::{StreamFault, decode_all, encode_all};
-use acn_tree::{Tree, items_named};
+use acn_tree::Tree;
 use std::alloc::Global;
 
-// The most bytes that a case writes.
-const ROOM: usize = 65_536;
-
-// The numbers of calls that fail.
-fn failing(alloc: Global, call: Option<u64>) -> Result<Vec<u64>, NoMemory> {
-    let mut calls = Vec::new(alloc);
-    match call {
-        Some(call) => calls.push(call)?,
-        None => {}
-    }
-    Ok(calls)
+/// What cases ask.
+#[derive(Clone, Copy, Drop)]
+pub enum Asked {
+    /// What is written for recordings, lines and space packets.
+    Streams,
+    /// Which value a line of JSON gives, and which line a value has.
+    Json,
+    /// What is printed of a tree, and of what doesn't meet it.
+    Reports,
 }
 
-fn source(
-    alloc: Global,
-    setting: &Setting,
-    piece: usize,
-    bytes: &[u8],
-) -> Result<MemSource, NoMemory> {
-    let fail = failing(alloc, setting.input)?;
-    let bytes = Vec::from_slice(alloc, bytes)?;
-    Ok(MemSource::new(bytes, piece.max(1), fail))
-}
-
-fn sink(alloc: Global, setting: &Setting) -> Result<MemSink, NoMemory> {
-    let fail = failing(alloc, setting.output)?;
-    let room = vec![in alloc; 0u8; ROOM]?;
-    Ok(MemSink::new(room, setting.room.max(1), fail))
-}
-
-// What the bytes are converted by.
-#[derive(Clone, Copy)]
-enum By<'a> {
-    Decoding(&'a Checked),
-    Encoding(&'a Checked),
-    Explaining(&'a Checked),
-    Routing(&'a Routes),
-}
-
-fn decode(
-    alloc: Global,
-    checked: &Checked,
-    setting: &Setting,
-    input: &mut MemSource,
-    out: &mut MemSink,
-) -> Result<u64, StreamFault> {
-    if !items_named(checked.tree()) {
-        return Err(StreamFault::NoMemory);
-    }
-    match compile(alloc, checked) {
-        Ok(plan) => decode_all(alloc, checked, &plan, input, out, setting.limit),
-        Err(_) => Err(StreamFault::NoMemory),
+/// What a line says that the cases behind it ask.
+pub fn asked_of(line: &str) -> Option<Asked> {
+    match line {
+        "ask streams" => Some(Asked::Streams),
+        "ask json" => Some(Asked::Json),
+        "ask reports" => Some(Asked::Reports),
+        _ => None,
     }
 }
 
-fn encode(
-    alloc: Global,
-    checked: &Checked,
-    setting: &Setting,
-    input: &mut MemSource,
-    out: &mut MemSink,
-) -> Result<u64, StreamFault> {
-    if !items_named(checked.tree()) {
-        return Err(StreamFault::NoMemory);
-    }
-    match compile(alloc, checked) {
-        Ok(plan) => encode_all(alloc, checked, &plan, input, out, setting.limit),
-        Err(_) => Err(StreamFault::NoMemory),
-    }
-}
-
-fn explain(
-    alloc: Global,
-    checked: &Checked,
-    setting: &Setting,
-    input: &mut MemSource,
-    out: &mut MemSink,
-) -> Result<u64, StreamFault> {
-    if !items_named(checked.tree()) {
-        return Err(StreamFault::NoMemory);
-    }
-    match compile(alloc, checked) {
-        Ok(plan) => explain_all(alloc, checked, &plan, input, out, setting.limit),
-        Err(_) => Err(StreamFault::NoMemory),
-    }
-}
-
-// How it ended.
-fn run<'a>(
-    alloc: Global,
-    by: By<'a>,
-    setting: &Setting,
-    input: &mut MemSource,
-    out: &mut MemSink,
-) -> Result<String, NoMemory> {
-    match by {
-        By::Decoding(checked) => {
-            let outcome = decode(alloc, checked, setting, input, out);
-            outcome_in_words(alloc, &outcome)
-        }
-        By::Encoding(checked) => {
-            let outcome = encode(alloc, checked, setting, input, out);
-            outcome_in_words(alloc, &outcome)
-        }
-        By::Explaining(checked) => {
-            let outcome = explain(alloc, checked, setting, input, out);
-            outcome_in_words(alloc, &outcome)
-        }
-        By::Routing(routes) => {
-            let outcome = route_all(alloc, routes, input, out, setting.limit);
-            routed_in_words(alloc, &outcome)
-        }
-    }
-}
-
-// Text, with a bar for each line feed.
-fn lines_in_words(alloc: Global, bytes: &[u8]) -> Result<String, NoMemory> {
-    let text = String::from_utf8_lossy(alloc, bytes)?;
-    let mut words = String::new(alloc);
-    for line in text.as_str().split_inclusive("\n") {
-        words.push_str(" ")?;
-        match line.strip_suffix("\n") {
-            Some(line) => {
-                words.push_str(line)?;
-                words.push_str(" |")?;
-            }
-            None => words.push_str(line)?,
-        }
-    }
-    Ok(words)
-}
-
-fn octets_told(alloc: Global, bytes: &[u8]) -> Result<String, NoMemory> {
-    if bytes.is_empty() {
-        return Ok(String::new(alloc));
-    }
-    let words = octets_in_words(alloc, bytes)?;
-    Ok(format!(in alloc; " {words}")?)
-}
-
-fn written(alloc: Global, question: Question, out: &MemSink) -> Result<String, NoMemory> {
-    let Some(bytes) = out.bytes() else {
-        return Ok(format!(in alloc; " too much")?);
-    };
-    match question {
-        Question::Encode => octets_told(alloc, bytes),
-        _ => lines_in_words(alloc, bytes),
-    }
-}
-
-// The answer where a read gives at most so many bytes.
-fn in_pieces<'a>(
-    alloc: Global,
-    by: By<'a>,
-    setting: &Setting,
-    piece: usize,
-    bytes: &[u8],
-) -> Result<String, NoMemory> {
-    let mut input = source(alloc, setting, piece, bytes)?;
-    let mut out = sink(alloc, setting)?;
-    let ended = run(alloc, by, setting, &mut input, &mut out)?;
-    let written = written(alloc, setting.question, &out)?;
-    Ok(format!(in alloc; "{ended};{written}")?)
-}
-
-// The answer, which has to be the same for pieces of every size.
-fn in_any_pieces<'a>(
-    alloc: Global,
-    by: By<'a>,
-    setting: &Setting,
-    bytes: &[u8],
-) -> Result<String, NoMemory> {
-    let whole = in_pieces(alloc, by, setting, bytes.len().max(1), bytes)?;
-    for piece in 1..bytes.len().max(1) {
-        let other = in_pieces(alloc, by, setting, piece, bytes)?;
-        if other.as_str() != whole.as_str() {
-            return Ok(format!(in alloc; "by {piece}: {other}")?);
-        }
-    }
-    Ok(whole)
-}
-
-fn told<'a>(
-    alloc: Global,
-    by: By<'a>,
-    setting: &Setting,
-    bytes: &[u8],
-) -> Result<String, NoMemory> {
-    match setting.piece {
-        Some(piece) => in_pieces(alloc, by, setting, piece, bytes),
-        None => in_any_pieces(alloc, by, setting, bytes),
-    }
-}
-
-fn of_checked(
-    alloc: Global,
-    checked: &Checked,
-    setting: &Setting,
-    bytes: &[u8],
-) -> Result<String, NoMemory> {
-    match setting.question {
-        Question::Encode => told(alloc, By::Encoding(checked), setting, bytes),
-        Question::Explain => told(alloc, By::Explaining(checked), setting, bytes),
-        Question::Pieces => pieces_in_words(alloc, checked, bytes),
-        _ => told(alloc, By::Decoding(checked), setting, bytes),
-    }
-}
-
-fn of_tree(
-    alloc: Global,
-    tree: Boxed<Tree>,
-    setting: &Setting,
-    bytes: &[u8],
-) -> Result<String, NoMemory> {
-    match check(alloc, tree.into_inner()) {
-        Ok(checked) => of_checked(alloc, &checked, setting, bytes),
-        Err(_) => Ok(format!(in alloc; "not accepted")?),
-    }
-}
-
-fn of_sheet(
+// The tree of the lines, or why there is none.
+fn tree_of(
     alloc: Global,
     sheet: &Sheet,
     parts: &[&str],
-    setting: &Setting,
-    bytes: &[u8],
-) -> Result<String, NoMemory> {
+) -> Result<Result<Boxed<Tree>, &'static str>, NoMemory> {
     match sheet.built(alloc, parts)? {
-        Built::Tree(tree) => of_tree(alloc, tree, setting, bytes),
-        Built::NoTree => Ok(format!(in alloc; "no tree")?),
-        Built::Unknown => Ok(format!(in alloc; "not understood")?),
+        Built::Tree(tree) => Ok(Ok(tree)),
+        Built::NoTree => Ok(Err("no tree")),
+        Built::Unknown => Ok(Err("not understood")),
     }
 }
 
-// The identifiers of a case: all, or two numbers.
-fn apids_of(words: &[&str]) -> Apids {
-    match word(words, 1) {
-        "all" => Apids::All,
-        _ => Apids::Two(small(words, 1), small(words, 2)),
+fn of_line(alloc: Global, sheet: &Sheet, parts: &[&str], case: &str) -> Result<String, NoMemory> {
+    match tree_of(alloc, sheet, parts)? {
+        Ok(tree) => json_told(alloc, tree.get(), case),
+        Err(why) => Ok(why.to_string(alloc)?),
     }
 }
 
-// Where application process identifiers have the tree.
-fn of_routes(
-    alloc: Global,
-    sheet: &Sheet,
-    parts: &[&str],
-    setting: &Setting,
-    apids: Apids,
-    bytes: &[u8],
-) -> Result<String, NoMemory> {
-    let mut routes = Routes::new(alloc);
-    match add_each(alloc, sheet, parts, &mut routes, apids)? {
-        None => told(alloc, By::Routing(&routes), setting, bytes),
-        Some(why) => Ok(why),
+fn of_report(alloc: Global, sheet: &Sheet, parts: &[&str], case: &str) -> Result<String, NoMemory> {
+    match tree_of(alloc, sheet, parts)? {
+        Ok(tree) => report_told(alloc, tree, case),
+        Err(why) => Ok(why.to_string(alloc)?),
     }
 }
 
 /// The answer to a case.
-pub fn answer(alloc: Global, sheet: &Sheet, case: &str) -> Result<String, NoMemory> {
+pub fn answer(alloc: Global, sheet: &Sheet, asked: Asked, case: &str) -> Result<String, NoMemory> {
     let parts: Vec<&str> = case.split(";;").collect(alloc)?;
-    let (question, bytes) = word(parts.as_slice(), 0)
-        .split_once(" :")
-        .unwrap_or(("", ""));
-    let words: Vec<&str> = question.split_whitespace().collect(alloc)?;
-    let octets: Vec<&str> = bytes.split_whitespace().collect(alloc)?;
-    let bytes = octets_of(alloc, octets.as_slice())?;
+    let case = word(parts.as_slice(), 0);
     let parts = parts.get(1..).unwrap_or(&[]);
-    match setting_of(words.as_slice()) {
-        Some(setting) => match setting.question {
-            Question::Route => {
-                let apids = apids_of(words.as_slice());
-                of_routes(alloc, sheet, parts, &setting, apids, bytes.as_slice())
-            }
-            _ => of_sheet(alloc, sheet, parts, &setting, bytes.as_slice()),
-        },
-        None => Ok(format!(in alloc; "not understood")?),
+    match asked {
+        Asked::Streams => stream_told(alloc, sheet, parts, case),
+        Asked::Json => of_line(alloc, sheet, parts, case.trim()),
+        Asked::Reports => of_report(alloc, sheet, parts, case),
     }
 }

@@ -84,8 +84,8 @@ fn reason_in_words(alloc: Global, reason: &MergeReason) -> Result<String, Troubl
     }
 }
 
-// The text of the path of the node, and the reason.
-fn refused_in_words(alloc: Global, refused: &Refused) -> Result<String, Trouble> {
+/// The text of the path of the node, and the reason.
+pub fn refused_in_words(alloc: Global, refused: &Refused) -> Result<String, Trouble> {
     let place = String::from_utf8_lossy(alloc, refused.place.bytes())?;
     let reason = reason_in_words(alloc, &refused.reason)?;
     Ok(format!(in alloc; "{place}: {reason}")?)

@@ -40,9 +40,10 @@ impl Sheet {
 
     /// Takes a line that is no case. False comes where it isn't understood.
     pub fn take(&mut self, alloc: Global, line: &str) -> Result<bool, NoMemory> {
-        match line.strip_prefix("ask ") {
-            Some(asked) => self.ask(alloc, asked),
-            None => self.files.take(alloc, line),
+        match line.split_once(" ") {
+            Some(("ask", asked)) => self.ask(alloc, asked),
+            Some(("tree", asked)) => self.ask(alloc, asked),
+            _ => self.files.take(alloc, line),
         }
     }
 }

@@ -1,221 +1,78 @@
 //! Answers to cases.
 
-ghost use Rattle.acn_grammar.specs.View.{grammar_of};
-ghost use Rattle.acn_grammar.specs.ItemsNamed.{ItemsNamed};
-
 use crate::compared::compared;
-use crate::extreme::{extremes_in_words, extremes_of_lines};
-use crate::fault::fault_in_words;
-use crate::plan::plan_in_words;
-use acn_case_lines::{wide, word};
-use acn_case_trees::{Built, Sheet, unfit_in_words, value_in_words, value_of};
-use acn_check::check;
-use acn_num::{Boxed, NoMemory, Path};
-use acn_tree::{
-    Body, Bounds, Draw, Node, NumLeaf, Tree, interval, items_named, make, meets, node_at,
-    node_interval, shaped, value_count,
-};
+use crate::extreme::extremes_of_lines;
+use crate::packets::packets_told;
+use crate::trees::{draws_told, tree_told};
+use crate::worked::work_told;
+use acn_case_lines::word;
+use acn_case_trees::{Built, Sheet};
+use acn_num::{Boxed, NoMemory};
+use acn_tree::Tree;
 use std::alloc::Global;
 
-fn bounds_in_words(alloc: Global, bounds: Bounds) -> Result<String, NoMemory> {
-    Ok(format!(in alloc; "{}..{}", bounds.least, bounds.greatest)?)
+/// What cases ask.
+#[derive(Clone, Copy, Drop)]
+pub enum Asked {
+    /// Of a tree itself.
+    Trees,
+    /// What is read and written by it.
+    Packets,
+    /// What comes of values that are made.
+    Work,
 }
 
-// What `check` answers of a tree, and again of the tree that it hands back.
-fn checked(alloc: Global, tree: Boxed<Tree>, again: bool) -> Result<String, NoMemory> {
-    match check(alloc, tree.into_inner()) {
-        Ok(_) => Ok(format!(in alloc; "Ok")?),
-        Err((tree, fault)) => {
-            let words = fault_in_words(alloc, &fault)?;
-            if again {
-                return twice(alloc, tree, words.as_str());
-            }
-            Ok(words)
-        }
+/// What a line says that the cases behind it ask.
+pub fn asked_of(line: &str) -> Option<Asked> {
+    match line {
+        "ask trees" => Some(Asked::Trees),
+        "ask packets" => Some(Asked::Packets),
+        "ask work" => Some(Asked::Work),
+        _ => None,
     }
 }
 
-fn twice(alloc: Global, tree: Tree, first: &str) -> Result<String, NoMemory> {
-    match check(alloc, tree) {
-        Ok(_) => Ok(format!(in alloc; "{first}, Ok")?),
-        Err((_, fault)) => {
-            let words = fault_in_words(alloc, &fault)?;
-            Ok(format!(in alloc; "{first}, {words}")?)
-        }
+fn told(
+    alloc: Global,
+    asked: Asked,
+    tree: Boxed<Tree>,
+    words: &[&str],
+) -> Result<String, NoMemory> {
+    match asked {
+        Asked::Trees => tree_told(alloc, tree, words),
+        Asked::Packets => packets_told(alloc, tree, words),
+        Asked::Work => work_told(alloc, tree, words),
     }
 }
 
-// The plan of a tree that can be decoded.
-fn planned(alloc: Global, tree: Boxed<Tree>) -> Result<String, NoMemory> {
-    match check(alloc, tree.into_inner()) {
-        Ok(checked) => {
-            if !items_named(checked.tree()) {
-                return Ok(format!(in alloc; "not named")?);
-            }
-            plan_in_words(alloc, &checked)
-        }
-        Err(_) => Ok(format!(in alloc; "refused")?),
-    }
-}
-
-// The path of a word: steps joined by full stops, or `root`. None comes where it has more than 64 steps.
-fn path_of(text: &str) -> Option<Path> {
-    let mut path = Path::new();
-    if text != "root" {
-        for step in text.split(".") {
-            if path.steps().len() > 63 {
-                return None;
-            }
-            path.push(step.parse::<u32>().unwrap_or(u32::MAX));
-        }
-    }
-    Some(path)
-}
-
-fn leaf_in_words(alloc: Global, leaf: &NumLeaf) -> Result<String, NoMemory> {
-    let mut words = format!(in alloc; "number")?;
-    for (low, high) in leaf.set.ranges() {
-        write!(words, " {low}..{high}")?;
-    }
-    Ok(words)
-}
-
-fn node_in_words(alloc: Global, node: &Node) -> Result<String, NoMemory> {
-    match &node.body {
-        Body::Num(leaf) => leaf_in_words(alloc, leaf),
-        Body::Octets(_) => Ok(format!(in alloc; "octets")?),
-        Body::Bits(_) => Ok(format!(in alloc; "bits")?),
-        Body::Text(_) => Ok(format!(in alloc; "text")?),
-        Body::Seq(_) => Ok(format!(in alloc; "sequence")?),
-        Body::List(_, _) => Ok(format!(in alloc; "list")?),
-        Body::Choice(_) => Ok(format!(in alloc; "choice")?),
-        Body::Contained(_, _) => Ok(format!(in alloc; "contained")?),
-    }
-}
-
-fn node_told(alloc: Global, tree: &Tree, text: &str) -> Result<String, NoMemory> {
-    match path_of(text) {
-        Some(path) => match node_at(tree, &path) {
-            Some(node) => node_in_words(alloc, node),
-            None => Ok(format!(in alloc; "none")?),
-        },
-        None => Ok(format!(in alloc; "too long")?),
-    }
-}
-
-fn bounds_told(alloc: Global, tree: &Tree, text: &str) -> Result<String, NoMemory> {
-    match path_of(text) {
-        Some(path) => match node_at(tree, &path) {
-            Some(node) => bounds_in_words(alloc, node_interval(node)),
-            None => Ok(format!(in alloc; "none")?),
-        },
-        None => Ok(format!(in alloc; "too long")?),
-    }
-}
-
-fn meets_told(alloc: Global, tree: &Tree, words: &[&str]) -> Result<String, NoMemory> {
-    match value_of(alloc, words)? {
-        Some(value) => match meets(tree.root(), value.get()) {
-            Ok(()) => Ok(format!(in alloc; "Ok")?),
-            Err(unfit) => unfit_in_words(alloc, &unfit),
-        },
-        None => Ok(format!(in alloc; "no value")?),
-    }
-}
-
-fn shaped_told(alloc: Global, tree: &Tree, words: &[&str]) -> Result<String, NoMemory> {
-    match value_of(alloc, words)? {
-        Some(value) => Ok(format!(in alloc; "{}", shaped(tree.root(), value.get()))?),
-        None => Ok(format!(in alloc; "no value")?),
-    }
-}
-
-// The next value in words.
-fn next_made(alloc: Global, tree: &Tree, draw: &mut Draw) -> Result<String, NoMemory>
-    requires { ItemsNamed (grammar_of tree.now.root) }
-{
-    let value = Boxed::new(alloc, make(alloc, tree, draw)?)?;
-    value_in_words(alloc, value.get())
-}
-
-// The first two values that are made from a start.
-fn made_told(alloc: Global, tree: &Tree, start: u64) -> Result<String, NoMemory> {
-    if !items_named(tree) {
-        return Ok(format!(in alloc; "not named")?);
-    }
-    let mut draw = Draw::new(start);
-    let first = next_made(alloc, tree, &mut draw)?;
-    let second = next_made(alloc, tree, &mut draw)?;
-    Ok(format!(in alloc; "{} ;{second}", first.as_str().trim())?)
-}
-
-// The numbers that are drawn from a start, each below the next word.
-fn drawn_told(alloc: Global, words: &[&str]) -> Result<String, NoMemory> {
-    let mut draw = Draw::new(wide(words, 0));
-    let mut told = String::new(alloc);
-    for word in words.get(1..).unwrap_or(&[]) {
-        let count = word.parse::<u128>().unwrap_or(0);
-        if count > 0 {
-            write!(told, " {}", draw.pick(count))?;
-        }
-    }
-    Ok(told.as_str().trim().to_string(alloc)?)
-}
-
-fn told(alloc: Global, tree: Boxed<Tree>, words: &[&str]) -> Result<String, NoMemory> {
-    let rest = words.get(1..).unwrap_or(&[]);
-    match word(words, 0) {
-        "form" => Ok(format!(in alloc; "Ok")?),
-        "values" => Ok(format!(in alloc; "{}", value_count(tree.get()))?),
-        "bits" => bounds_in_words(alloc, interval(tree.get())),
-        "bits-at" => bounds_told(alloc, tree.get(), word(rest, 0)),
-        "check" => checked(alloc, tree, false),
-        "check-twice" => checked(alloc, tree, true),
-        "plan" => planned(alloc, tree),
-        "named" => Ok(format!(in alloc; "{}", items_named(tree.get()))?),
-        "at" => node_told(alloc, tree.get(), word(rest, 0)),
-        "meets" => meets_told(alloc, tree.get(), rest),
-        "shaped" => shaped_told(alloc, tree.get(), rest),
-        "extremes" => extremes_in_words(alloc, tree, true),
-        "extreme-bits" => extremes_in_words(alloc, tree, false),
-        "make" => made_told(alloc, tree.get(), wide(rest, 0)),
-        _ => Ok(format!(in alloc; "not understood")?),
-    }
-}
-
-fn of_tree(
+fn of_sheet(
     alloc: Global,
     sheet: &Sheet,
+    asked: Asked,
     parts: &[&str],
     words: &[&str],
 ) -> Result<String, NoMemory> {
     match sheet.built(alloc, parts)? {
-        Built::Tree(tree) => told(alloc, tree, words),
+        Built::Tree(tree) => told(alloc, asked, tree, words),
         Built::NoTree => Ok(format!(in alloc; "no tree")?),
         Built::Unknown => Ok(format!(in alloc; "not understood")?),
     }
 }
 
 /// The answer to a case.
-pub fn answer(alloc: Global, sheet: &Sheet, case: &str) -> Result<String, NoMemory> {
+pub fn answer(alloc: Global, sheet: &Sheet, asked: Asked, case: &str) -> Result<String, NoMemory> {
     let parts: Vec<&str> = case.split(";;").collect(alloc)?;
     let words: Vec<&str> = word(parts.as_slice(), 0).split_whitespace().collect(alloc)?;
-    if word(words.as_slice(), 0) == "draw" {
-        return drawn_told(alloc, words.get(1..).unwrap_or(&[]));
+    match word(words.as_slice(), 0) {
+        "draw" => draws_told(alloc, words.get(1..).unwrap_or(&[])),
+        "compare" => compared(alloc, sheet, case),
+        "extremes-of" => {
+            let lines = case.trim().strip_prefix("extremes-of ").unwrap_or("");
+            extremes_of_lines(alloc, lines)
+        }
+        _ => {
+            let parts = parts.get(1..).unwrap_or(&[]);
+            of_sheet(alloc, sheet, asked, parts, words.as_slice())
+        }
     }
-    if word(words.as_slice(), 0) == "compare" {
-        return compared(alloc, sheet, case);
-    }
-    if word(words.as_slice(), 0) == "extremes-of" {
-        return extremes_of_lines(
-            alloc,
-            case.trim().strip_prefix("extremes-of ").unwrap_or(""),
-        );
-    }
-    of_tree(
-        alloc,
-        sheet,
-        parts.get(1..).unwrap_or(&[]),
-        words.as_slice(),
-    )
 }

@@ -1,7 +1,6 @@
-//! Answers to cases.
+//! What comes of values that are made, in words.
 
-use acn_case_lines::{wide, word};
-use acn_case_trees::{Built, Sheet};
+use acn_case_lines::wide;
 use acn_check::{Checked, check};
 use acn_num::{Boxed, NoMemory};
 use acn_outside::MemSink;
@@ -39,20 +38,10 @@ fn worked(alloc: Global, checked: &Checked, start: u64, count: u64) -> Result<St
     shown(alloc, &summary)
 }
 
-fn of_tree(alloc: Global, tree: Boxed<Tree>, words: &[&str]) -> Result<String, NoMemory> {
+/// The line of a summary of so many values that are made from a start, of a tree that is accepted.
+pub fn work_told(alloc: Global, tree: Boxed<Tree>, words: &[&str]) -> Result<String, NoMemory> {
     match check(alloc, tree.into_inner()) {
         Ok(checked) => worked(alloc, &checked, wide(words, 0), wide(words, 1)),
         Err(_) => Ok(format!(in alloc; "not accepted")?),
-    }
-}
-
-/// The answer to a case.
-pub fn answer(alloc: Global, sheet: &Sheet, case: &str) -> Result<String, NoMemory> {
-    let parts: Vec<&str> = case.split(";;").collect(alloc)?;
-    let words: Vec<&str> = word(parts.as_slice(), 0).split_whitespace().collect(alloc)?;
-    match sheet.built(alloc, parts.get(1..).unwrap_or(&[]))? {
-        Built::Tree(tree) => of_tree(alloc, tree, words.as_slice()),
-        Built::NoTree => Ok(format!(in alloc; "no tree")?),
-        Built::Unknown => Ok(format!(in alloc; "not understood")?),
     }
 }

@@ -1,4 +1,4 @@
-//! Answers to cases.
+//! What is read and written by a tree, in words.
 
 ghost use Rattle.std.specs.Prelude.{◌≤◌, length};
 ghost use Rattle.acn_grammar.specs.ItemsNamed.{ItemsNamed};
@@ -9,7 +9,7 @@ ghost use Rattle.acn_reads.specs.declared.answers.TheConstants.{MOST_BYTES};
 use crate::drawn::drawn_told;
 use crate::packed::packed;
 use acn_case_lines::{bits_in_words, octets_of, small, wide, word};
-use acn_case_trees::{Built, Sheet, path_in_words, unfit_in_words, value_in_words, value_of};
+use acn_case_trees::{path_in_words, unfit_in_words, value_in_words, value_of};
 use acn_check::{Checked, check};
 use acn_num::{Boxed, NoMemory};
 use acn_plain::{PlainFault, plain_decode, plain_encode};
@@ -155,20 +155,10 @@ fn of_checked(alloc: Global, checked: &Checked, words: &[&str]) -> Result<String
     read(alloc, checked, octets.as_slice())
 }
 
-fn of_tree(alloc: Global, tree: Boxed<Tree>, words: &[&str]) -> Result<String, NoMemory> {
+/// What is read or written by a tree that is accepted.
+pub fn packets_told(alloc: Global, tree: Boxed<Tree>, words: &[&str]) -> Result<String, NoMemory> {
     match check(alloc, tree.into_inner()) {
         Ok(checked) => of_checked(alloc, &checked, words),
         Err(_) => Ok(format!(in alloc; "not accepted")?),
-    }
-}
-
-/// The answer to a case.
-pub fn answer(alloc: Global, sheet: &Sheet, case: &str) -> Result<String, NoMemory> {
-    let parts: Vec<&str> = case.split(";;").collect(alloc)?;
-    let words: Vec<&str> = word(parts.as_slice(), 0).split_whitespace().collect(alloc)?;
-    match sheet.built(alloc, parts.get(1..).unwrap_or(&[]))? {
-        Built::Tree(tree) => of_tree(alloc, tree, words.as_slice()),
-        Built::NoTree => Ok(format!(in alloc; "no tree")?),
-        Built::Unknown => Ok(format!(in alloc; "not understood")?),
     }
 }

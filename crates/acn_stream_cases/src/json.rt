@@ -1,11 +1,10 @@
-//! Answers to cases.
+//! Lines of JSON and their values.
 
 use crate::bytes::{bytes_of, nested_of};
-use acn_case_lines::word;
-use acn_case_trees::{Built, Sheet, path_in_words, value_in_words, value_of};
+use acn_case_trees::{path_in_words, value_in_words, value_of};
 use acn_json::{JsonFault, MOST_JSON_BYTES, from_line, to_line};
 use acn_lines::{Lines, Room};
-use acn_num::{Boxed, NoMemory, Path};
+use acn_num::{NoMemory, Path};
 use acn_tree::{Tree, Value};
 use std::alloc::Global;
 
@@ -133,7 +132,10 @@ fn line_told(alloc: Global, tree: &Tree, text: &str) -> Result<String, NoMemory>
     }
 }
 
-fn told(alloc: Global, tree: &Tree, question: &str, text: &str) -> Result<String, NoMemory> {
+/// What a question of a line or a value is answered.
+pub fn json_told(alloc: Global, tree: &Tree, case: &str) -> Result<String, NoMemory> {
+    let (question, text) = case.split_once(" ").unwrap_or((case, ""));
+    let text = text.trim();
     match question {
         "read" => read(alloc, tree, bytes_of(alloc, text)?.as_slice()),
         "again" => again(alloc, tree, bytes_of(alloc, text)?.as_slice()),
@@ -141,24 +143,5 @@ fn told(alloc: Global, tree: &Tree, question: &str, text: &str) -> Result<String
         "nested" => read(alloc, tree, nested_of(alloc, text)?.as_slice()),
         "line" => line_told(alloc, tree, text),
         _ => Ok(format!(in alloc; "not understood")?),
-    }
-}
-
-// The question of a case, and what it is about.
-fn parts_of(case: &str) -> (&str, &str) {
-    match case.split_once(" ") {
-        Some((question, text)) => (question, text.trim()),
-        None => (case, ""),
-    }
-}
-
-/// The answer to a case.
-pub fn answer(alloc: Global, sheet: &Sheet, case: &str) -> Result<String, NoMemory> {
-    let parts: Vec<&str> = case.split(";;").collect(alloc)?;
-    let (question, text) = parts_of(word(parts.as_slice(), 0).trim());
-    match sheet.built(alloc, parts.get(1..).unwrap_or(&[]))? {
-        Built::Tree(tree) => told(alloc, tree.get(), question, text),
-        Built::NoTree => Ok(format!(in alloc; "no tree")?),
-        Built::Unknown => Ok(format!(in alloc; "not understood")?),
     }
 }

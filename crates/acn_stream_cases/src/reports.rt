@@ -1,10 +1,9 @@
-//! Answers to cases.
+//! What is printed of trees, packets, values and lines.
 
 use crate::check_words::check_fault_of;
 use crate::printed::{output, shown};
 use crate::words::{failure_of, path_of, unfit_of};
 use acn_case_lines::{wide, word};
-use acn_case_trees::{Built, Sheet};
 use acn_check::{Checked, check};
 use acn_json::{JsonFault, MOST_JSON_BYTES, from_line};
 use acn_json_report::put_json_fault;
@@ -185,22 +184,13 @@ fn of_tree(alloc: Global, tree: &Tree, words: &[&str]) -> Result<String, NoMemor
     }
 }
 
-fn told(alloc: Global, tree: Boxed<Tree>, words: &[&str]) -> Result<String, NoMemory> {
-    match word(words, 0) {
+/// What is printed for a question of a tree.
+pub fn report_told(alloc: Global, tree: Boxed<Tree>, case: &str) -> Result<String, NoMemory> {
+    let words: Vec<&str> = case.split_whitespace().collect(alloc)?;
+    match word(words.as_slice(), 0) {
         "check" => judged(alloc, tree, "check"),
         "layout" => judged(alloc, tree, "layout"),
         "bounds" => judged(alloc, tree, "bounds"),
-        _ => of_tree(alloc, tree.get(), words),
-    }
-}
-
-/// The answer to a case.
-pub fn answer(alloc: Global, sheet: &Sheet, case: &str) -> Result<String, NoMemory> {
-    let parts: Vec<&str> = case.split(";;").collect(alloc)?;
-    let words: Vec<&str> = word(parts.as_slice(), 0).split_whitespace().collect(alloc)?;
-    match sheet.built(alloc, parts.get(1..).unwrap_or(&[]))? {
-        Built::Tree(tree) => told(alloc, tree, words.as_slice()),
-        Built::NoTree => Ok(format!(in alloc; "no tree")?),
-        Built::Unknown => not_understood(alloc),
+        _ => of_tree(alloc, tree.get(), words.as_slice()),
     }
 }
