@@ -1,16 +1,12 @@
 //! The program: it hands the real files, input and outputs to the top call.
 #![tactic(auto)]
 
-mod questions;
-#[cfg(test)]
-mod tests;
-
 use acn_advice::{Heard, Recalled};
 use acn_advisor::advise;
 use acn_outside::{StdError, StdFiles, StdInput, StdOutput};
 use acn_progress::{Cleared, Progress, Watched, way_of};
 use acn_run::run_watched;
-use questions::question_in;
+use acn_words::question_in;
 use std::env;
 use std::io::ErrorKind;
 use std::process::ExitCode;

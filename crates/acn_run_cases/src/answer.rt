@@ -13,6 +13,7 @@ use acn_num::NoMemory;
 use acn_outside::{MemFiles, MemSink, MemSource};
 use acn_progress::{Cleared, Progress, Watched, Way, way_of};
 use acn_run::run_watched;
+use acn_words::question_in;
 use std::alloc::Global;
 
 // The most bytes that an output keeps.
@@ -148,6 +149,17 @@ fn again(
     Ok(format!(in alloc; "{first} by {piece}: {other}")?)
 }
 
+// What is answered to words before anything is read, or `none`.
+fn question_told(alloc: Global, words: &[String]) -> Result<String, NoMemory> {
+    match question_in(words) {
+        Some(question) => {
+            let written = taken_in_words(alloc, question.text().as_bytes(), None)?;
+            Ok(format!(in alloc; "0;{written};")?)
+        }
+        None => Ok(format!(in alloc; "none")?),
+    }
+}
+
 fn of_case(alloc: Global, case: &Case<'_>, setting: &Setting) -> Result<String, Trouble> {
     let first = once(alloc, case, setting)?;
     if setting.is_single() {
@@ -197,6 +209,9 @@ pub fn answer(alloc: Global, sheet: &Sheet, case: &str) -> Result<String, Troubl
     let parts = parts_of(alloc, case)?;
     let question = word(parts.as_slice(), 0);
     let (words, rest) = question.split_once(" :").unwrap_or((question, ""));
+    if let Some(words) = words.strip_prefix("acn ") {
+        return Ok(question_told(alloc, words_of(alloc, words)?.as_slice())?);
+    }
     let (hints, words) = behind(words, "--hints");
     let (progress, words) = behind(words, "--progress");
     let (input, settings) = rest.split_once(" :").unwrap_or((rest, ""));

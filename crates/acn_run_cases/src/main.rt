@@ -13,6 +13,9 @@
 //! With `--progress` there too it prints how far it is, as the program does, by a clock that stands still, or that is `seconds N` later
 //! each time that it is looked at; what is printed so stands behind the answer, with `\r` for a carriage return.
 //!
+//! With `acn` in front of its words a case prints what the program answers before it reads anything: the text of `--help` or of
+//! `--version`, or `none`.
+//!
 //! The answer is `STATUS; OUTPUT; ERRORS`. An output is its lines with ` |` for each line feed, and that of `encode` its octets; what
 //! stands several times one behind the other is written once, with `x5000` behind it.
 //!

@@ -5,3 +5,4 @@ pub mod Requests
 pub mod Faults
 pub mod View
 pub mod Asking
+pub mod Questions

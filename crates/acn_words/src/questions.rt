@@ -1,5 +1,5 @@
 ghost use Rattle.std.specs.Prelude.{◌≡◌, map, string_bytes};
-ghost use Rattle.acn.specs.Questions as spec;
+ghost use Rattle.acn_words.specs.Questions as spec;
 
 const HELP: &str = "acn: checks packet grammars and converts packets
 

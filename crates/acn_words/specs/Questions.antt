@@ -1,8 +1,8 @@
 -- Words that are answered before anything is read.
 use Rattle.std.specs.Prelude.{ℕ, List, [], ◌∷◌, Option, Some, None, cond, codes}
 use Rattle.std.specs.Str.{bytes_eq}
-use Rattle.acn.specs.declared.questions.Question.{Question}
-use Rattle.acn.specs.declared.questions.Question.TheVariants.{Help, Version}
+use Rattle.acn_words.specs.declared.questions.Question.{Question}
+use Rattle.acn_words.specs.declared.questions.Question.TheVariants.{Help, Version}
 
 -- the question that a word is
 abbrev pub question_of : List ℕ → Option Question
