@@ -29,38 +29,11 @@ mod subject;
 mod texts;
 mod widths;
 
-use acn_case_lines::{Line, line_of};
-use acn_num::NoMemory;
-use std::alloc::Global;
+use acn_case_lines::run_cases;
 use std::io;
-use subject::{Subject, answer, subject_of};
-
-// What is printed for a line, behind which the subject is the one that was last named.
-fn reply(alloc: Global, subject: &mut Subject, line: &str) -> Result<String, NoMemory> {
-    match line_of(line) {
-        Line::Case(case) => {
-            let words: Vec<&str> = case.split_whitespace().collect(alloc)?;
-            let said = answer(alloc, subject, words.as_slice())?;
-            Ok(format!(in alloc; "{case}=> {said}")?)
-        }
-        Line::Note => Ok(line.to_string(alloc)?),
-        Line::Other(text) => {
-            let words: Vec<&str> = text.split_whitespace().collect(alloc)?;
-            *subject = subject_of(alloc, words.as_slice())?;
-            Ok(line.to_string(alloc)?)
-        }
-    }
-}
+use subject::Subject;
 
 fn main(rt: HostRuntime) -> io::Result<()> {
     let alloc = rt.alloc();
-    let mut subject = Subject::Nothing;
-    for line in rt.lines(alloc) {
-        let line = line?;
-        match reply(alloc, &mut subject, line.as_str()) {
-            Ok(text) => println!(rt; "{text}")?,
-            Err(NoMemory) => println!(rt; "no memory")?,
-        }
-    }
-    Ok(())
+    run_cases(&rt, alloc, &mut Subject::Nothing)
 }

@@ -8,7 +8,7 @@ use crate::numbers::about_number;
 use crate::sets::about_set;
 use crate::texts::{about_sized_text, about_text};
 use crate::widths::about_width;
-use acn_case_lines::{leaf_of, octets_of, text_of, word};
+use acn_case_lines::{Answers, leaf_of, octets_of, text_of, word};
 use acn_grammar::{Body, Node, NumLeaf, SizeRule, TextLeaf};
 use acn_num::{Boxed, Name, NoMemory};
 use acn_tree::Tree;
@@ -62,8 +62,8 @@ fn number_subject(alloc: Global, words: &[&str]) -> Result<Subject, NoMemory> {
     }
 }
 
-/// What a line that is no case says.
-pub fn subject_of(alloc: Global, words: &[&str]) -> Result<Subject, NoMemory> {
+// What a line that is no case says.
+fn subject_of(alloc: Global, words: &[&str]) -> Result<Subject, NoMemory> {
     let rest = words.get(1..).unwrap_or(&[]);
     match word(words, 0) {
         "leaf" => number_subject(alloc, rest),
@@ -93,15 +93,23 @@ fn about_nothing(alloc: Global, question: &str, words: &[&str]) -> Result<String
     }
 }
 
-/// The answer to a case.
-pub fn answer(alloc: Global, subject: &Subject, words: &[&str]) -> Result<String, NoMemory> {
-    let question = word(words, 0);
-    let rest = words.get(1..).unwrap_or(&[]);
-    match subject {
-        Subject::Number(leaf) => about_number(alloc, leaf.get(), question, rest),
-        Subject::Text(tree) => about_text(alloc, tree.get(), question, rest),
-        Subject::SizedText(leaf) => about_sized_text(alloc, leaf.get(), question, rest),
-        Subject::Octets(octets) => about_octets(alloc, octets.as_slice(), question, rest),
-        Subject::Nothing => about_nothing(alloc, question, rest),
+impl Answers for Subject {
+    fn answer(&mut self, alloc: Global, case: &str) -> Result<String, NoMemory> {
+        let words: Vec<&str> = case.split_whitespace().collect(alloc)?;
+        let question = word(words.as_slice(), 0);
+        let rest = words.get(1..).unwrap_or(&[]);
+        match self {
+            Subject::Number(leaf) => about_number(alloc, leaf.get(), question, rest),
+            Subject::Text(tree) => about_text(alloc, tree.get(), question, rest),
+            Subject::SizedText(leaf) => about_sized_text(alloc, leaf.get(), question, rest),
+            Subject::Octets(octets) => about_octets(alloc, octets.as_slice(), question, rest),
+            Subject::Nothing => about_nothing(alloc, question, rest),
+        }
+    }
+
+    fn take(&mut self, alloc: Global, line: &str) -> Result<bool, NoMemory> {
+        let words: Vec<&str> = line.split_whitespace().collect(alloc)?;
+        *self = subject_of(alloc, words.as_slice())?;
+        Ok(true)
     }
 }

@@ -32,40 +32,11 @@ mod screen;
 mod setting;
 mod sheet;
 
-use acn_case_lines::{Line, line_of};
-use acn_case_sheets::Trouble;
-use answer::answer;
+use acn_case_lines::run_cases;
 use sheet::Sheet;
-use std::alloc::Global;
 use std::io;
-
-// What is printed for a line.
-fn reply(alloc: Global, sheet: &mut Sheet, line: &str) -> Result<String, Trouble> {
-    match line_of(line) {
-        Line::Case(case) => {
-            let said = answer(alloc, sheet, case)?;
-            Ok(format!(in alloc; "{case}=> {said}")?)
-        }
-        Line::Note => Ok(line.to_string(alloc)?),
-        Line::Other(text) => {
-            if sheet.take(alloc, text)? {
-                Ok(line.to_string(alloc)?)
-            } else {
-                Ok(format!(in alloc; "not understood: {line}")?)
-            }
-        }
-    }
-}
 
 fn main(rt: HostRuntime) -> io::Result<()> {
     let alloc = rt.alloc();
-    let mut sheet = Sheet::new(alloc);
-    for line in rt.lines(alloc) {
-        let line = line?;
-        match reply(alloc, &mut sheet, line.as_str()) {
-            Ok(text) => println!(rt; "{text}")?,
-            Err(_) => println!(rt; "no memory")?,
-        }
-    }
-    Ok(())
+    run_cases(&rt, alloc, &mut Sheet::new(alloc))
 }

@@ -1,6 +1,8 @@
 //! The files of a group.
 
-use acn_case_sheets::{CaseFiles, Trouble, bytes_of};
+use crate::answer::answer;
+use acn_case_lines::Answers;
+use acn_case_sheets::{CaseFiles, Trouble, bytes_of, trouble_in_words};
 use acn_num::{Name, NoMemory};
 use acn_outside::MemFiles;
 use std::alloc::Global;
@@ -58,19 +60,6 @@ impl Sheet {
         Ok(true)
     }
 
-    /// Takes a line that is no case. False comes where it isn't understood.
-    pub fn take(&mut self, alloc: Global, line: &str) -> Result<bool, NoMemory> {
-        let (word, text) = line.split_once(" ").unwrap_or((line, ""));
-        match word {
-            "sources" => self.begin(alloc),
-            "file" => self.add(alloc, text),
-            "spaces" => self.add_blank(alloc, text),
-            "" => self.files.take(alloc, line),
-            "times" => self.files.take(alloc, line),
-            _ => Ok(false),
-        }
-    }
-
     /// The files, with the parts of a case in their places. The calls of these numbers fail.
     pub fn in_memory(
         &self,
@@ -89,5 +78,26 @@ impl Sheet {
             files.add(name, spaces(alloc, blank.count)?)?;
         }
         Ok(files)
+    }
+}
+
+impl Answers for Sheet {
+    fn answer(&mut self, alloc: Global, case: &str) -> Result<String, NoMemory> {
+        match answer(alloc, self, case) {
+            Ok(answer) => Ok(answer),
+            Err(trouble) => trouble_in_words(alloc, trouble),
+        }
+    }
+
+    fn take(&mut self, alloc: Global, line: &str) -> Result<bool, NoMemory> {
+        let (word, text) = line.split_once(" ").unwrap_or((line, ""));
+        match word {
+            "sources" => self.begin(alloc),
+            "file" => self.add(alloc, text),
+            "spaces" => self.add_blank(alloc, text),
+            "" => self.files.take(alloc, line),
+            "times" => self.files.take(alloc, line),
+            _ => Ok(false),
+        }
     }
 }

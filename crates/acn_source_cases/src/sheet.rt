@@ -1,5 +1,7 @@
 //! The question and the files of a group.
 
+use crate::answer::answer;
+use acn_case_lines::Answers;
 use acn_case_sheets::CaseFiles;
 use acn_num::NoMemory;
 use std::alloc::Global;
@@ -116,9 +118,14 @@ impl Sheet {
             None => false,
         }
     }
+}
 
-    /// Takes a line that is no case. False comes where it isn't understood.
-    pub fn take(&mut self, alloc: Global, line: &str) -> Result<bool, NoMemory> {
+impl Answers for Sheet {
+    fn answer(&mut self, alloc: Global, case: &str) -> Result<String, NoMemory> {
+        answer(alloc, self, case)
+    }
+
+    fn take(&mut self, alloc: Global, line: &str) -> Result<bool, NoMemory> {
         match line.strip_prefix("ask ") {
             Some(word) => Ok(self.ask(alloc, word)),
             None => self.files.take(alloc, line),

@@ -3,25 +3,42 @@
 use crate::json::json_told;
 use crate::reports::report_told;
 use crate::streams::stream_told;
-use acn_case_lines::word;
+use acn_case_lines::{Answers, word};
 use acn_case_trees::{Built, Sheet};
 use acn_num::{Boxed, NoMemory};
 use acn_tree::Tree;
 use std::alloc::Global;
 
-/// What cases ask.
+// What cases ask.
 #[derive(Clone, Copy, Drop)]
-pub enum Asked {
-    /// What is written for recordings, lines and space packets.
+enum Asked {
+    // What is written for recordings, lines and space packets.
     Streams,
-    /// Which value a line of JSON gives, and which line a value has.
+    // Which value a line of JSON gives, and which line a value has.
     Json,
-    /// What is printed of a tree, and of what doesn't meet it.
+    // What is printed of a tree, and of what doesn't meet it.
     Reports,
 }
 
-/// What a line says that the cases behind it ask.
-pub fn asked_of(line: &str) -> Option<Asked> {
+/// The tree that stands in the lines so far, and what the cases behind them ask.
+#[derive(Drop)]
+pub struct Group {
+    sheet: Sheet,
+    asked: Asked,
+}
+
+impl Group {
+    /// No lines.
+    pub fn new(alloc: Global) -> Group {
+        Group {
+            sheet: Sheet::new(alloc),
+            asked: Asked::Streams,
+        }
+    }
+}
+
+// What a line says that the cases behind it ask.
+fn asked_of(line: &str) -> Option<Asked> {
     match line {
         "ask streams" => Some(Asked::Streams),
         "ask json" => Some(Asked::Json),
@@ -57,14 +74,23 @@ fn of_report(alloc: Global, sheet: &Sheet, parts: &[&str], case: &str) -> Result
     }
 }
 
-/// The answer to a case.
-pub fn answer(alloc: Global, sheet: &Sheet, asked: Asked, case: &str) -> Result<String, NoMemory> {
-    let parts: Vec<&str> = case.split(";;").collect(alloc)?;
-    let case = word(parts.as_slice(), 0);
-    let parts = parts.get(1..).unwrap_or(&[]);
-    match asked {
-        Asked::Streams => stream_told(alloc, sheet, parts, case),
-        Asked::Json => of_line(alloc, sheet, parts, case.trim()),
-        Asked::Reports => of_report(alloc, sheet, parts, case),
+impl Answers for Group {
+    fn answer(&mut self, alloc: Global, case: &str) -> Result<String, NoMemory> {
+        let parts: Vec<&str> = case.split(";;").collect(alloc)?;
+        let case = word(parts.as_slice(), 0);
+        let parts = parts.get(1..).unwrap_or(&[]);
+        match self.asked {
+            Asked::Streams => stream_told(alloc, &self.sheet, parts, case),
+            Asked::Json => of_line(alloc, &self.sheet, parts, case.trim()),
+            Asked::Reports => of_report(alloc, &self.sheet, parts, case),
+        }
+    }
+
+    fn take(&mut self, alloc: Global, line: &str) -> Result<bool, NoMemory> {
+        match asked_of(line) {
+            Some(asked) => self.asked = asked,
+            None => self.sheet.take(alloc, line)?,
+        }
+        Ok(true)
     }
 }

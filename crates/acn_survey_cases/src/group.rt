@@ -5,6 +5,7 @@ use crate::names::{scope_of, slot_of_names, take_fields};
 use crate::paths::{Paths, paths_of, slot_of_path};
 use crate::sheet::Sheet;
 use crate::trees::tree_told;
+use acn_case_lines::Answers;
 use acn_num::NoMemory;
 use acn_params::Scope;
 use std::alloc::Global;
@@ -33,9 +34,17 @@ fn begun(alloc: Global, line: &str) -> Result<Option<Group>, NoMemory> {
     }
 }
 
-impl Group {
-    /// Takes a line that is no case. False comes where it isn't understood.
-    pub fn take(&mut self, alloc: Global, line: &str) -> Result<bool, NoMemory> {
+impl Answers for Group {
+    fn answer(&mut self, alloc: Global, case: &str) -> Result<String, NoMemory> {
+        match self {
+            Group::Sources(sheet) => answer(alloc, sheet, case),
+            Group::Trees(sheet) => tree_told(alloc, sheet, case),
+            Group::Slots(paths) => slot_of_path(alloc, paths, case.trim()),
+            Group::Names(scope) => slot_of_names(alloc, scope, case.trim()),
+        }
+    }
+
+    fn take(&mut self, alloc: Global, line: &str) -> Result<bool, NoMemory> {
         let begun = begun(alloc, line)?;
         let begins = begun.is_some();
         if let Some(group) = begun {
@@ -46,16 +55,6 @@ impl Group {
             Group::Trees(sheet) => sheet.take(alloc, line),
             Group::Slots(_) => Ok(begins),
             Group::Names(scope) => Ok(begins || take_fields(alloc, scope, line)?),
-        }
-    }
-
-    /// The answer to a case.
-    pub fn answer(&self, alloc: Global, case: &str) -> Result<String, NoMemory> {
-        match self {
-            Group::Sources(sheet) => answer(alloc, sheet, case),
-            Group::Trees(sheet) => tree_told(alloc, sheet, case),
-            Group::Slots(paths) => slot_of_path(alloc, paths, case.trim()),
-            Group::Names(scope) => slot_of_names(alloc, scope, case.trim()),
         }
     }
 }

@@ -23,40 +23,12 @@ mod tree_words;
 mod trees;
 mod walked;
 
-use acn_case_lines::{Line, line_of};
-use acn_num::NoMemory;
+use acn_case_lines::run_cases;
 use group::Group;
 use sheet::Sheet;
-use std::alloc::Global;
 use std::io;
-
-// What is printed for a line.
-fn reply(alloc: Global, group: &mut Group, line: &str) -> Result<String, NoMemory> {
-    match line_of(line) {
-        Line::Case(case) => {
-            let words = group.answer(alloc, case)?;
-            Ok(format!(in alloc; "{case}=> {words}")?)
-        }
-        Line::Note => Ok(line.to_string(alloc)?),
-        Line::Other(text) => {
-            if group.take(alloc, text)? {
-                Ok(line.to_string(alloc)?)
-            } else {
-                Ok(format!(in alloc; "not understood: {line}")?)
-            }
-        }
-    }
-}
 
 fn main(rt: HostRuntime) -> io::Result<()> {
     let alloc = rt.alloc();
-    let mut group = Group::Sources(Sheet::new(alloc));
-    for line in rt.lines(alloc) {
-        let line = line?;
-        match reply(alloc, &mut group, line.as_str()) {
-            Ok(text) => println!(rt; "{text}")?,
-            Err(NoMemory) => println!(rt; "no memory")?,
-        }
-    }
-    Ok(())
+    run_cases(&rt, alloc, &mut Group::Sources(Sheet::new(alloc)))
 }

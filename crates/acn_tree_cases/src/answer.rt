@@ -5,25 +5,42 @@ use crate::extreme::extremes_of_lines;
 use crate::packets::packets_told;
 use crate::trees::{draws_told, tree_told};
 use crate::worked::work_told;
-use acn_case_lines::word;
+use acn_case_lines::{Answers, word};
 use acn_case_trees::{Built, Sheet};
 use acn_num::{Boxed, NoMemory};
 use acn_tree::Tree;
 use std::alloc::Global;
 
-/// What cases ask.
+// What cases ask.
 #[derive(Clone, Copy, Drop)]
-pub enum Asked {
-    /// Of a tree itself.
+enum Asked {
+    // Of a tree itself.
     Trees,
-    /// What is read and written by it.
+    // What is read and written by it.
     Packets,
-    /// What comes of values that are made.
+    // What comes of values that are made.
     Work,
 }
 
-/// What a line says that the cases behind it ask.
-pub fn asked_of(line: &str) -> Option<Asked> {
+/// The tree that stands in the lines so far, and what the cases behind them ask.
+#[derive(Drop)]
+pub struct Group {
+    sheet: Sheet,
+    asked: Asked,
+}
+
+impl Group {
+    /// No lines.
+    pub fn new(alloc: Global) -> Group {
+        Group {
+            sheet: Sheet::new(alloc),
+            asked: Asked::Trees,
+        }
+    }
+}
+
+// What a line says that the cases behind it ask.
+fn asked_of(line: &str) -> Option<Asked> {
     match line {
         "ask trees" => Some(Asked::Trees),
         "ask packets" => Some(Asked::Packets),
@@ -59,20 +76,29 @@ fn of_sheet(
     }
 }
 
-/// The answer to a case.
-pub fn answer(alloc: Global, sheet: &Sheet, asked: Asked, case: &str) -> Result<String, NoMemory> {
-    let parts: Vec<&str> = case.split(";;").collect(alloc)?;
-    let words: Vec<&str> = word(parts.as_slice(), 0).split_whitespace().collect(alloc)?;
-    match word(words.as_slice(), 0) {
-        "draw" => draws_told(alloc, words.get(1..).unwrap_or(&[])),
-        "compare" => compared(alloc, sheet, case),
-        "extremes-of" => {
-            let lines = case.trim().strip_prefix("extremes-of ").unwrap_or("");
-            extremes_of_lines(alloc, lines)
+impl Answers for Group {
+    fn answer(&mut self, alloc: Global, case: &str) -> Result<String, NoMemory> {
+        let parts: Vec<&str> = case.split(";;").collect(alloc)?;
+        let words: Vec<&str> = word(parts.as_slice(), 0).split_whitespace().collect(alloc)?;
+        match word(words.as_slice(), 0) {
+            "draw" => draws_told(alloc, words.get(1..).unwrap_or(&[])),
+            "compare" => compared(alloc, &self.sheet, case),
+            "extremes-of" => {
+                let lines = case.trim().strip_prefix("extremes-of ").unwrap_or("");
+                extremes_of_lines(alloc, lines)
+            }
+            _ => {
+                let parts = parts.get(1..).unwrap_or(&[]);
+                of_sheet(alloc, &self.sheet, self.asked, parts, words.as_slice())
+            }
         }
-        _ => {
-            let parts = parts.get(1..).unwrap_or(&[]);
-            of_sheet(alloc, sheet, asked, parts, words.as_slice())
+    }
+
+    fn take(&mut self, alloc: Global, line: &str) -> Result<bool, NoMemory> {
+        match asked_of(line) {
+            Some(asked) => self.asked = asked,
+            None => self.sheet.take(alloc, line)?,
         }
+        Ok(true)
     }
 }

@@ -32,46 +32,11 @@ mod plan;
 mod trees;
 mod worked;
 
-use acn_case_lines::{Line, line_of};
-use acn_case_trees::Sheet;
-use acn_num::NoMemory;
-use answer::{Asked, answer, asked_of};
-use std::alloc::Global;
+use acn_case_lines::run_cases;
+use answer::Group;
 use std::io;
-
-// What is printed for a line, which may say what the next cases ask.
-fn reply(
-    alloc: Global,
-    sheet: &mut Sheet,
-    asked: &mut Asked,
-    line: &str,
-) -> Result<String, NoMemory> {
-    match line_of(line) {
-        Line::Case(case) => {
-            let said = answer(alloc, sheet, *asked, case)?;
-            Ok(format!(in alloc; "{case}=> {said}")?)
-        }
-        Line::Note => Ok(line.to_string(alloc)?),
-        Line::Other(text) => {
-            match asked_of(text) {
-                Some(next) => *asked = next,
-                None => sheet.take(alloc, text)?,
-            }
-            Ok(line.to_string(alloc)?)
-        }
-    }
-}
 
 fn main(rt: HostRuntime) -> io::Result<()> {
     let alloc = rt.alloc();
-    let mut sheet = Sheet::new(alloc);
-    let mut asked = Asked::Trees;
-    for line in rt.lines(alloc) {
-        let line = line?;
-        match reply(alloc, &mut sheet, &mut asked, line.as_str()) {
-            Ok(text) => println!(rt; "{text}")?,
-            Err(NoMemory) => println!(rt; "no memory")?,
-        }
-    }
-    Ok(())
+    run_cases(&rt, alloc, &mut Group::new(alloc))
 }
