@@ -73,29 +73,24 @@ impl Lines {
         ensures gives { Gives data_of result (line_gives (grammar_of tree.now.root) line.now) }
         ensures shaped { IfOk result (λ v. IsTrue (fits (grammar_of tree.now.root) (data_of v))) }
     {
-        match self.printed(alloc, tree, line) {
-            Some(value) => Ok(value),
-            None => self.parsed(alloc, tree, room, line),
-        }
-    }
-
-    // The same for a line that wasn't printed.
-    fn parsed(
-        &self,
-        alloc: Global,
-        tree: &Tree,
-        room: &mut Room,
-        line: &[u8],
-    ) -> Result<Value, JsonFault>
-        requires order { IsOrder (grammar_of tree.now.root) self.now.order }
-        requires few { length line.now ≤ MOST_JSON_BYTES }
-        ensures gives { Gives data_of result (line_gives (grammar_of tree.now.root) line.now) }
-        ensures shaped { IfOk result (λ v. IsTrue (fits (grammar_of tree.now.root) (data_of v))) }
-    {
-        match take_line(alloc, tree, &self.order.nodes, room, line) {
+        match self.seen(alloc, tree, room, line) {
             Some(value) => Ok(value),
             None => from_line(alloc, tree, line),
         }
+    }
+
+    /// The value that a line of JSON gives to the tree, where it is seen without a doubt: as it was printed, or by its tokens. None
+    /// says nothing of the line; `take` answers for each.
+    pub fn seen(&self, alloc: Global, tree: &Tree, room: &mut Room, line: &[u8]) -> Option<Value>
+        requires { IsOrder (grammar_of tree.now.root) self.now.order }
+        ensures gives { IfSome result (λ v. Ok (data_of v) ≡ line_gives (grammar_of tree.now.root) line.now) }
+        ensures shaped { IfSome result (λ v. IsTrue (fits (grammar_of tree.now.root) (data_of v))) }
+    {
+        if let Some(value) = self.printed(alloc, tree, line) {
+            return Some(value);
+        }
+        let value = take_line(alloc, tree, &self.order.nodes, room, line)?;
+        Some(value)
     }
 
     // The value of a line that was printed.

@@ -8,4 +8,4 @@ mod refusal;
 mod tries;
 
 pub use limits::PACKET_OCTETS;
-pub use packing::pack;
+pub use packing::{Packer, pack};

@@ -1,6 +1,6 @@
 //! A value packed with tables of open slots of three sizes, the smallest first.
 
-ghost use Rattle.std.specs.Prelude.{◌≡◌, ◌*◌, ◌^◌, ◌≤◌, length, OnOk, OnErr, IfOk};
+ghost use Rattle.std.specs.Prelude.{◌≡◌, [], ◌*◌, ◌^◌, ◌≤◌, length, OnOk, OnErr, IfOk};
 ghost use Rattle.acn_bits.specs.Writing.{place_of};
 ghost use Rattle.acn_num.specs.Bits.{bits};
 ghost use Rattle.acn_events.specs.Laws.{first_state};
@@ -60,8 +60,10 @@ fn pack_whole<'p, const N: usize, const S: usize, const A: usize>(
     trace: &mut Trace,
 ) -> Result<(), Halted>
     requires shaped { Shaped (root_of plan.now.steps) (data_of v.now) }
+    requires root { trace.old.path ≡ [] }
     requires fresh { state_of writer.old ≡ first_state (state_of writer.old).buf }
     ensures packs { OnOk result (PacksWhole (root_of plan.now.steps) (data_of v.now) writer.old writer.new) }
+    ensures back { OnOk result (trace.new.path ≡ []) }
     ensures halts { OnErr result (HaltsWhole (root_of plan.now.steps) (data_of v.now) (halt_of trace.new.path trace.new.why) writer.old writer.new) }
     ensures same_buffer { writer.new.cursor.buf.ghost_name ≡ writer.old.cursor.buf.ghost_name }
 {
@@ -71,7 +73,6 @@ fn pack_whole<'p, const N: usize, const S: usize, const A: usize>(
     stops_keep_what_is_later();
     stops_pass_their_holes();
     let steps = plan.steps();
-    trace.path = Path::new();
     match pack_node(steps, 0, v, writer, trace) {
         Ok(()) => {
             let _at = writer.at();
@@ -90,7 +91,9 @@ fn pack_with_few<const N: usize>(
 ) -> Result<u64, Halted>
     requires few { N ≤ 2 ^ 32 }
     requires shaped { Shaped (root_of plan.now.steps) (data_of v.now) }
+    requires root { trace.old.path ≡ [] }
     ensures packed { IfOk result (λ n. StandsInFront (root_of plan.now.steps) (data_of v.now) n (bits buf.old) (bits buf.new)) }
+    ensures back { OnOk result (trace.new.path ≡ []) }
     ensures halted { OnErr result (HaltsTry (class_of FEW_SLOTS FEW_AVOIDED) (8 * N) (root_of plan.now.steps) (data_of v.now) (halt_of trace.new.path trace.new.why) (bits buf.old) (bits buf.new)) }
 {
     let cursor = WriteCursor::new(buf);
@@ -108,9 +111,11 @@ fn write_with_few<'b, const N: usize>(
     answer: &mut Result<u64, Halted>,
 ) -> WriteCursor<'b, N>
     requires shaped { Shaped (root_of plan.now.steps) (data_of v.now) }
+    requires root { trace.old.path ≡ [] }
     requires front { place_of cursor ≡ 0 }
     requires long { length cursor.buf.now ≡ N }
     ensures packed { IfOk answer.new (λ n. StandsInFront (root_of plan.now.steps) (data_of v.now) n (bits cursor.entry.buf.now) (bits result.buf.now)) }
+    ensures back { OnOk answer.new (trace.new.path ≡ []) }
     ensures halted { OnErr answer.new (HaltsTry (class_of FEW_SLOTS FEW_AVOIDED) (8 * N) (root_of plan.now.steps) (data_of v.now) (halt_of trace.new.path trace.new.why) (bits cursor.entry.buf.now) (bits result.buf.now)) }
     ensures same_buffer { result.buf.ghost_name ≡ cursor.entry.buf.ghost_name }
 {
@@ -138,7 +143,9 @@ fn pack_with_some<const N: usize>(
 ) -> Result<u64, Halted>
     requires few { N ≤ 2 ^ 32 }
     requires shaped { Shaped (root_of plan.now.steps) (data_of v.now) }
+    requires root { trace.old.path ≡ [] }
     ensures packed { IfOk result (λ n. StandsInFront (root_of plan.now.steps) (data_of v.now) n (bits buf.old) (bits buf.new)) }
+    ensures back { OnOk result (trace.new.path ≡ []) }
     ensures halted { OnErr result (HaltsTry (class_of SOME_SLOTS SOME_AVOIDED) (8 * N) (root_of plan.now.steps) (data_of v.now) (halt_of trace.new.path trace.new.why) (bits buf.old) (bits buf.new)) }
 {
     let cursor = WriteCursor::new(buf);
@@ -157,9 +164,11 @@ fn write_with_some<'b, const N: usize>(
     answer: &mut Result<u64, Halted>,
 ) -> WriteCursor<'b, N>
     requires shaped { Shaped (root_of plan.now.steps) (data_of v.now) }
+    requires root { trace.old.path ≡ [] }
     requires front { place_of cursor ≡ 0 }
     requires long { length cursor.buf.now ≡ N }
     ensures packed { IfOk answer.new (λ n. StandsInFront (root_of plan.now.steps) (data_of v.now) n (bits cursor.entry.buf.now) (bits result.buf.now)) }
+    ensures back { OnOk answer.new (trace.new.path ≡ []) }
     ensures halted { OnErr answer.new (HaltsTry (class_of SOME_SLOTS SOME_AVOIDED) (8 * N) (root_of plan.now.steps) (data_of v.now) (halt_of trace.new.path trace.new.why) (bits cursor.entry.buf.now) (bits result.buf.now)) }
     ensures same_buffer { result.buf.ghost_name ≡ cursor.entry.buf.ghost_name }
 {
@@ -187,7 +196,9 @@ fn pack_with_most<const N: usize>(
 ) -> Result<u64, Halted>
     requires few { N ≤ 2 ^ 32 }
     requires shaped { Shaped (root_of plan.now.steps) (data_of v.now) }
+    requires root { trace.old.path ≡ [] }
     ensures packed { IfOk result (λ n. StandsInFront (root_of plan.now.steps) (data_of v.now) n (bits buf.old) (bits buf.new)) }
+    ensures back { OnOk result (trace.new.path ≡ []) }
     ensures halted { OnErr result (HaltsTry largest (8 * N) (root_of plan.now.steps) (data_of v.now) (halt_of trace.new.path trace.new.why) (bits buf.old) (bits buf.new)) }
 {
     let cursor = WriteCursor::new(buf);
@@ -206,9 +217,11 @@ fn write_with_most<'b, const N: usize>(
     answer: &mut Result<u64, Halted>,
 ) -> WriteCursor<'b, N>
     requires shaped { Shaped (root_of plan.now.steps) (data_of v.now) }
+    requires root { trace.old.path ≡ [] }
     requires front { place_of cursor ≡ 0 }
     requires long { length cursor.buf.now ≡ N }
     ensures packed { IfOk answer.new (λ n. StandsInFront (root_of plan.now.steps) (data_of v.now) n (bits cursor.entry.buf.now) (bits result.buf.now)) }
+    ensures back { OnOk answer.new (trace.new.path ≡ []) }
     ensures halted { OnErr answer.new (HaltsTry largest (8 * N) (root_of plan.now.steps) (data_of v.now) (halt_of trace.new.path trace.new.why) (bits cursor.entry.buf.now) (bits result.buf.now)) }
     ensures same_buffer { result.buf.ghost_name ≡ cursor.entry.buf.ghost_name }
 {
@@ -237,14 +250,17 @@ fn pack_with_more<const N: usize>(
     requires fits { (span (root_of plan.now.steps)).greatest ≤ 8 * N }
     requires shaped { Shaped (root_of plan.now.steps) (data_of v.now) }
     ensures packed { IfOk result (λ n. StandsInFront (root_of plan.now.steps) (data_of v.now) n (bits buf.old) (bits buf.new)) }
+    ensures back { OnOk result (trace.new.path ≡ []) }
     ensures ends { OnErr result (EndsTry (root_of plan.now.steps) (data_of v.now) trace.new.path trace.new.why) }
 {
     largest_tables_have_room();
     lengths_are_told();
+    trace.path = Path::new();
     match pack_with_some(plan, v, buf, trace) {
         Ok(count) => Ok(count),
         Err(halted) => {
             if is_full(&trace.why) {
+                trace.path = Path::new();
                 pack_with_most(plan, v, buf, trace)
             } else {
                 Err(halted)
@@ -253,8 +269,9 @@ fn pack_with_more<const N: usize>(
     }
 }
 
-/// Packs a value with the smallest of three tables that isn't full. With Ok the first bits of the buffer are what is written for
-/// the value, and the answer is how many there are. Else its events stop at the halt of the trace.
+/// Packs a value with the smallest of three tables that isn't full, from the root of a trace on. With Ok the first bits of the buffer
+/// are what is written for the value, the answer is how many there are, and the trace is at the root again. Else the value's events
+/// stop at the halt of the trace.
 pub fn pack_in<const N: usize>(
     plan: &Plan,
     v: &Value,
@@ -264,7 +281,9 @@ pub fn pack_in<const N: usize>(
     requires few { N ≤ 2 ^ 32 }
     requires fits { (span (root_of plan.now.steps)).greatest ≤ 8 * N }
     requires shaped { Shaped (root_of plan.now.steps) (data_of v.now) }
+    requires root { trace.old.path ≡ [] }
     ensures packed { IfOk result (λ n. StandsInFront (root_of plan.now.steps) (data_of v.now) n (bits buf.old) (bits buf.new)) }
+    ensures back { OnOk result (trace.new.path ≡ []) }
     ensures ends { OnErr result (EndsTry (root_of plan.now.steps) (data_of v.now) trace.new.path trace.new.why) }
 {
     lengths_are_told();

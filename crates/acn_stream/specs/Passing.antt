@@ -16,6 +16,8 @@ use Rattle.acn_stream.specs.declared.lines.Encoder.{Encoder}
 use Rattle.acn_stream.specs.declared.lines.LineFault.{LineFault}
 use Rattle.acn_stream.specs.declared.lines.LineFault.TheVariants as fault
 use Rattle.acn_stream.specs.declared.encode.Tally.{Tally}
+use Rattle.acn_stream.specs.declared.encode.Way.{Way}
+use Rattle.acn_stream.specs.declared.encode.Way.TheVariants as way
 use Rattle.acn_stream.specs.declared.stream_fault.StreamFault.{StreamFault}
 use Rattle.acn_stream.specs.declared.stream_fault.StreamFault.TheVariants as stream
 use Rattle.acn_supply.specs.Reading.{Supplied}
@@ -38,6 +40,11 @@ abbrev pub RefusesValue : Grammar → Data → LineFault → Type 0
 RefusesValue g d (fault.Bad bad) = ⊥
 RefusesValue g d (fault.Unfit unfit) = Refused g d (unfit_of unfit) × ((other : meets.Unfit) → Refused g d other → other ≡ unfit_of unfit) × ((mode : Mode) (bs : List Bool) → Spell g mode g [] d 0 bs → ⊥)
 RefusesValue g d fault.NoMemory = Unit {0}
+
+-- how many packets were added, or why none was, which stands beside the answer
+abbrev pub answered : Option ℕ → LineFault → Result ℕ LineFault
+answered (Some count) why = Ok count
+answered None why = Err why
 
 -- the one packet of the value was added, or it is said why not
 abbrev pub PutsValue : Grammar → Data → (old new : List ℕ) → Result ℕ LineFault → Type 0
@@ -89,6 +96,12 @@ pub record HasRoom (s : Supplied) (tally : Tally) : Type 0 where
 abbrev pub Goes : Grammar → (limit : ℕ) → (i i' : Option (List ℕ)) → Supplied → Tally → (text : List ℕ) → Option (Result ℕ StreamFault) → Type 0
 Goes g limit i i' s tally text None = Encoded g limit i i' s tally text
 Goes g limit i i' s tally text (Some result) = Ends g limit i i' (λ packets. packets ≡ text) result
+
+-- how encoding ended, if it did, with the fault that stands beside the answer
+abbrev pub told : Way → StreamFault → Option (Result ℕ StreamFault)
+told way.On fault = None
+told (way.Ended count) fault = Some (Ok count)
+told way.Failed fault = Some (Err fault)
 
 abbrev pub unread : Supplied → ℕ
 unread s = length s.hand + s.left

@@ -7,6 +7,7 @@ ghost use Rattle.acn_outside.specs.Counts.{Rose, Stays};
 ghost use Rattle.acn_plan.specs.Steps.{steps_of};
 ghost use Rattle.acn_stream.specs.Encoding.{EncodeEnds};
 ghost use Rattle.acn_stream.specs.Passing as spec;
+ghost use Rattle.acn_stream.specs.declared.encode.Way.TheVariants as way;
 ghost use Rattle.acn_stream.specs.declared.stream_fault.StreamFault.TheVariants as stream;
 ghost use Rattle.acn_supply.specs.declared.lines.NoLine.TheVariants as no_line;
 
@@ -16,11 +17,12 @@ use acn_bounds::bounds;
 use acn_check::Checked;
 use acn_lines::{Lines, Room};
 use acn_outside::{Sink, Source, write_all};
-use acn_packing::PACKET_OCTETS;
+use acn_packing::{PACKET_OCTETS, Packer};
 use acn_plan::{Plan, steps_say_their_root};
 use acn_supply::{Line, NoLine, Supply, read_line};
 use memchr::memchr;
 use std::alloc::Global;
+use std::mem::replace;
 
 // So many bytes of packets are collected before they are written.
 const BLOCK: usize = 65_536;
@@ -54,7 +56,41 @@ fn fault_behind(lines: u64, why: NoLine) -> StreamFault
     }
 }
 
-// Reads a line and adds its packet. An answer says that encoding ended.
+/// How encoding goes on behind a line. Faults are large, so they aren't handed on from line to line.
+#[derive(Clone, Copy)]
+pub enum Way {
+    /// With the next line.
+    On,
+    /// It ended, with so many packets.
+    Ended(u64),
+    /// It failed, and the fault stands beside it.
+    Failed,
+}
+
+// Tells the fault of the line of a number.
+#[cold]
+#[inline(never)]
+fn fail_at(number: u64, why: &mut LineFault, fault: &mut StreamFault) -> Way
+    ensures way { result ≡ way.Failed }
+    ensures fault { fault.new ≡ spec.fault_at number why.old }
+{
+    *fault = fault_at(number, replace(why, LineFault::NoMemory));
+    Way::Failed
+}
+
+// Tells why no line came behind so many.
+#[cold]
+#[inline(never)]
+fn fail_behind(lines: u64, why: NoLine, fault: &mut StreamFault) -> Way
+    requires { why ≡ no_line.TooLong → lines + 1 < 2 ^ 64 }
+    ensures way { result ≡ way.Failed }
+    ensures fault { fault.new ≡ spec.fault_behind lines why }
+{
+    *fault = fault_behind(lines, why);
+    Way::Failed
+}
+
+// Reads a line and adds its packet.
 fn take_line<S: Source>(
     alloc: Global,
     by: &Encoder<'_>,
@@ -62,34 +98,35 @@ fn take_line<S: Source>(
     supply: &mut Supply,
     input: &mut S,
     tally: &mut Tally,
-) -> Option<Result<u64, StreamFault>>
+    fault: &mut StreamFault,
+) -> Way
     requires can { spec.CanEncode by.now }
     requires room { spec.HasRoom supply.old tally.old }
-    ensures goes { (limit : ℕ) (i : Option (List ℕ)) (text : List ℕ) → spec.Encoded (spec.grammar_by by.now) limit i (S.rest input.old) supply.old tally.old (text ++ space.old.packets.items) → spec.Goes (spec.grammar_by by.now) limit i (S.rest input.new) supply.new tally.new (text ++ space.new.packets.items) result }
-    ensures room { result ≡ None → spec.HasRoom supply.new tally.new }
-    ensures falls { result ≡ None → spec.unread supply.new < spec.unread supply.old }
+    ensures goes { (limit : ℕ) (i : Option (List ℕ)) (text : List ℕ) → spec.Encoded (spec.grammar_by by.now) limit i (S.rest input.old) supply.old tally.old (text ++ space.old.packets.items) → spec.Goes (spec.grammar_by by.now) limit i (S.rest input.new) supply.new tally.new (text ++ space.new.packets.items) (spec.told result fault.new) }
+    ensures room { result ≡ way.On → spec.HasRoom supply.new tally.new }
+    ensures falls { result ≡ way.On → spec.unread supply.new < spec.unread supply.old }
     ensures count { S.faults input.old ≤ S.faults input.new }
-    ensures failed { result ≡ Some (Err stream.InputFault) → Rose (S.faults input.old) (S.faults input.new) }
-    ensures stays { (result ≡ Some (Err stream.InputFault) → ⊥) → Stays (S.faults input.old) (S.faults input.new) }
+    ensures failed { spec.told result fault.new ≡ Some (Err stream.InputFault) → Rose (S.faults input.old) (S.faults input.new) }
+    ensures stays { (spec.told result fault.new ≡ Some (Err stream.InputFault) → ⊥) → Stays (S.faults input.old) (S.faults input.new) }
 {
     match read_line(supply, input, &mut space.line) {
         Ok(Line::Ended) => match put_line(alloc, by, space) {
-            Ok(count) => {
+            Some(count) => {
                 tally.lines += 1;
                 tally.packets += count;
-                None
+                Way::On
             }
-            Err(fault) => Some(Err(fault_at(tally.lines + 1, fault))),
+            None => fail_at(tally.lines + 1, &mut space.why, fault),
         },
         Ok(Line::Last) => match put_line(alloc, by, space) {
-            Ok(count) => Some(Ok(tally.packets + count)),
-            Err(fault) => Some(Err(fault_at(tally.lines + 1, fault))),
+            Some(count) => Way::Ended(tally.packets + count),
+            None => fail_at(tally.lines + 1, &mut space.why, fault),
         },
-        Err(why) => Some(Err(fault_behind(tally.lines, why))),
+        Err(why) => fail_behind(tally.lines, why, fault),
     }
 }
 
-// Takes lines until no more is in hand, or the packets fill a block. An answer says that encoding ended.
+// Takes lines until no more is in hand, or the packets fill a block.
 fn take_lines<S: Source>(
     alloc: Global,
     by: &Encoder<'_>,
@@ -97,23 +134,25 @@ fn take_lines<S: Source>(
     supply: &mut Supply,
     input: &mut S,
     tally: &mut Tally,
-) -> Option<Result<u64, StreamFault>>
+    fault: &mut StreamFault,
+) -> Way
     requires can { spec.CanEncode by.now }
     requires room { spec.HasRoom supply.old tally.old }
-    ensures goes { (limit : ℕ) (i : Option (List ℕ)) (text : List ℕ) → spec.Encoded (spec.grammar_by by.now) limit i (S.rest input.old) supply.old tally.old (text ++ space.old.packets.items) → spec.Goes (spec.grammar_by by.now) limit i (S.rest input.new) supply.new tally.new (text ++ space.new.packets.items) result }
-    ensures room { result ≡ None → spec.HasRoom supply.new tally.new }
-    ensures falls { result ≡ None → spec.unread supply.new < spec.unread supply.old }
+    ensures goes { (limit : ℕ) (i : Option (List ℕ)) (text : List ℕ) → spec.Encoded (spec.grammar_by by.now) limit i (S.rest input.old) supply.old tally.old (text ++ space.old.packets.items) → spec.Goes (spec.grammar_by by.now) limit i (S.rest input.new) supply.new tally.new (text ++ space.new.packets.items) (spec.told result fault.new) }
+    ensures room { result ≡ way.On → spec.HasRoom supply.new tally.new }
+    ensures falls { result ≡ way.On → spec.unread supply.new < spec.unread supply.old }
     ensures count { S.faults input.old ≤ S.faults input.new }
-    ensures failed { result ≡ Some (Err stream.InputFault) → Rose (S.faults input.old) (S.faults input.new) }
-    ensures stays { (result ≡ Some (Err stream.InputFault) → ⊥) → Stays (S.faults input.old) (S.faults input.new) }
+    ensures failed { spec.told result fault.new ≡ Some (Err stream.InputFault) → Rose (S.faults input.old) (S.faults input.new) }
+    ensures stays { (spec.told result fault.new ≡ Some (Err stream.InputFault) → ⊥) → Stays (S.faults input.old) (S.faults input.new) }
 {
     loop {
-        match take_line(alloc, by, space, supply, input, tally) {
-            None => {}
-            Some(result) => return Some(result),
+        match take_line(alloc, by, space, supply, input, tally, fault) {
+            Way::On => {}
+            Way::Ended(count) => return Way::Ended(count),
+            Way::Failed => return Way::Failed,
         }
         if space.packets.len() >= BLOCK || memchr(b'\n', supply.hand()).is_none() {
-            return None;
+            return Way::On;
         }
     }
 }
@@ -143,21 +182,25 @@ fn encode_supply<S: Source, O: Sink>(
         line: Vec::new(alloc),
         packets: Vec::new(alloc),
         buffer: [0u8; PACKET_OCTETS],
+        packer: Packer::new(),
+        why: LineFault::NoMemory,
     };
+    let mut fault = StreamFault::NoMemory;
     let mut tally = Tally {
         lines: 0,
         packets: 0,
     };
     loop {
         space.packets.clear();
-        let answer = take_lines(alloc, by, &mut space, supply, input, &mut tally);
+        let way = take_lines(alloc, by, &mut space, supply, input, &mut tally, &mut fault);
         match write_all(out, &space.packets) {
             Ok(()) => {}
             Err(_) => return Err(StreamFault::OutputFault),
         }
-        match answer {
-            None => {}
-            Some(result) => return result,
+        match way {
+            Way::On => {}
+            Way::Ended(count) => return Ok(count),
+            Way::Failed => return Err(fault),
         }
     }
 }
