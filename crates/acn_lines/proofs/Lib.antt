@@ -1,4 +1,5 @@
 mod Alternatives
+mod CalledLaw
 mod FillingLaw
 mod GoingOn
 mod LeafLaw

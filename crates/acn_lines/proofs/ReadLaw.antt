@@ -1,11 +1,10 @@
 -- What is read of a node, by its body.
-use Rattle.std.proofs.Common.{◌≡◌, ℕ, zero, suc, ◌+◌, ◌<◌, Bool, true, false, cond, List, [], ◌∷◌, ◌++◌, length, get_or, Option, Some, None, refl, sym, ap, subst, ◌∙◌, append_assoc, arith}
+use Rattle.std.proofs.Common.{◌≡◌, ℕ, zero, suc, ◌+◌, ◌<◌, Bool, true, false, List, [], ◌∷◌, ◌++◌, length, get_or, Option, refl, sym, ap, subst, ◌∙◌, append_assoc, arith}
 use Rattle.std.specs.Prelude.{IfSome}
 use Rattle.std.proofs.lemmas.Bool.{and_parts}
 use Rattle.json.specs.Print.{quoted}
 use Rattle.serde_json.specs.Data.{no_members, member}
 use Rattle.serde_json.specs.Written.{compact_text, items_text, members_text}
-use Rattle.acn_grammar.specs.Asks.{same_name}
 use Rattle.acn_grammar.specs.Grammar.{Grammar, Fields, Data, node, seq, list, choice, record_of, list_of, alt}
 use Rattle.acn_grammar.specs.Shaped.{fits, each_element, alternative_fits}
 use Rattle.acn_grammar.specs.View.{data_of, grammar_of, form_of, fields_view, places_view, elements_view, alternatives_view}
@@ -18,15 +17,15 @@ use Rattle.acn_grammar.specs.declared.node.Node.{Node}
 use Rattle.acn_grammar.specs.declared.node.Seq.{Seq as SeqNode}
 use Rattle.acn_grammar.specs.declared.node.Sizing.{Sizing}
 use Rattle.acn_grammar.specs.declared.value.Value.{Value, Seq, List as List_value}
-use Rattle.acn_grammar.proofs.Characters.{same_name-is}
 use Rattle.acn_grammar.proofs.Views.{view_seq, view_seq_form}
 use Rattle.acn_json.specs.Lines.{json_of, each_json, alternative_json}
 use Rattle.acn_json.specs.RoundTrip.{CanBeSaid, ElementsCanBeSaid}
-use Rattle.acn_lines.specs.Filled.{AreRead, AreFilled}
+use Rattle.acn_lines.specs.Filled.{AreRead, AreFilled, alternative_name}
 use Rattle.acn_lines.specs.Order.{in_order, AreTurns}
-use Rattle.acn_lines.specs.Taken.{alternative_number, is_whole}
+use Rattle.acn_lines.specs.Taken.{is_whole}
 use Rattle.acn_lines.specs.declared.turns.Turn.{Turn}
 use Rattle.acn_lines.proofs.Alternatives.{alternative-at}
+use Rattle.acn_lines.proofs.CalledLaw.{alternative_named}
 use Rattle.acn_lines.proofs.FillingLaw.{whole-fits}
 use Rattle.acn_lines.proofs.GoingOn.{alternative-text}
 use Rattle.acn_lines.proofs.LeafLaw.{view_list}
@@ -130,32 +129,12 @@ alternative_fits_at [] i a d h e f = absurd (omega arith)
 alternative_fits_at (x ∷ xs) zero a d h e f = ap (λ c. alternative_fits c zero d) (view_alternative x xs) ∙ subst (λ y. fits (grammar_of y.node) d ≡ true) e f
 alternative_fits_at (x ∷ xs) (suc i) a d h e f = ap (λ c. alternative_fits c (suc i) d) (view_alternative x xs) ∙ alternative_fits_at xs i a d (omega arith) e f
 
--- the alternative of a number has the name, the alternatives being numbered from k
-abbrev Names : List ℕ → ℕ → List Alternative → Option ℕ → Type 0
-Names name k as' None = Unit {0}
-Names name k as' (Some n) = (i : ℕ) × (n ≡ k + i) × ((a : Alternative) → a ≡ get_or as' i a → a.name ≡ name)
-
-names : (name : List ℕ) (k : ℕ) (as' : List Alternative) → Names name k as' (alternative_number name k (alternatives_view as'))
-names name k [] = tt
-names name k (x ∷ xs) = subst (λ c. Names name k (x ∷ xs) (alternative_number name k c)) (sym (view_alternative x xs)) (go (same_name x.name name) refl (alternative_number name (k + 1) (alternatives_view xs)) (names name (k + 1) xs))
-  where
-    go : (b : Bool) → same_name x.name name ≡ b → (o : Option ℕ) → Names name (k + 1) xs o → Names name k (x ∷ xs) (cond b (Some k) o)
-    go true e o h = (0, omega arith, λ a is. ap (λ y. y.name) is ∙ same_name-is x.name name e)
-    go false e None h = tt
-    go false e (Some n) h = (suc h.0, (let m = h.1 in omega arith), λ a is. h.2 a is)
-
-named : (name : List ℕ) (as' : List Alternative) (i : ℕ) (a : Alternative) → Some i ≡ alternative_number name 0 (alternatives_view as') → a ≡ get_or as' i a → a.name ≡ name
-named name as' i a number is =
-    let l = subst (Names name 0 as') (sym number) (names name 0 as') in
-    let at : l.0 ≡ i = (let e = l.1 in omega arith) in
-    l.2 a (is ∙ ap (λ k. get_or as' k a) (sym at))
-
-pub alternative_read : (as' : List Alternative) (i : ℕ) (name : List ℕ) (a : Alternative) (w : Data) (r : Option Value) (old opened key inside end new : List ℕ) → IfSome r (λ v. data_of v ≡ alt i w) → Some i ≡ alternative_number name 0 (alternatives_view as') → i < length as' → a ≡ get_or as' i a
+pub alternative_read : (as' : List Alternative) (i : ℕ) (name : List ℕ) (a : Alternative) (w : Data) (r : Option Value) (old opened key inside end new : List ℕ) → IfSome r (λ v. data_of v ≡ alt i w) → alternative_name (alternatives_view as') i ≡ name → i < length as' → a ≡ get_or as' i a
     → old ≡ 123 ∷ opened → opened ≡ quoted name ++ key → key ≡ 58 ∷ inside → IsRead (grammar_of a.node) w inside end → end ≡ 125 ∷ new → IfSome r (λ v. (align : ℕ) (rule : ChoiceRule) → IsRead (node align (choice (alternatives_view as') rule)) (data_of v) old new)
-alternative_read as' i name a w r old opened key inside end new made number within at open_brace keyed colon read closed =
+alternative_read as' i name a w r old opened key inside end new made called within at open_brace keyed colon read closed =
     let own = json_of (grammar_of a.node) w in
     let is : alternative_json (alternatives_view as') i w ≡ member a.name own no_members = subst (λ b. alternative_json (alternatives_view as') i w ≡ member b.name (json_of (grammar_of b.node) w) no_members) (sym at) (alternative-at as' i a w within) in
-    let name_is = named name as' i a number at in
+    let name_is = sym (alternative_named as' i a within at) ∙ called in
     if_some r (λ v same align rule. subst (λ d. IsRead (node align (choice (alternatives_view as') rule)) d old new) (sym same) (record {
       text = alternative-text a.name own old opened key inside end new open_brace (keyed ∙ ap (λ n. quoted n ++ key) (sym name_is)) colon read.text closed ∙ ap (λ ms. (123 ∷ members_text false ms) ++ new) (sym is);
       fits = alternative_fits_at as' i a w within at read.fits;

@@ -1,8 +1,8 @@
 -- What the walk over a line that was printed says of the parts of a value.
-use Rattle.std.specs.Prelude.{◌≡◌, ℕ, Bool, false, IsTrue, List, [], ◌∷◌, ◌++◌, None}
+use Rattle.std.specs.Prelude.{◌≡◌, ℕ, zero, suc, Bool, false, IsTrue, List, [], ◌∷◌, ◌++◌, None}
 use Rattle.serde_json.specs.Data.{Members}
 use Rattle.serde_json.specs.Written.{items_text, members_text}
-use Rattle.acn_grammar.specs.Grammar.{Grammar, Fields, Data, Places, Elements, no_fields, component, inserted, no_places, empty, filled}
+use Rattle.acn_grammar.specs.Grammar.{Grammar, Fields, Alternatives, Data, Places, Elements, no_fields, component, inserted, no_alternatives, alternative, no_places, empty, filled}
 use Rattle.acn_grammar.specs.Shaped.{fits, each_element}
 use Rattle.acn_grammar.specs.View.{OneField, a_component, an_inserted}
 use Rattle.acn_json.specs.Lines.{json_of, each_json}
@@ -40,3 +40,9 @@ pub record IsTurnRead (fs : Fields) (t : Turn) (later more : Bool) (ps qs : Plac
   pub text : (ms : Members) (end : List ℕ) → new ≡ members_text more ms ++ end → old ≡ members_text later (member_at (field_at fs t.field) (place_at qs t.place) ms) ++ end
   pub others : (k : ℕ) → (k ≡ t.place → ⊥) → place_at qs k ≡ place_at ps k
   pub filled : AreFilled fs qs
+
+-- the name of the alternative of a number
+abbrev pub alternative_name : Alternatives → (k : ℕ) → List ℕ
+alternative_name no_alternatives k = []
+alternative_name (alternative name g tests more) zero = name
+alternative_name (alternative name g tests more) (suc k) = alternative_name more k

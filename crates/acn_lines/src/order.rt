@@ -11,17 +11,20 @@ use crate::turns::{Turn, turns_of};
 use acn_cut::{Cut, cut_of};
 use acn_grammar::{Alternative, Body, Field, Node, NumLeaf};
 use acn_num::{NoMemory, Row};
+use acn_printed::in_order_of_names;
 use std::alloc::Global;
 
 /// What is kept of a node: the turns of a SEQUENCE, and what is kept of the node of each field of a
 /// SEQUENCE, or of each alternative of a CHOICE; of a number, how it is read out of one word, where
-/// it can be so. Of a list, and of a string that contains a value, it is what is kept of the node
-/// inside.
+/// it can be so. `names` are the numbers of the alternatives of a CHOICE, or of the items of an
+/// ENUMERATED, in byte order of their names, if they are many; no clause speaks of them. Of a list,
+/// and of a string that contains a value, it is what is kept of the node inside.
 #[cycle(kept)]
 #[derive(Drop)]
 pub struct Order {
     pub turns: Row<Turn>,
     pub inside: Row<Order>,
+    pub names: Row<u32>,
     pub cut: Option<Cut>,
 }
 
@@ -32,15 +35,24 @@ pub struct TreeOrder {
     pub text_names: bool,
 }
 
-// Of a number leaf.
-fn leaf_order(alloc: Global, leaf: &NumLeaf) -> Order
+// Of a number leaf, with what is kept of the names of its items.
+fn leaf_order(alloc: Global, leaf: &NumLeaf, names: Row<u32>) -> Order
     ensures { IfSome (out-Order result).cut (λ cut. IsCut cut leaf.now) }
 {
     Order {
         turns: Row::new(alloc),
         inside: Row::new(alloc),
+        names,
         cut: cut_of(leaf),
     }
+}
+
+// Of a number leaf of which lines speak.
+fn number_order(alloc: Global, leaf: &NumLeaf) -> Result<Order, NoMemory>
+    ensures { IfOk result (λ o. spec.IsLeafOrder leaf.now o) }
+{
+    let names = in_order_of_names(alloc, leaf.items.items.items())?;
+    Ok(leaf_order(alloc, leaf, names))
 }
 
 // Of a node in which no object is.
@@ -48,16 +60,17 @@ fn nothing(alloc: Global) -> Order {
     Order {
         turns: Row::new(alloc),
         inside: Row::new(alloc),
+        names: Row::new(alloc),
         cut: None,
     }
 }
 
-// Of a field that ACN inserts.
+// Of a field that ACN inserts, of which no line speaks.
 fn inserted_order(alloc: Global, node: &Node) -> Order
     ensures { spec.IsInsertedOrder (grammar_of node.now) result }
 {
     match &node.body {
-        Body::Num(leaf) => leaf_order(alloc, leaf),
+        Body::Num(leaf) => leaf_order(alloc, leaf, Row::new(alloc)),
         _ => nothing(alloc),
     }
 }
@@ -69,7 +82,7 @@ pub fn order_of(alloc: Global, node: &Node) -> Result<Order, NoMemory>
     ensures { IfOk result (λ o. spec.IsNodeOrder (grammar_of node.now) o) }
 {
     match &node.body {
-        Body::Num(leaf) => Ok(leaf_order(alloc, leaf)),
+        Body::Num(leaf) => number_order(alloc, leaf),
         Body::Octets(_) => Ok(nothing(alloc)),
         Body::Bits(_) => Ok(nothing(alloc)),
         Body::Text(_) => Ok(nothing(alloc)),
@@ -92,6 +105,7 @@ fn sequence_order(alloc: Global, fields: &[Field]) -> Result<Order, NoMemory>
     Ok(Order {
         turns,
         inside,
+        names: Row::new(alloc),
         cut: None,
     })
 }
@@ -124,10 +138,12 @@ fn choice_order(alloc: Global, alternatives: &[Alternative]) -> Result<Order, No
     requires { names.AlternativesNamesDiffer (alternatives_view alternatives.now) }
     ensures { IfOk result (λ o. spec.AreAlternativeOrders (alternatives_view alternatives.now) (out-Order o).inside) }
 {
+    let names = in_order_of_names(alloc, alternatives)?;
     let inside = alternative_orders(alloc, alternatives)?;
     Ok(Order {
         turns: Row::new(alloc),
         inside,
+        names,
         cut: None,
     })
 }

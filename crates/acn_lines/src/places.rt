@@ -3,12 +3,14 @@
 ghost use Rattle.std.specs.Prelude.{◌≡◌, ◌<◌, ◌||◌, IfSome, IfOk, length, drop};
 ghost use Rattle.acn_grammar.specs.Shaped.{may_be_absent as may_lack};
 ghost use Rattle.acn_grammar.specs.View.{fields_view, places_view, alternatives_view};
+ghost use Rattle.acn_lines.specs.Filled.{alternative_name};
 ghost use Rattle.acn_lines.specs.Taken as taken;
 
 use crate::turns::Turn;
 use acn_grammar::{Alternative, Field, Presence, Value};
 use acn_json::{is_same, may_be_absent};
 use acn_num::NoMemory;
+use acn_printed::number_by_halves;
 use std::alloc::Global;
 
 /// A place for each component, with no value in it.
@@ -119,4 +121,24 @@ pub fn alternative_named(alternatives: &[Alternative], name: &[u8]) -> Option<us
         }
     }
     None
+}
+
+/// The number of an alternative of this name, looked for by halves where `names` are the numbers of
+/// all in byte order of their names.
+pub fn alternative_called(alternatives: &[Alternative], names: &[u32], name: &[u8]) -> Option<usize>
+    ensures within { IfSome result (λ at. at < length alternatives.now) }
+    ensures named { IfSome result (λ at. alternative_name (alternatives_view alternatives.now) at ≡ name.now) }
+{
+    if names.is_empty() {
+        return alternative_named(alternatives, name);
+    }
+    let at = number_by_halves(alternatives, names, name)?;
+    if at >= alternatives.len() {
+        return None;
+    }
+    if is_same(alternatives[at].name.bytes(), name) {
+        Some(at)
+    } else {
+        None
+    }
 }

@@ -13,7 +13,7 @@ ghost use Rattle.acn_lines.specs.declared.order.Order.{out-Order};
 ghost use Rattle.acn_printed.specs.Read.{IsRead};
 
 use crate::order::Order;
-use crate::places::{alternative_named, is_whole, no_values};
+use crate::places::{alternative_called, is_whole, no_values};
 use crate::take::alternative_of;
 use crate::turns::Turn;
 use acn_grammar::{Alternative, Body, Field, Node, Presence, Value};
@@ -28,7 +28,7 @@ pub fn read_node(alloc: Global, node: &Node, order: &Order, rest: &mut Rest<'_>)
     ensures { IfSome result (λ v. IsRead (grammar_of node.now) (data_of v) rest.old.text.now rest.new.text.now) }
 {
     match &node.body {
-        Body::Num(leaf) => read_number(leaf, rest),
+        Body::Num(leaf) => read_number(leaf, order.names.items(), rest),
         Body::Octets(_) => {
             let octets = read_octets(alloc, rest)?;
             Some(Value::Octets(octets))
@@ -47,6 +47,7 @@ pub fn read_node(alloc: Global, node: &Node, order: &Order, rest: &mut Rest<'_>)
             alloc,
             choice.alternatives.items(),
             order.inside.items(),
+            order.names.items(),
             rest,
         ),
         Body::Contained(_, content) => read_node(alloc, content.get(), order, rest),
@@ -194,6 +195,7 @@ fn read_alternative(
     alloc: Global,
     alternatives: &[Alternative],
     inside: &[Order],
+    names: &[u32],
     rest: &mut Rest<'_>,
 ) -> Option<Value>
     requires { spec.AreAlternativeOrders (alternatives_view alternatives.now) inside.now }
@@ -203,7 +205,7 @@ fn read_alternative(
         return None;
     }
     let name = rest.plain_string()?;
-    let at = alternative_named(alternatives, name)?;
+    let at = alternative_called(alternatives, names, name)?;
     if !rest.pass(b':') {
         return None;
     }

@@ -8,6 +8,7 @@ ghost use Rattle.acn_grammar.specs.declared.node.NumKind.TheVariants as kind;
 ghost use Rattle.acn_json.specs.Lines.{item_name};
 ghost use Rattle.acn_printed.specs.Read.{IsNumberRead};
 
+use crate::names::number_by_halves;
 use crate::rest::Rest;
 use acn_grammar::{NumKind, NumLeaf, Value};
 use acn_json::is_same;
@@ -107,8 +108,8 @@ fn read_null(rest: &mut Rest<'_>) -> Option<Value>
     }
 }
 
-// The number of the item of this name.
-fn item_named(items: &[(Name, i128)], name: &[u8]) -> Option<usize>
+// The number of the item of this name, looked for among all of them.
+fn item_among(items: &[(Name, i128)], name: &[u8]) -> Option<usize>
     ensures within { IfSome result (λ at. at < length items.now) }
     ensures named { IfSome result (λ at. item_name items.now at ≡ name.now) }
 {
@@ -120,25 +121,46 @@ fn item_named(items: &[(Name, i128)], name: &[u8]) -> Option<usize>
     None
 }
 
-fn read_item(items: &[(Name, i128)], rest: &mut Rest<'_>) -> Option<Value>
+// The number of an item of this name, looked for by halves where `names` are the numbers of all in
+// byte order of their names.
+fn item_named(items: &[(Name, i128)], names: &[u32], name: &[u8]) -> Option<usize>
+    ensures within { IfSome result (λ at. at < length items.now) }
+    ensures named { IfSome result (λ at. item_name items.now at ≡ name.now) }
+{
+    if names.is_empty() {
+        return item_among(items, name);
+    }
+    let at = number_by_halves(items, names, name)?;
+    if at >= items.len() {
+        return None;
+    }
+    if is_same(items[at].0.bytes(), name) {
+        Some(at)
+    } else {
+        None
+    }
+}
+
+fn read_item(items: &[(Name, i128)], names: &[u32], rest: &mut Rest<'_>) -> Option<Value>
     ensures { IfSome result (λ v. IsNumberRead kind.Enumerated items.now (data_of v) rest.old.text.now rest.new.text.now) }
 {
     let name = rest.plain_string()?;
-    let at = item_named(items, name)?;
+    let at = item_named(items, names, name)?;
     let Ok(at) = u32::try_from(at) else {
         return None;
     };
     Some(Value::Item(at))
 }
 
-/// Reads the value of a leaf whose value is a number, if it comes next.
-pub fn read_number(leaf: &NumLeaf, rest: &mut Rest<'_>) -> Option<Value>
+/// Reads the value of a leaf whose value is a number, if it comes next. `names` are the numbers of
+/// its items in byte order of their names, or none.
+pub fn read_number(leaf: &NumLeaf, names: &[u32], rest: &mut Rest<'_>) -> Option<Value>
     ensures { IfSome result (λ v. IsNumberRead leaf.now.kind leaf.now.items.items (data_of v) rest.old.text.now rest.new.text.now) }
 {
     match leaf.kind {
         NumKind::Integer => read_integer(rest),
         NumKind::Boolean => read_truth(rest),
-        NumKind::Enumerated => read_item(leaf.items.items.items(), rest),
+        NumKind::Enumerated => read_item(leaf.items.items.items(), names, rest),
         NumKind::Null => read_null(rest),
     }
 }

@@ -10,13 +10,12 @@ use Rattle.acn_lines.proofs.FillingLaw.{keyed-within, none-filled, all-empty, em
 use Rattle.acn_lines.proofs.MembersLaw.{keyed_at, placed_at}
 use Rattle.acn_lines.proofs.Parts.{field-here, field-within, orders-within, order-here, alternatives-within, alternative-here}
 use Rattle.acn_lines.proofs.ReadLaw.{seq_read, list_read, choice_read, record_read, elements_begin, elements_more, elements_end, alternative_read}
-use Rattle.acn_lines.proofs.TakenLaw.{number_within}
 use Rattle.acn_lines.proofs.read.+read.Goals as goal
 
 -- The node.
 
 pub read_node-returns-in-Seq : goal.read_node-returns-in-Seq
-read_node-returns-in-Seq t c = seq_read c.args.node.now c.in-Seq.seq c.items.result.now _ _ _ c.in-Seq.is c.items.ensures c.read_record.ensures
+read_node-returns-in-Seq t c = seq_read c.args.node.now c.in-Seq.seq c.items-in-Seq.result.now _ _ _ c.in-Seq.is c.items-in-Seq.ensures c.read_record.ensures
 
 pub read_node-returns-in-List : goal.read_node-returns-in-List
 read_node-returns-in-List t c = list_read c.args.node.now _ _ _ _ _ _ c.in-List.is c.get.ensures c.read_list.ensures
@@ -147,36 +146,32 @@ read_elements-returns-then-pass t c =
 -- Alternatives.
 
 pub read_alternative-bounds-alternatives-at : goal.read_alternative-bounds-alternatives-at
-read_alternative-bounds-alternatives-at t c = (let w = number_within _ 0 c.in_ok-at.at c.args.alternatives.now c.in_ok-at.ensures in omega arith)
+read_alternative-bounds-alternatives-at t c = c.in_ok-at.ensures.within
 
 pub read_alternative-offset_bounds-alternatives-at : goal.read_alternative-offset_bounds-alternatives-at
-read_alternative-offset_bounds-alternatives-at t c = grind (arith, common_steps, number_within _ 0 c.in_ok-at.at c.args.alternatives.now c.in_ok-at.ensures)
+read_alternative-offset_bounds-alternatives-at t c = grind (arith, common_steps, c.in_ok-at.ensures.within)
 
 pub read_alternative-bounds-inside-at : goal.read_alternative-bounds-inside-at
 read_alternative-bounds-inside-at t c =
-    let w = number_within _ 0 c.in_ok-at.at c.args.alternatives.now c.in_ok-at.ensures in
-    alternatives-within c.args.alternatives.now c.args.inside.now c.in_ok-at.at c.requires (omega arith)
+    alternatives-within c.args.alternatives.now c.args.inside.now c.in_ok-at.at c.requires c.in_ok-at.ensures.within
 
 pub read_alternative-offset_bounds-inside-at : goal.read_alternative-offset_bounds-inside-at
 read_alternative-offset_bounds-inside-at t c =
-    let w = number_within _ 0 c.in_ok-at.at c.args.alternatives.now c.in_ok-at.ensures in
-    grind (arith, common_steps, alternatives-within c.args.alternatives.now c.args.inside.now c.in_ok-at.at c.requires (omega arith))
+    grind (arith, common_steps, alternatives-within c.args.alternatives.now c.args.inside.now c.in_ok-at.at c.requires c.in_ok-at.ensures.within)
 
 pub read_alternative-read_node-requires : goal.read_alternative-read_node-requires
 read_alternative-read_node-requires t c =
     let as' = c.args.alternatives.now in
-    let w = number_within _ 0 c.in_ok-at.at as' c.in_ok-at.ensures in
     let a = c.index-alternatives-at.result in (
       search (rules, node_lemmas),
-      subst (λ y. IsNodeOrder (grammar_of y.node) c.index-inside-at.result) c.index-alternatives-at.is (alternative-here as' c.args.inside.now c.in_ok-at.at a c.index-inside-at.result c.requires (omega arith) c.index-alternatives-at.is c.index-inside-at.is),
+      subst (λ y. IsNodeOrder (grammar_of y.node) c.index-inside-at.result) c.index-alternatives-at.is (alternative-here as' c.args.inside.now c.in_ok-at.at a c.index-inside-at.result c.requires c.in_ok-at.ensures.within c.index-alternatives-at.is c.index-inside-at.is),
     )
 
 pub read_alternative-returns : goal.read_alternative-returns
 read_alternative-returns t c =
     let as' = c.args.alternatives.now in
-    let w = number_within _ 0 c.in_ok-at.at as' c.in_ok-at.ensures in
     let a = c.index-alternatives-at.result in
     let d = data_of c.in_ok-value.value in
     let read = subst (λ y. IsRead (grammar_of y.node) d c.pass-2.new.self.text.now c.read_node.new.rest.text.now) (sym c.index-alternatives-at.is) c.in_ok-value.ensures in
     alternative_read as' c.in_ok-at.at c.in_ok-name.name.now a d c.alternative_of.result _ _ _ _ _ _
-    c.alternative_of.ensures c.in_ok-at.ensures (omega arith) c.index-alternatives-at.is (c.pass.ensures.passed c.if-not-pass.false) c.in_ok-name.ensures (c.pass-2.ensures.passed c.if-not-pass-2.false) read (c.pass-3.ensures.passed c.if-not-pass-3.false)
+    c.alternative_of.ensures c.in_ok-at.ensures.named c.in_ok-at.ensures.within c.index-alternatives-at.is (c.pass.ensures.passed c.if-not-pass.false) c.in_ok-name.ensures (c.pass-2.ensures.passed c.if-not-pass-2.false) read (c.pass-3.ensures.passed c.if-not-pass-3.false)
