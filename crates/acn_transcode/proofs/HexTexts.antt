@@ -1,16 +1,16 @@
 -- Octets that were read, and put as hexadecimal digits.
-use Rattle.std.proofs.Common.{◌≡◌, ℕ, zero, suc, ◌+◌, ◌*◌, ◌/◌, ◌%◌, ◌^◌, ◌<◌, ◌≤◌, true, nat_lt, List, [], ◌∷◌, ◌++◌, length, take, get_or, refl, sym, ap, ◌∙◌, arith, subst, append-nil, append_assoc, length-append}
+use Rattle.std.proofs.Common.{Bool, ◌≡◌, ℕ, zero, suc, ◌+◌, ◌*◌, ◌/◌, ◌%◌, ◌^◌, ◌<◌, ◌≤◌, true, nat_lt, List, [], ◌∷◌, ◌++◌, length, take, get_or, refl, sym, ap, ◌∙◌, arith, subst, append-nil, append_assoc, length-append}
 use Rattle.std.specs.Char.{digit_char}
-use Rattle.std.specs.Int.{w64, to_be_bytes}
+use Rattle.std.specs.Int.{w16, w32, w64, to_be_bytes, from_be_bytes}
 use Rattle.std.proofs.lemmas.Bool.{and_parts}
 use Rattle.std.proofs.lemmas.Bool.Decides.{nat_tests}
 use Rattle.std.proofs.lemmas.List.{length-take-le}
-use Rattle.std.proofs.lemmas.Nat.{from_be_bytes-to_be_bytes_8}
+use Rattle.std.proofs.lemmas.Nat.{from_be_bytes-to_be_bytes_2, from_be_bytes-to_be_bytes_4, from_be_bytes-to_be_bytes_8}
 use Rattle.hex.specs.Hex.{encode_lower, encode_with}
 use Rattle.json.specs.Print.{escape, quoted}
 use Rattle.acn_num.specs.Bits.{number, bits}
 use Rattle.acn_num.proofs.BitLists.{number_below, number_same, length-bits, bits-append}
-use Rattle.acn_bits.proofs.Loads.{eight}
+use Rattle.acn_bits.proofs.Loads.{eight, number-bits_cons}
 use Rattle.acn_bits.proofs.Readings.{reads_passed, reads_nothing, reads_join}
 use Rattle.acn_printed.proofs.Digits.{digits_append, pair-is}
 use Rattle.acn_bits.specs.Reading.{Reading, Reads, passed}
@@ -85,6 +85,49 @@ word_put v s t a b room e moved put =
     let small : v < 2 ^ 64 = subst (λ (k : ℕ). k < 2 ^ 64) (sym e) (subst (λ (k : ℕ). number (take 64 a.rest) < 2 ^ k) long (number_below (take 64 a.rest))) in
     let value = sym e ∙ (sym (from_be_bytes-to_be_bytes_8 v small) ∙ eight os refl (λ k h. small_item os k (word_octets v))) in
     (os, reads_passed (AreOctets 8 os) 64 a b room moved (record { size = refl; octets = word_octets v; same = number_same (take 64 a.rest) (bits os) (long ∙ sym (length-bits os)) value }), put)
+
+pub word_small : (n : ℕ) (bs : List Bool) → n ≤ length bs → number (take n bs) < 2 ^ n
+word_small n bs h = subst (λ (k : ℕ). number (take n bs) < 2 ^ k) (length-take-le n bs h) (number_below (take n bs))
+
+-- Two octets.
+
+pub two_octets : (v : ℕ) → are_octets (to_be_bytes w16 v) ≡ true
+two_octets v = rw (low_octet (v / 256), low_octet v) refl
+
+two_number : (a b : ℕ) → a < 256 → b < 256 → from_be_bytes w16 (a ∷ b ∷ []) ≡ number (bits (a ∷ b ∷ []))
+two_number a b ha hb = omega (arith, number-bits_cons a (b ∷ []) ha, number-bits_cons b [] hb)
+
+two : (os : List ℕ) → length os ≡ 2 → ((k : ℕ) → get_or os k 0 < 256) → from_be_bytes w16 os ≡ number (bits os)
+two (a ∷ b ∷ []) long each = two_number a b (each 0) (each 1)
+two _ long each = absurd (omega arith)
+
+pub two_put : (v : ℕ) (s t : List ℕ) (a b : Reading) → 16 ≤ length a.rest → v ≡ number (take 16 a.rest) → b ≡ passed 16 a → t ≡ s ++ escape (encode_lower (to_be_bytes w16 v)) → PutsOctets 2 s t a b
+two_put v s t a b room e moved put =
+    let os = to_be_bytes w16 v in
+    let long = length-take-le 16 a.rest room in
+    let small : v < 2 ^ 16 = subst (λ (k : ℕ). k < 2 ^ 16) (sym e) (word_small 16 a.rest room) in
+    let value = sym e ∙ (sym (from_be_bytes-to_be_bytes_2 v small) ∙ two os refl (λ k. small_item os k (two_octets v))) in
+    (os, reads_passed (AreOctets 2 os) 16 a b room moved (record { size = refl; octets = two_octets v; same = number_same (take 16 a.rest) (bits os) (long ∙ sym (length-bits os)) value }), put)
+
+-- Four octets.
+
+pub four_octets : (v : ℕ) → are_octets (to_be_bytes w32 v) ≡ true
+four_octets v = rw (low_octet (v / 16777216), low_octet (v / 65536), low_octet (v / 256), low_octet v) refl
+
+four_number : (a b c d : ℕ) → a < 256 → b < 256 → c < 256 → d < 256 → from_be_bytes w32 (a ∷ b ∷ c ∷ d ∷ []) ≡ number (bits (a ∷ b ∷ c ∷ d ∷ []))
+four_number a b c d ha hb hc hd = omega (arith, number-bits_cons a (b ∷ c ∷ d ∷ []) ha, number-bits_cons b (c ∷ d ∷ []) hb, number-bits_cons c (d ∷ []) hc, number-bits_cons d [] hd)
+
+four : (os : List ℕ) → length os ≡ 4 → ((k : ℕ) → get_or os k 0 < 256) → from_be_bytes w32 os ≡ number (bits os)
+four (a ∷ b ∷ c ∷ d ∷ []) long each = four_number a b c d (each 0) (each 1) (each 2) (each 3)
+four _ long each = absurd (omega arith)
+
+pub four_put : (v : ℕ) (s t : List ℕ) (a b : Reading) → 32 ≤ length a.rest → v ≡ number (take 32 a.rest) → b ≡ passed 32 a → t ≡ s ++ escape (encode_lower (to_be_bytes w32 v)) → PutsOctets 4 s t a b
+four_put v s t a b room e moved put =
+    let os = to_be_bytes w32 v in
+    let long = length-take-le 32 a.rest room in
+    let small : v < 2 ^ 32 = subst (λ (k : ℕ). k < 2 ^ 32) (sym e) (word_small 32 a.rest room) in
+    let value = sym e ∙ (sym (from_be_bytes-to_be_bytes_4 v small) ∙ four os refl (λ k. small_item os k (four_octets v))) in
+    (os, reads_passed (AreOctets 4 os) 32 a b room moved (record { size = refl; octets = four_octets v; same = number_same (take 32 a.rest) (bits os) (long ∙ sym (length-bits os)) value }), put)
 
 -- the string of so many octets, with its quotes
 pub string_put : (n m k : ℕ) (s t u v w : List ℕ) (a b c : Reading) → k ≡ n + m → t ≡ s ++ 34 ∷ [] → PutsOctets n t u a b → PutsOctets m u v b c → w ≡ v ++ 34 ∷ [] → (os : List ℕ) × Reads (AreOctets k os) a c × (w ≡ s ++ quoted (encode_lower os))

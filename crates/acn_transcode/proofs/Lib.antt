@@ -1,4 +1,5 @@
 mod BinaryTexts
+mod DigitPairs
 mod DigitTexts
 mod HexTexts
 mod LaidTexts
