@@ -2,15 +2,12 @@
 #![tactic(auto)]
 
 mod draw;
-mod judging;
 mod numbers;
 mod reading;
-mod trees;
 mod writing;
 
 use acn_num::NoMemory;
 use draw::{Draw, fill};
-use judging::time_trees;
 use std::io;
 use std::process::ExitCode;
 use std::time::{Duration, Instant};
@@ -82,8 +79,7 @@ fn time_all(rt: &HostRuntime) -> Result<(), Fault> {
     let mut octets = [0u8; 4096];
     fill(&mut Draw::new(), &mut octets);
     time_reads(rt, &octets)?;
-    time_writes(rt, &mut octets)?;
-    time_trees(rt)
+    time_writes(rt, &mut octets)
 }
 
 fn main(rt: HostRuntime) -> ExitCode {

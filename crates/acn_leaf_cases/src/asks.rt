@@ -107,10 +107,10 @@ fn asks_of_both(alloc: Global, set: &RangeSet, words: &[&str]) -> Result<String,
 /// What a slot is answered whose numbers are the set of the first word, where the words behind it ask.
 pub fn asks(alloc: Global, words: &[&str]) -> Result<String, NoMemory> {
     let Some(set) = set_of(alloc, word(words, 0))? else {
-        return Ok(format!(in alloc; "not understood")?);
+        return Ok("not understood".to_string(alloc)?);
     };
     match set.least() {
         Some(_) => asks_of_both(alloc, &set, words.get(1..).unwrap_or(&[])),
-        None => Ok(format!(in alloc; "no numbers")?),
+        None => Ok("no numbers".to_string(alloc)?),
     }
 }

@@ -57,13 +57,13 @@ fn look(octets: &[u8], skipped: u64, window: u64, bits: u32) -> Option<Seen> {
 fn number_in_words(alloc: Global, number: Option<u64>) -> Result<String, NoMemory> {
     match number {
         Some(number) => Ok(format!(in alloc; "{number}")?),
-        None => Ok(format!(in alloc; "Short")?),
+        None => Ok("Short".to_string(alloc)?),
     }
 }
 
 fn seen_in_words(alloc: Global, seen: Option<Seen>) -> Result<String, NoMemory> {
     let Some(seen) = seen else {
-        return Ok(format!(in alloc; "Short")?);
+        return Ok("Short".to_string(alloc)?);
     };
     let number = number_in_words(alloc, seen.number)?;
     Ok(format!(in alloc;
@@ -162,7 +162,7 @@ fn write_told(
         Some(written) => {
             written_in_words(alloc, written, buf.get(..octets.len()).unwrap_or(&[]))
         }
-        None => Ok(format!(in alloc; "too much")?),
+        None => Ok("too much".to_string(alloc)?),
     }
 }
 
@@ -183,6 +183,6 @@ pub fn about_octets(
         "fill" => write_told(alloc, octets, true, words),
         "each-width-read" => reads_bit_by_bit(alloc, octets),
         "each-width-written" => writes_bit_by_bit(alloc, octets, wide(words, 0)),
-        _ => Ok(format!(in alloc; "not understood")?),
+        _ => Ok("not understood".to_string(alloc)?),
     }
 }

@@ -37,7 +37,7 @@ fn reads_the_same(octets: &[u8], place: u32, bits: u32) -> bool
 fn first_difference(alloc: Global, found: Option<(u32, u32)>) -> Result<String, NoMemory> {
     match found {
         Some((place, bits)) => Ok(format!(in alloc; "{bits} bits at {place}")?),
-        None => Ok(format!(in alloc; "Ok")?),
+        None => Ok("Ok".to_string(alloc)?),
     }
 }
 
@@ -57,7 +57,7 @@ fn first_read(octets: &[u8]) -> Option<(u32, u32)>
 /// `Ok` where each width from 0 to 64 bits at each place of the first octet is read as bit by bit.
 pub fn reads_bit_by_bit(alloc: Global, octets: &[u8]) -> Result<String, NoMemory> {
     if octets.len() > 1000 {
-        return Ok(format!(in alloc; "too many octets")?);
+        return Ok("too many octets".to_string(alloc)?);
     }
     first_difference(alloc, first_read(octets))
 }

@@ -87,7 +87,7 @@ pub fn heard_alone(alloc: Global, set: &RangeSet, words: &[&str]) -> Result<Stri
 /// What fields are answered whose numbers are the set of the first word.
 pub fn heard(alloc: Global, words: &[&str]) -> Result<String, NoMemory> {
     let Some(set) = set_of(alloc, word(words, 0))? else {
-        return Ok(format!(in alloc; "not understood")?);
+        return Ok("not understood".to_string(alloc)?);
     };
     let mut asking = Asking::new(alloc, &set);
     for word in words.get(1..).unwrap_or(&[]) {

@@ -27,7 +27,7 @@ fn read_in_words(alloc: Global, leaf: &NumLeaf, words: &[&str]) -> Result<String
 {
     let octets = octets_of(alloc, words)?;
     if octets.len() > 1000 {
-        return Ok(format!(in alloc; "too many octets")?);
+        return Ok("too many octets".to_string(alloc)?);
     }
     match read(leaf, octets.as_slice()) {
         Ok(x) => Ok(format!(in alloc; "{x}")?),
@@ -41,7 +41,7 @@ fn list_in_words(alloc: Global, leaf: &NumLeaf, x: i128) -> Result<String, NoMem
     if leaf.set.holds(x) {
         return bits_in_words(alloc, &list_num(alloc, leaf, x)?);
     }
-    Ok(format!(in alloc; "not permitted")?)
+    Ok("not permitted".to_string(alloc)?)
 }
 
 fn width_in_words(alloc: Global, leaf: &NumLeaf) -> Result<String, NoMemory>
@@ -49,12 +49,12 @@ fn width_in_words(alloc: Global, leaf: &NumLeaf) -> Result<String, NoMemory>
 {
     match width(leaf) {
         Some(bits) => Ok(format!(in alloc; "{bits}")?),
-        None => Ok(format!(in alloc; "none")?),
+        None => Ok("none".to_string(alloc)?),
     }
 }
 
 fn not_permitted(alloc: Global) -> Result<String, NoMemory> {
-    Ok(format!(in alloc; "not permitted")?)
+    Ok("not permitted".to_string(alloc)?)
 }
 
 // A hole in front of the second number, which the first fills, in octets of ones; how many bits these are. None comes where
@@ -98,7 +98,7 @@ fn fill_in_words(
     let mut buf = [0xffu8; 64];
     match filled(&mut buf, leaf, first, second) {
         Some(bits) => octets_told(alloc, &buf, bits),
-        None => Ok(format!(in alloc; "no width")?),
+        None => Ok("no width".to_string(alloc)?),
     }
 }
 
@@ -110,14 +110,14 @@ pub fn about_number(
     words: &[&str],
 ) -> Result<String, NoMemory> {
     if !num_fine(leaf) {
-        return Ok(format!(in alloc; "no fine leaf")?);
+        return Ok("no fine leaf".to_string(alloc)?);
     }
     match question {
-        "fine" => Ok(format!(in alloc; "Ok")?),
+        "fine" => Ok("Ok".to_string(alloc)?),
         "read" => read_in_words(alloc, leaf, words),
         "list" => list_in_words(alloc, leaf, number(words, 0)),
         "width" => width_in_words(alloc, leaf),
         "fill" => fill_in_words(alloc, leaf, number(words, 0), number(words, 1)),
-        _ => Ok(format!(in alloc; "not understood")?),
+        _ => Ok("not understood".to_string(alloc)?),
     }
 }

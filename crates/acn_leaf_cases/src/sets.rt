@@ -71,7 +71,7 @@ fn joined(
         "union" => set_in_words(alloc, &set.union(alloc, other)?),
         "meet" => set_in_words(alloc, &set.meet(alloc, other)?),
         "except" => set_in_words(alloc, &set.except(alloc, other)?),
-        _ => Ok(format!(in alloc; "not understood")?),
+        _ => Ok("not understood".to_string(alloc)?),
     }
 }
 
@@ -84,21 +84,21 @@ fn about_both(
 ) -> Result<String, NoMemory> {
     match set_in(alloc, word(words, 0))? {
         Some(other) => joined(alloc, set, question, &other),
-        None => Ok(format!(in alloc; "not understood")?),
+        None => Ok("not understood".to_string(alloc)?),
     }
 }
 
 fn number_in_words(alloc: Global, found: Option<i128>) -> Result<String, NoMemory> {
     match found {
         Some(number) => Ok(format!(in alloc; "{number}")?),
-        None => Ok(format!(in alloc; "none")?),
+        None => Ok("none".to_string(alloc)?),
     }
 }
 
 fn ends_in_words(alloc: Global, set: &RangeSet) -> Result<String, NoMemory> {
     match (set.least(), set.greatest()) {
         (Some(least), Some(greatest)) => Ok(format!(in alloc; "{least}..{greatest}")?),
-        _ => Ok(format!(in alloc; "none")?),
+        _ => Ok("none".to_string(alloc)?),
     }
 }
 
@@ -138,6 +138,6 @@ pub fn about_set(alloc: Global, question: &str, words: &[&str]) -> Result<String
     match set_in(alloc, word(words, 0))? {
         Some(set) if question == "with-evens" => with_evens(alloc, &set, rest),
         Some(set) => about(alloc, &set, question, rest),
-        None => Ok(format!(in alloc; "not understood")?),
+        None => Ok("not understood".to_string(alloc)?),
     }
 }

@@ -71,7 +71,7 @@ fn read_in_words(
 {
     let octets = octets_of(alloc, words)?;
     if octets.len() > 1000 {
-        return Ok(format!(in alloc; "too many octets")?);
+        return Ok("too many octets".to_string(alloc)?);
     }
     match read(leaf, size, octets.as_slice()) {
         Ok(said) => said_in_words(alloc, said),
@@ -92,9 +92,9 @@ fn sized_in_words(
         (SizeRule::Slot(_), Some(n)) => read_in_words(alloc, leaf, Some(n), words),
         (SizeRule::Prefix { .. }, None) => read_in_words(alloc, leaf, None, words),
         (SizeRule::Ended(_), None) => read_in_words(alloc, leaf, None, words),
-        (SizeRule::Slot(_), None) => Ok(format!(in alloc; "no size")?),
-        (SizeRule::Prefix { .. }, Some(_)) => Ok(format!(in alloc; "a size")?),
-        (SizeRule::Ended(_), Some(_)) => Ok(format!(in alloc; "a size")?),
+        (SizeRule::Slot(_), None) => Ok("no size".to_string(alloc)?),
+        (SizeRule::Prefix { .. }, Some(_)) => Ok("a size".to_string(alloc)?),
+        (SizeRule::Ended(_), Some(_)) => Ok("a size".to_string(alloc)?),
     }
 }
 
@@ -146,7 +146,7 @@ fn put_in_words(alloc: Global, leaf: &TextLeaf, text: &[u8]) -> Result<String, N
             let octets = octets_in_words(alloc, buf.get(..count as usize).unwrap_or(&[]))?;
             Ok(format!(in alloc; "{bits} bits {octets}")?)
         }
-        None => Ok(format!(in alloc; "too long")?),
+        None => Ok("too long".to_string(alloc)?),
     }
 }
 
@@ -182,12 +182,12 @@ fn text_in_words(
                 if text_fine(leaf) {
                     code_in_words(alloc, leaf, text.items(), is_put)
                 } else {
-                    Ok(format!(in alloc; "no fine leaf")?)
+                    Ok("no fine leaf".to_string(alloc)?)
                 }
             }
-            _ => Ok(format!(in alloc; "no text")?),
+            _ => Ok("no text".to_string(alloc)?),
         },
-        _ => Ok(format!(in alloc; "no text")?),
+        _ => Ok("no text".to_string(alloc)?),
     }
 }
 
@@ -202,7 +202,7 @@ fn value_in_words(
 {
     match meets(root, value) {
         Ok(()) => text_in_words(alloc, root, value, is_put),
-        Err(_) => Ok(format!(in alloc; "not permitted")?),
+        Err(_) => Ok("not permitted".to_string(alloc)?),
     }
 }
 
@@ -244,7 +244,7 @@ fn sized_coded(
     if is_permitted(leaf, octets.as_slice()) {
         return code_in_words(alloc, leaf, octets.as_slice(), is_put);
     }
-    Ok(format!(in alloc; "not permitted")?)
+    Ok("not permitted".to_string(alloc)?)
 }
 
 /// The answer to a question about a text whose size a slot says.
@@ -255,7 +255,7 @@ pub fn about_sized_text(
     words: &[&str],
 ) -> Result<String, NoMemory> {
     if !text_fine(leaf) {
-        return Ok(format!(in alloc; "no fine leaf")?);
+        return Ok("no fine leaf".to_string(alloc)?);
     }
     match question {
         "read" => sized_in_words(alloc, leaf, None, words),
@@ -265,7 +265,7 @@ pub fn about_sized_text(
             let rest = words.get(1..).unwrap_or(&[]);
             sized_in_words(alloc, leaf, Some(wide(words, 0)), rest)
         }
-        _ => Ok(format!(in alloc; "not understood")?),
+        _ => Ok("not understood".to_string(alloc)?),
     }
 }
 
@@ -277,15 +277,15 @@ pub fn about_text(
     words: &[&str],
 ) -> Result<String, NoMemory> {
     let Body::Text(leaf) = &tree.root().body else {
-        return Ok(format!(in alloc; "no text")?);
+        return Ok("no text".to_string(alloc)?);
     };
     if !text_fine(leaf) {
-        return Ok(format!(in alloc; "no fine leaf")?);
+        return Ok("no fine leaf".to_string(alloc)?);
     }
     match question {
         "read" => sized_in_words(alloc, leaf, None, words),
         "list" => coded(alloc, tree, words, false),
         "put" => coded(alloc, tree, words, true),
-        _ => Ok(format!(in alloc; "not understood")?),
+        _ => Ok("not understood".to_string(alloc)?),
     }
 }

@@ -19,6 +19,3 @@ pub use memory::{MemSink, MemSource, SureSink, SureSource};
 pub use standard::{StdError, StdFiles, StdInput, StdOutput};
 pub use traits::{Failed, Files, Sink, Source};
 pub use whole::{WholeFault, read_whole, write_all};
-
-#[cfg(test)]
-mod tests;

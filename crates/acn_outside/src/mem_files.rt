@@ -183,37 +183,3 @@ impl Files for SureFiles {
         }
     }
 }
-
-#[cfg(test)]
-mod tests {
-    use super::*;
-    use std::test::Fail;
-
-    // Whether a read of the file at its front fails.
-    fn fails_at_front(files: &mut MemFiles, name: &str) -> bool {
-        files.read_at(name, 0, &mut [0u8; 4]) == Err(Failed)
-    }
-
-    // Whether there is one file, which has two faults, and three are counted for the others.
-    fn are_counted(files: &MemFiles) -> bool {
-        match files.entries.as_slice() {
-            [only] => only.faults == 2 && files.others == 3,
-            _ => false,
-        }
-    }
-
-    #[test]
-    fn a_new_name_begins_with_the_count_of_the_others(rt: HostRuntime) -> Result<(), Fail> {
-        let name = Name::copy(rt.alloc(), b"m.asn")
-            .ok()
-            .ok_or("memory ran out")?;
-        let mut files = MemFiles::new(rt.alloc(), vec![in rt.alloc(); 2]?);
-        assert!(rt; fails_at_front(&mut files, "m.asn"));
-        let added = files.add(name, Vec::new(rt.alloc()));
-        let others = fails_at_front(&mut files, "m.acn")
-            && fails_at_front(&mut files, "m.asn")
-            && fails_at_front(&mut files, "m.map");
-        assert!(rt; added == Ok(()) && others && are_counted(&files));
-        Ok(())
-    }
-}

@@ -4,7 +4,7 @@ ghost use Rattle.acn_outside.specs.Counts.{AllStay, Rose, Stays};
 ghost use Rattle.acn_outside.specs.Moves.{Takes, Gains, IsUsedUp, AreAt, EndsBy};
 
 /// A file, an input or an output failed, and its count of faults rose.
-#[derive(Clone, Copy, PartialEq, Eq)]
+#[derive(Clone, Copy)]
 pub struct Failed;
 
 /// Files by name. Names are compared byte by byte.

@@ -62,7 +62,7 @@ fn source(alloc: Global, setting: &Setting, bytes: &[u8]) -> Result<MemSource, N
 fn told(alloc: Global, out: &MemSink, group: Option<usize>) -> Result<String, NoMemory> {
     match out.bytes() {
         Some(bytes) => taken_in_words(alloc, bytes, group),
-        None => Ok(format!(in alloc; " too much")?),
+        None => Ok(" too much".to_string(alloc)?),
     }
 }
 
@@ -95,21 +95,41 @@ fn said(
     Ok(format!(in alloc; "{status};{written};{errors}; {}", shown.as_str())?)
 }
 
-// The answer to one run.
-fn once(alloc: Global, case: &Case<'_>, setting: &Setting) -> Result<String, Trouble> {
-    let mut files = files_of(alloc, case, setting)?;
-    let clock = Steps::new(setting.seconds.unwrap_or(0));
-    let screen = Screen::new(alloc);
-    let progress = Progress::new(alloc, &clock, &screen, case.way);
-    let input = Watched::new(source(alloc, setting, case.input.as_slice())?, &progress);
+// An input and both outputs.
+#[derive(Drop)]
+struct Devices {
+    input: MemSource,
+    out: MemSink,
+    err: MemSink,
+}
+
+fn devices_of(alloc: Global, case: &Case<'_>, setting: &Setting) -> Result<Devices, NoMemory> {
+    Ok(Devices {
+        input: source(alloc, setting, case.input.as_slice())?,
+        out: sink(alloc, setting, setting.output)?,
+        err: sink(alloc, setting, setting.errors)?,
+    })
+}
+
+// What a run answers, and both outputs behind it.
+fn ran(
+    alloc: Global,
+    case: &Case<'_>,
+    files: &mut MemFiles,
+    devices: Devices,
+    clock: &Steps,
+    screen: &Screen,
+) -> (u8, MemSink, MemSink) {
+    let progress = Progress::new(alloc, clock, screen, case.way);
+    let input = Watched::new(devices.input, &progress);
     let mut input = Recalled::new(alloc, input, case.hints);
-    let mut out = Watched::new(sink(alloc, setting, setting.output)?, &progress);
-    let err = Cleared::new(sink(alloc, setting, setting.errors)?, &progress);
+    let mut out = Watched::new(devices.out, &progress);
+    let err = Cleared::new(devices.err, &progress);
     let mut err = Heard::new(alloc, err);
     let status = run_watched(
         alloc,
         &case.words,
-        &mut files,
+        &mut *files,
         &mut input,
         &mut out,
         &mut err,
@@ -124,13 +144,23 @@ fn once(alloc: Global, case: &Case<'_>, setting: &Setting) -> Result<String, Tro
             status,
             &line,
             input.kept(),
-            &mut files,
+            files,
             &mut err,
         );
     }
+    (status, out.into_device(), err.into_device())
+}
+
+// The answer to one run.
+fn once(alloc: Global, case: &Case<'_>, setting: &Setting) -> Result<String, Trouble> {
+    let mut files = files_of(alloc, case, setting)?;
+    let devices = devices_of(alloc, case, setting)?;
+    let clock = Steps::new(setting.seconds.unwrap_or(0));
+    let screen = Screen::new(alloc);
+    let (status, out, err) = ran(alloc, case, &mut files, devices, &clock, &screen);
     let group = group_of(case.words.as_slice(), setting);
-    let written = told(alloc, &out.into_device(), group)?;
-    let errors = told(alloc, &err.into_device(), None)?;
+    let written = told(alloc, &out, group)?;
+    let errors = told(alloc, &err, None)?;
     said(alloc, status, written.as_str(), errors.as_str(), &screen)
 }
 
@@ -156,7 +186,7 @@ fn question_told(alloc: Global, words: &[String]) -> Result<String, NoMemory> {
             let written = taken_in_words(alloc, question.text().as_bytes(), None)?;
             Ok(format!(in alloc; "0;{written};")?)
         }
-        None => Ok(format!(in alloc; "none")?),
+        None => Ok("none".to_string(alloc)?),
     }
 }
 

@@ -1,7 +1,6 @@
 //! The files of a group.
 
 use crate::answer::answer;
-use acn_case_lines::Answers;
 use acn_case_sheets::{CaseFiles, Trouble, bytes_of, trouble_in_words};
 use acn_num::{Name, NoMemory};
 use acn_outside::MemFiles;
@@ -35,13 +34,6 @@ impl Sheet {
             files: CaseFiles::new(alloc),
             blanks: Vec::new(alloc),
         }
-    }
-
-    fn begin(&mut self, alloc: Global) -> Result<bool, NoMemory> {
-        self.names = Vec::new(alloc);
-        self.files = CaseFiles::new(alloc);
-        self.blanks = Vec::new(alloc);
-        Ok(true)
     }
 
     // Adds a file; what it holds, its name says.
@@ -79,20 +71,19 @@ impl Sheet {
         }
         Ok(files)
     }
-}
 
-impl Answers for Sheet {
-    fn answer(&mut self, alloc: Global, case: &str) -> Result<String, NoMemory> {
+    /// The answer to a case.
+    pub fn told(&self, alloc: Global, case: &str) -> Result<String, NoMemory> {
         match answer(alloc, self, case) {
             Ok(answer) => Ok(answer),
             Err(trouble) => trouble_in_words(alloc, trouble),
         }
     }
 
-    fn take(&mut self, alloc: Global, line: &str) -> Result<bool, NoMemory> {
+    /// Takes a line that is no case. False comes where it isn't understood.
+    pub fn take(&mut self, alloc: Global, line: &str) -> Result<bool, NoMemory> {
         let (word, text) = line.split_once(" ").unwrap_or((line, ""));
         match word {
-            "sources" => self.begin(alloc),
             "file" => self.add(alloc, text),
             "spaces" => self.add_blank(alloc, text),
             "" => self.files.take(alloc, line),

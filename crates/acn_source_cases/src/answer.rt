@@ -9,6 +9,7 @@ use crate::measure::{
     chain_of_t, characters_of_t, count_of_t, numbers_of_t, sizes_of_t, text_of_t,
 };
 use crate::names::told;
+use crate::outside::outside_told;
 use crate::reading::{kept_told, print_told, tokens_told};
 use crate::sheet::{Question, Sheet};
 use crate::siting::sites_of_t;
@@ -60,12 +61,13 @@ fn found(alloc: Global, sheet: &Sheet, parts: &[&str], words: &[&str]) -> Result
         Question::Kept => kept_told(alloc, &sheet.files, parts),
         Question::Read => {
             let _all = sources(alloc, &sheet.files, parts, true)?;
-            Ok(format!(in alloc; "Ok")?)
+            Ok("Ok".to_string(alloc)?)
         }
         Question::Files => files_told(alloc, &sheet.files, parts),
         Question::Kind => Ok(kind_told(alloc, parts.first().copied().unwrap_or(""))?),
         Question::Ring => Ok(ring_told(alloc, words)?),
         Question::LongRing => Ok(long_ring_told(alloc, words)?),
+        Question::Outside => Ok(outside_told(alloc, words)?),
         Question::Names => told(alloc, sources(alloc, &sheet.files, parts, false)?),
         _ => of_world(alloc, sheet, parts, words),
     }

@@ -65,7 +65,7 @@ fn reading_in_words(alloc: Global, files: &[File<'_>]) -> Result<String, Trouble
         return Err(Trouble::TooMuch);
     }
     match read_sources(alloc, files) {
-        Ok(_) => Ok(format!(in alloc; "Ok")?),
+        Ok(_) => Ok("Ok".to_string(alloc)?),
         Err(refused) => {
             let fault = fault_in_words(alloc, refused.fault)?;
             Ok(format!(in alloc; "{} {fault}", refused.file)?)

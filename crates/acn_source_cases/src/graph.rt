@@ -78,7 +78,7 @@ fn way_in_words(alloc: Global, way: &[usize]) -> Result<String, NoMemory> {
 fn ring_in_words(alloc: Global, rows: &[Row<usize>]) -> Result<String, NoMemory> {
     match first_ring(alloc, rows)? {
         Some(ring) => way_in_words(alloc, ring.way.items()),
-        None => Ok(format!(in alloc; "none")?),
+        None => Ok("none".to_string(alloc)?),
     }
 }
 

@@ -28,7 +28,7 @@ pub fn roots_told(alloc: Global, world: &World) -> Result<String, Trouble> {
     let mut words = Vec::new(alloc);
     push_types(world, world.roots(alloc)?.as_slice(), &mut words)?;
     if words.is_empty() {
-        return Ok(format!(in alloc; "no roots")?);
+        return Ok("no roots".to_string(alloc)?);
     }
     let all = String::from_utf8_lossy(alloc, words.as_slice())?;
     Ok(all.as_str().trim().to_string(alloc)?)

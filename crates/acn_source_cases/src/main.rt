@@ -10,6 +10,7 @@ mod graph;
 mod looking;
 mod measure;
 mod names;
+mod outside;
 mod reading;
 mod sheet;
 mod siting;

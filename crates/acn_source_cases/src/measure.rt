@@ -51,11 +51,11 @@ fn open_in_words(alloc: Global, set: &OpenSet) -> Result<String, Trouble> {
 pub fn fault_in_words(alloc: Global, fault: ConstraintFault) -> Result<String, Trouble> {
     match fault {
         ConstraintFault::NoMemory => Err(Trouble::NoMemory),
-        ConstraintFault::Empty => Ok(format!(in alloc; "Empty")?),
-        ConstraintFault::Unbounded => Ok(format!(in alloc; "Unbounded")?),
+        ConstraintFault::Empty => Ok("Empty".to_string(alloc)?),
+        ConstraintFault::Unbounded => Ok("Unbounded".to_string(alloc)?),
         ConstraintFault::TooWide { number } => Ok(format!(in alloc; "TooWide {number}")?),
         ConstraintFault::SizeLimit { size } => Ok(format!(in alloc; "SizeLimit {size}")?),
-        ConstraintFault::NotHere => Ok(format!(in alloc; "NotHere")?),
+        ConstraintFault::NotHere => Ok("NotHere".to_string(alloc)?),
     }
 }
 
@@ -75,7 +75,7 @@ fn count_in_words(alloc: Global, set: &RangeSet) -> Result<String, Trouble> {
         (Some(least), Some(greatest)) => {
             Ok(format!(in alloc; "{} in {ranges} ranges, {least}..{greatest}", set.count())?)
         }
-        _ => Ok(format!(in alloc; "nothing")?),
+        _ => Ok("nothing".to_string(alloc)?),
     }
 }
 
@@ -92,7 +92,7 @@ pub fn count_of_t(alloc: Global, world: &World) -> Result<String, Trouble> {
 pub fn sizes_of_t(alloc: Global, world: &World) -> Result<String, Trouble> {
     let chain = chain_of_t(alloc, world)?;
     match size_of(alloc, world, &chain) {
-        Ok(None) => Ok(format!(in alloc; "none")?),
+        Ok(None) => Ok("none".to_string(alloc)?),
         Ok(Some(sizes)) => ranges_in_words(alloc, &sizes),
         Err(fault) => fault_in_words(alloc, fault),
     }

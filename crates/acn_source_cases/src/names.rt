@@ -57,7 +57,7 @@ fn push_words(fault: &NameFault, words: &mut Vec<u8>) -> Result<(), Trouble> {
 /// The fault of the names of these files in words, or `Ok`: its kind, the module, the name, and those of a cycle.
 pub fn told(alloc: Global, all: Sources) -> Result<String, Trouble> {
     match resolve(alloc, all) {
-        Ok(_) => Ok(format!(in alloc; "Ok")?),
+        Ok(_) => Ok("Ok".to_string(alloc)?),
         Err(fault) => {
             let mut words = Vec::new(alloc);
             push_words(&fault, &mut words)?;

@@ -32,7 +32,7 @@ fn push_token(alloc: Global, token: &Token<'_>, words: &mut String) -> Result<()
 fn tokens_in_words(alloc: Global, tokens: &Tokens<'_>) -> Result<String, NoMemory> {
     let items = tokens.list.items();
     if items.is_empty() {
-        return Ok(format!(in alloc; "no tokens")?);
+        return Ok("no tokens".to_string(alloc)?);
     }
     if items.len() > 20 {
         return Ok(format!(in alloc; "{} tokens", items.len())?);
@@ -125,7 +125,7 @@ pub fn kept_told(alloc: Global, files: &CaseFiles, parts: &[&str]) -> Result<Str
     let read = tokens_of(alloc, bytes.as_slice())?;
     let again = tokens_of(alloc, text.as_slice())?;
     match first_other(read.list.items(), again.list.items()) {
-        None => Ok(format!(in alloc; "Ok")?),
+        None => Ok("Ok".to_string(alloc)?),
         Some(at) => Ok(format!(in alloc; "lost {at}")?),
     }
 }

@@ -53,6 +53,8 @@ pub enum Question {
     Ring,
     /// The same in a long chain.
     LongRing,
+    /// What files, inputs and outputs do.
+    Outside,
 }
 
 /// The question and the files of a group.
@@ -94,6 +96,7 @@ fn more_questions_of(word: &str) -> Option<Question> {
         "text" => Some(Question::Text),
         "ring" => Some(Question::Ring),
         "long-ring" => Some(Question::LongRing),
+        "outside" => Some(Question::Outside),
         _ => None,
     }
 }

@@ -55,7 +55,7 @@ fn push_mark(alloc: Global, position: Position<'_>, words: &mut String) -> Resul
 
 fn path_fault_in_words(alloc: Global, fault: &PathFault) -> Result<String, Trouble> {
     match fault {
-        PathFault::Unknown => Ok(format!(in alloc; "UnknownPath")?),
+        PathFault::Unknown => Ok("UnknownPath".to_string(alloc)?),
         PathFault::MayBeAbsent { through, names } => {
             let names = String::from_utf8_lossy(alloc, names.bytes())?;
             Ok(format!(in alloc; "DeterminantMayBeAbsent {through} {names}")?)
@@ -66,7 +66,7 @@ fn path_fault_in_words(alloc: Global, fault: &PathFault) -> Result<String, Troub
 // The reason of an attribute, or none.
 fn attribute_reason(alloc: Global, site: &Site<'_>) -> Result<Option<String>, Trouble> {
     if is_too_deep(site) {
-        return Ok(Some(format!(in alloc; "TooDeep")?));
+        return Ok(Some("TooDeep".to_string(alloc)?));
     }
     if let Some(kind) = repeated_attribute(alloc, site)? {
         return Ok(Some(format!(in alloc; "RepeatedAttribute {}", kind.number())?));
@@ -101,10 +101,10 @@ fn other_reason<'w>(
         return Ok(Some(fault_in_words(alloc, fault)?));
     }
     if has_no_such_field(alloc, site)? {
-        return Ok(Some(format!(in alloc; "NoSuchField")?));
+        return Ok(Some("NoSuchField".to_string(alloc)?));
     }
     if has_wrong_arguments(alloc, world, plain, site)? {
-        return Ok(Some(format!(in alloc; "Arguments")?));
+        return Ok(Some("Arguments".to_string(alloc)?));
     }
     path_reason(alloc, world, plain, site)
 }

@@ -1,12 +1,12 @@
 //! Answers to cases.
 
+use crate::built::tree_of;
 use crate::json::json_told;
 use crate::reports::report_told;
 use crate::streams::stream_told;
 use acn_case_lines::{Answers, word};
-use acn_case_trees::{Built, Sheet};
-use acn_num::{Boxed, NoMemory};
-use acn_tree::Tree;
+use acn_case_trees::Sheet;
+use acn_num::NoMemory;
 use std::alloc::Global;
 
 // What cases ask.
@@ -44,19 +44,6 @@ fn asked_of(line: &str) -> Option<Asked> {
         "ask json" => Some(Asked::Json),
         "ask reports" => Some(Asked::Reports),
         _ => None,
-    }
-}
-
-// The tree of the lines, or why there is none.
-fn tree_of(
-    alloc: Global,
-    sheet: &Sheet,
-    parts: &[&str],
-) -> Result<Result<Boxed<Tree>, &'static str>, NoMemory> {
-    match sheet.built(alloc, parts)? {
-        Built::Tree(tree) => Ok(Ok(tree)),
-        Built::NoTree => Ok(Err("no tree")),
-        Built::Unknown => Ok(Err("not understood")),
     }
 }
 

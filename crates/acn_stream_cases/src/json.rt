@@ -1,5 +1,8 @@
 //! Lines of JSON and their values.
 
+ghost use Rattle.std.specs.Prelude.{◌≤◌, length};
+ghost use Rattle.acn_json.specs.declared.read.TheConstants.{MOST_JSON_BYTES};
+
 use crate::bytes::{bytes_of, nested_of};
 use acn_case_trees::{path_in_words, value_in_words, value_of};
 use acn_json::{JsonFault, MOST_JSON_BYTES, from_line, to_line};
@@ -18,9 +21,10 @@ fn unknown_member(alloc: Global, path: &Path, member: u32) -> Result<String, NoM
     Ok(format!(in alloc; "{path} UnknownMember {member}")?)
 }
 
-fn fault_in_words(alloc: Global, fault: &JsonFault) -> Result<String, NoMemory> {
+/// The fault of a line.
+pub fn line_fault(alloc: Global, fault: &JsonFault) -> Result<String, NoMemory> {
     match fault {
-        JsonFault::NotJson => Ok(format!(in alloc; "NotJson")?),
+        JsonFault::NotJson => Ok("NotJson".to_string(alloc)?),
         JsonFault::Shape { path } => at_path(alloc, path, "Shape"),
         JsonFault::UnknownMember { path, member } => unknown_member(alloc, path, *member),
         JsonFault::MissingMember { path } => at_path(alloc, path, "MissingMember"),
@@ -41,59 +45,53 @@ fn line_in_words(alloc: Global, tree: &Tree, value: &Value) -> Result<String, No
     let line = to_line(alloc, tree, value)?;
     let same = put(alloc, tree, value)?;
     if line.as_slice() != same.as_slice() {
-        return Ok(format!(in alloc; "two lines")?);
+        return Ok("two lines".to_string(alloc)?);
     }
     Ok(String::from_utf8_lossy(alloc, line.as_slice())?)
 }
 
 // The value of a line, or its fault.
-fn value_told(alloc: Global, said: &Result<Value, JsonFault>) -> Result<String, NoMemory> {
+fn value_told(alloc: Global, said: Result<Value, JsonFault>) -> Result<String, NoMemory> {
     match said {
-        Ok(value) => Ok(
-            value_in_words(alloc, value)?
-                .as_str()
-                .trim()
-                .to_string(alloc)?,
-        ),
-        Err(fault) => fault_in_words(alloc, fault),
+        Ok(value) => {
+            let words = value_in_words(alloc, &value)?;
+            Ok(words.as_str().trim().to_string(alloc)?)
+        }
+        Err(fault) => line_fault(alloc, &fault),
     }
 }
 
-// The same, if both calls that read a line say so.
-fn both_told(
-    alloc: Global,
-    said: &Result<Value, JsonFault>,
-    same: &Result<Value, JsonFault>,
-) -> Result<String, NoMemory> {
-    let said = value_told(alloc, said)?;
-    let same = value_told(alloc, same)?;
+// What a line gives, as `Lines` takes it.
+fn taken(alloc: Global, tree: &Tree, line: &[u8]) -> Result<String, NoMemory>
+    requires few { length line.now ≤ MOST_JSON_BYTES }
+{
+    let lines = Lines::new(alloc, tree)?;
+    let mut room = Room::new(alloc);
+    value_told(alloc, lines.take(alloc, tree, &mut room, line))
+}
+
+// What a line gives, if both calls that read it say the same.
+fn read(alloc: Global, tree: &Tree, line: &[u8]) -> Result<String, NoMemory> {
+    if line.len() > MOST_JSON_BYTES {
+        return Ok("too many bytes".to_string(alloc)?);
+    }
+    let said = value_told(alloc, from_line(alloc, tree, line))?;
+    let same = taken(alloc, tree, line)?;
     if said.as_str() == same.as_str() {
         Ok(said)
     } else {
-        Ok(format!(in alloc; "two values")?)
+        Ok("two values".to_string(alloc)?)
     }
-}
-
-// What a line gives.
-fn read(alloc: Global, tree: &Tree, line: &[u8]) -> Result<String, NoMemory> {
-    if line.len() > MOST_JSON_BYTES {
-        return Ok(format!(in alloc; "too many bytes")?);
-    }
-    let lines = Lines::new(alloc, tree)?;
-    let mut room = Room::new(alloc);
-    let said = from_line(alloc, tree, line);
-    let same = lines.take(alloc, tree, &mut room, line);
-    both_told(alloc, &said, &same)
 }
 
 // The line of the value that a line gives.
 fn again(alloc: Global, tree: &Tree, line: &[u8]) -> Result<String, NoMemory> {
     if line.len() > MOST_JSON_BYTES {
-        return Ok(format!(in alloc; "too many bytes")?);
+        return Ok("too many bytes".to_string(alloc)?);
     }
     match from_line(alloc, tree, line) {
         Ok(value) => line_in_words(alloc, tree, &value),
-        Err(fault) => fault_in_words(alloc, &fault),
+        Err(fault) => line_fault(alloc, &fault),
     }
 }
 
@@ -128,7 +126,7 @@ fn line_told(alloc: Global, tree: &Tree, text: &str) -> Result<String, NoMemory>
     let words: Vec<&str> = text.split_whitespace().collect(alloc)?;
     match value_of(alloc, words.as_slice())? {
         Some(value) => line_in_words(alloc, tree, value.get()),
-        None => Ok(format!(in alloc; "no value")?),
+        None => Ok("no value".to_string(alloc)?),
     }
 }
 
@@ -142,6 +140,6 @@ pub fn json_told(alloc: Global, tree: &Tree, case: &str) -> Result<String, NoMem
         "cut" => cut(alloc, tree, bytes_of(alloc, text)?.as_slice()),
         "nested" => read(alloc, tree, nested_of(alloc, text)?.as_slice()),
         "line" => line_told(alloc, tree, text),
-        _ => Ok(format!(in alloc; "not understood")?),
+        _ => Ok("not understood".to_string(alloc)?),
     }
 }

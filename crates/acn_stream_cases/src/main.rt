@@ -26,6 +26,7 @@
 #![tactic(auto)]
 
 mod answer;
+mod built;
 mod bytes;
 mod check_words;
 mod json;

@@ -1,8 +1,8 @@
 //! How a stream ended, in words.
 
+use crate::json::line_fault;
 use acn_case_trees::{path_in_words, unfit_in_words};
 use acn_grammar::{Fault, Reason};
-use acn_json::JsonFault;
 use acn_num::NoMemory;
 use acn_stream::StreamFault;
 use std::alloc::Global;
@@ -18,25 +18,6 @@ pub fn packet_fault(alloc: Global, fault: &Fault) -> Result<String, NoMemory> {
     Ok(format!(in alloc; "{path} {reason} at {}", fault.at)?)
 }
 
-fn line_fault(alloc: Global, fault: &JsonFault) -> Result<String, NoMemory> {
-    match fault {
-        JsonFault::NotJson => Ok(format!(in alloc; "NotJson")?),
-        JsonFault::Shape { path } => {
-            let path = path_in_words(alloc, path)?;
-            Ok(format!(in alloc; "{path} Shape")?)
-        }
-        JsonFault::UnknownMember { path, member } => {
-            let path = path_in_words(alloc, path)?;
-            Ok(format!(in alloc; "{path} UnknownMember {member}")?)
-        }
-        JsonFault::MissingMember { path } => {
-            let path = path_in_words(alloc, path)?;
-            Ok(format!(in alloc; "{path} MissingMember")?)
-        }
-        JsonFault::NoMemory => Err(NoMemory),
-    }
-}
-
 fn numbered(alloc: Global, what: &str, number: u64, why: &str) -> Result<String, NoMemory> {
     Ok(format!(in alloc; "{what} {number} {why}")?)
 }
@@ -44,8 +25,8 @@ fn numbered(alloc: Global, what: &str, number: u64, why: &str) -> Result<String,
 fn fault_in_words(alloc: Global, fault: &StreamFault) -> Result<String, NoMemory> {
     match fault {
         StreamFault::LineTooLong { line } => Ok(format!(in alloc; "LineTooLong {line}")?),
-        StreamFault::InputTooLong => Ok(format!(in alloc; "InputTooLong")?),
-        StreamFault::EmptyPacket => Ok(format!(in alloc; "EmptyPacket")?),
+        StreamFault::InputTooLong => Ok("InputTooLong".to_string(alloc)?),
+        StreamFault::EmptyPacket => Ok("EmptyPacket".to_string(alloc)?),
         StreamFault::Packet { number, fault } => {
             let why = packet_fault(alloc, fault)?;
             numbered(alloc, "packet", *number, why.as_str())
@@ -58,8 +39,8 @@ fn fault_in_words(alloc: Global, fault: &StreamFault) -> Result<String, NoMemory
             let why = unfit_in_words(alloc, fault)?;
             numbered(alloc, "line", *number, why.as_str())
         }
-        StreamFault::InputFault => Ok(format!(in alloc; "InputFault")?),
-        StreamFault::OutputFault => Ok(format!(in alloc; "OutputFault")?),
+        StreamFault::InputFault => Ok("InputFault".to_string(alloc)?),
+        StreamFault::OutputFault => Ok("OutputFault".to_string(alloc)?),
         StreamFault::NoMemory => Err(NoMemory),
     }
 }

@@ -32,7 +32,7 @@ pub fn pieces_in_words(alloc: Global, checked: &Checked, bytes: &[u8]) -> Result
         return Err(NoMemory);
     }
     if bytes.len() > MOST_BYTES {
-        return Ok(format!(in alloc; "too many octets")?);
+        return Ok("too many octets".to_string(alloc)?);
     }
     match explain(alloc, checked, bytes) {
         Ok(pieces) => in_words(alloc, &pieces),

@@ -17,7 +17,7 @@ use acn_tree::{CheckFault, Fault, Tree, Unfit, Value};
 use std::alloc::Global;
 
 fn not_understood(alloc: Global) -> Result<String, NoMemory> {
-    Ok(format!(in alloc; "not understood")?)
+    Ok("not understood".to_string(alloc)?)
 }
 
 fn fault_shown(alloc: Global, tree: &Tree, fault: &CheckFault) -> Result<String, NoMemory> {
@@ -42,7 +42,7 @@ fn of_checked(alloc: Global, checked: &Checked, question: &str) -> Result<String
     match question {
         "layout" => layout_shown(alloc, checked),
         "bounds" => bounds_shown(alloc, checked),
-        _ => Ok(format!(in alloc; "Ok")?),
+        _ => Ok("Ok".to_string(alloc)?),
     }
 }
 
@@ -119,7 +119,7 @@ fn json_shown(
 // A line that gives a value has no fault.
 fn given(alloc: Global, value: &Value) -> Result<String, NoMemory> {
     let _value = value;
-    Ok(format!(in alloc; "a value")?)
+    Ok("a value".to_string(alloc)?)
 }
 
 // The first fault of a line of JSON, behind its number.

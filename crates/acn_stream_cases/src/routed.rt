@@ -1,7 +1,8 @@
 //! Routes that have the tree of a case.
 
-use acn_case_trees::{Built, Sheet};
-use acn_check::{Checked, check};
+use crate::built::accepted;
+use acn_case_trees::Sheet;
+use acn_check::Checked;
 use acn_num::NoMemory;
 use acn_plan::compile;
 use acn_route::{AddFault, RouteCount, RouteFault, Routes};
@@ -33,13 +34,9 @@ fn add(
     routes: &mut Routes,
     apid: u32,
 ) -> Result<Option<String>, NoMemory> {
-    match sheet.built(alloc, parts)? {
-        Built::Tree(tree) => match check(alloc, tree.into_inner()) {
-            Ok(checked) => add_checked(alloc, routes, apid, checked),
-            Err(_) => Ok(Some(format!(in alloc; "not accepted")?)),
-        },
-        Built::NoTree => Ok(Some(format!(in alloc; "no tree")?)),
-        Built::Unknown => Ok(Some(format!(in alloc; "not understood")?)),
+    match accepted(alloc, sheet, parts)? {
+        Ok(checked) => add_checked(alloc, routes, apid, checked.into_inner()),
+        Err(why) => Ok(Some(why.to_string(alloc)?)),
     }
 }
 
@@ -111,9 +108,9 @@ pub fn routed_in_words(
         Err(RouteFault::Cut { number, left }) => {
             Ok(format!(in alloc; "packet {number} Cut {left}")?)
         }
-        Err(RouteFault::InputTooLong) => Ok(format!(in alloc; "InputTooLong")?),
-        Err(RouteFault::InputFault) => Ok(format!(in alloc; "InputFault")?),
-        Err(RouteFault::OutputFault) => Ok(format!(in alloc; "OutputFault")?),
+        Err(RouteFault::InputTooLong) => Ok("InputTooLong".to_string(alloc)?),
+        Err(RouteFault::InputFault) => Ok("InputFault".to_string(alloc)?),
+        Err(RouteFault::OutputFault) => Ok("OutputFault".to_string(alloc)?),
         Err(RouteFault::NoMemory) => Err(NoMemory),
     }
 }

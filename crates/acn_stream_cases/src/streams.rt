@@ -1,19 +1,20 @@
 //! What is written for recordings, lines and space packets.
 
+use crate::built::accepted;
 use crate::outcome::outcome_in_words;
 use crate::pieces::pieces_in_words;
 use crate::routed::{Apids, add_each, routed_in_words};
 use crate::setting::{Question, Setting, setting_of};
 use acn_case_lines::{octets_in_words, octets_of, small, word};
-use acn_case_trees::{Built, Sheet};
-use acn_check::{Checked, check};
+use acn_case_trees::Sheet;
+use acn_check::Checked;
 use acn_explain::explain_all;
-use acn_num::{Boxed, NoMemory};
+use acn_num::NoMemory;
 use acn_outside::{MemSink, MemSource};
 use acn_plan::compile;
 use acn_route::{Routes, route_all};
 use acn_stream::{StreamFault, decode_all, encode_all};
-use acn_tree::{Tree, items_named};
+use acn_tree::items_named;
 use std::alloc::Global;
 
 // The most bytes that a case writes.
@@ -49,13 +50,12 @@ fn sink(alloc: Global, setting: &Setting) -> Result<MemSink, NoMemory> {
 // What the bytes are converted by.
 #[derive(Clone, Copy)]
 enum By<'a> {
-    Decoding(&'a Checked),
-    Encoding(&'a Checked),
-    Explaining(&'a Checked),
-    Routing(&'a Routes),
+    Tree(&'a Checked),
+    Routes(&'a Routes),
 }
 
-fn decode(
+// What comes of packets or of lines of a tree.
+fn converted(
     alloc: Global,
     checked: &Checked,
     setting: &Setting,
@@ -65,66 +65,30 @@ fn decode(
     if !items_named(checked.tree()) {
         return Err(StreamFault::NoMemory);
     }
-    match compile(alloc, checked) {
-        Ok(plan) => decode_all(alloc, checked, &plan, input, out, setting.limit),
-        Err(_) => Err(StreamFault::NoMemory),
-    }
-}
-
-fn encode(
-    alloc: Global,
-    checked: &Checked,
-    setting: &Setting,
-    input: &mut MemSource,
-    out: &mut MemSink,
-) -> Result<u64, StreamFault> {
-    if !items_named(checked.tree()) {
+    let Ok(plan) = compile(alloc, checked) else {
         return Err(StreamFault::NoMemory);
-    }
-    match compile(alloc, checked) {
-        Ok(plan) => encode_all(alloc, checked, &plan, input, out, setting.limit),
-        Err(_) => Err(StreamFault::NoMemory),
-    }
-}
-
-fn explain(
-    alloc: Global,
-    checked: &Checked,
-    setting: &Setting,
-    input: &mut MemSource,
-    out: &mut MemSink,
-) -> Result<u64, StreamFault> {
-    if !items_named(checked.tree()) {
-        return Err(StreamFault::NoMemory);
-    }
-    match compile(alloc, checked) {
-        Ok(plan) => explain_all(alloc, checked, &plan, input, out, setting.limit),
-        Err(_) => Err(StreamFault::NoMemory),
+    };
+    match setting.question {
+        Question::Encode => encode_all(alloc, checked, &plan, input, out, setting.limit),
+        Question::Explain => explain_all(alloc, checked, &plan, input, out, setting.limit),
+        _ => decode_all(alloc, checked, &plan, input, out, setting.limit),
     }
 }
 
 // How it ended.
-fn run<'a>(
+fn run(
     alloc: Global,
-    by: By<'a>,
+    by: By<'_>,
     setting: &Setting,
     input: &mut MemSource,
     out: &mut MemSink,
 ) -> Result<String, NoMemory> {
     match by {
-        By::Decoding(checked) => {
-            let outcome = decode(alloc, checked, setting, input, out);
+        By::Tree(checked) => {
+            let outcome = converted(alloc, checked, setting, input, out);
             outcome_in_words(alloc, &outcome)
         }
-        By::Encoding(checked) => {
-            let outcome = encode(alloc, checked, setting, input, out);
-            outcome_in_words(alloc, &outcome)
-        }
-        By::Explaining(checked) => {
-            let outcome = explain(alloc, checked, setting, input, out);
-            outcome_in_words(alloc, &outcome)
-        }
-        By::Routing(routes) => {
+        By::Routes(routes) => {
             let outcome = route_all(alloc, routes, input, out, setting.limit);
             routed_in_words(alloc, &outcome)
         }
@@ -158,7 +122,7 @@ fn octets_told(alloc: Global, bytes: &[u8]) -> Result<String, NoMemory> {
 
 fn written(alloc: Global, question: Question, out: &MemSink) -> Result<String, NoMemory> {
     let Some(bytes) = out.bytes() else {
-        return Ok(format!(in alloc; " too much")?);
+        return Ok(" too much".to_string(alloc)?);
     };
     match question {
         Question::Encode => octets_told(alloc, bytes),
@@ -167,9 +131,9 @@ fn written(alloc: Global, question: Question, out: &MemSink) -> Result<String, N
 }
 
 // The answer where a read gives at most so many bytes.
-fn in_pieces<'a>(
+fn in_pieces(
     alloc: Global,
-    by: By<'a>,
+    by: By<'_>,
     setting: &Setting,
     piece: usize,
     bytes: &[u8],
@@ -182,9 +146,9 @@ fn in_pieces<'a>(
 }
 
 // The answer, which has to be the same for pieces of every size.
-fn in_any_pieces<'a>(
+fn in_any_pieces(
     alloc: Global,
-    by: By<'a>,
+    by: By<'_>,
     setting: &Setting,
     bytes: &[u8],
 ) -> Result<String, NoMemory> {
@@ -198,41 +162,10 @@ fn in_any_pieces<'a>(
     Ok(whole)
 }
 
-fn told<'a>(
-    alloc: Global,
-    by: By<'a>,
-    setting: &Setting,
-    bytes: &[u8],
-) -> Result<String, NoMemory> {
+fn told(alloc: Global, by: By<'_>, setting: &Setting, bytes: &[u8]) -> Result<String, NoMemory> {
     match setting.piece {
         Some(piece) => in_pieces(alloc, by, setting, piece, bytes),
         None => in_any_pieces(alloc, by, setting, bytes),
-    }
-}
-
-fn of_checked(
-    alloc: Global,
-    checked: &Checked,
-    setting: &Setting,
-    bytes: &[u8],
-) -> Result<String, NoMemory> {
-    match setting.question {
-        Question::Encode => told(alloc, By::Encoding(checked), setting, bytes),
-        Question::Explain => told(alloc, By::Explaining(checked), setting, bytes),
-        Question::Pieces => pieces_in_words(alloc, checked, bytes),
-        _ => told(alloc, By::Decoding(checked), setting, bytes),
-    }
-}
-
-fn of_tree(
-    alloc: Global,
-    tree: Boxed<Tree>,
-    setting: &Setting,
-    bytes: &[u8],
-) -> Result<String, NoMemory> {
-    match check(alloc, tree.into_inner()) {
-        Ok(checked) => of_checked(alloc, &checked, setting, bytes),
-        Err(_) => Ok(format!(in alloc; "not accepted")?),
     }
 }
 
@@ -243,10 +176,12 @@ fn of_sheet(
     setting: &Setting,
     bytes: &[u8],
 ) -> Result<String, NoMemory> {
-    match sheet.built(alloc, parts)? {
-        Built::Tree(tree) => of_tree(alloc, tree, setting, bytes),
-        Built::NoTree => Ok(format!(in alloc; "no tree")?),
-        Built::Unknown => Ok(format!(in alloc; "not understood")?),
+    match accepted(alloc, sheet, parts)? {
+        Ok(checked) => match setting.question {
+            Question::Pieces => pieces_in_words(alloc, checked.get(), bytes),
+            _ => told(alloc, By::Tree(checked.get()), setting, bytes),
+        },
+        Err(why) => Ok(why.to_string(alloc)?),
     }
 }
 
@@ -269,7 +204,7 @@ fn of_routes(
 ) -> Result<String, NoMemory> {
     let mut routes = Routes::new(alloc);
     match add_each(alloc, sheet, parts, &mut routes, apids)? {
-        None => told(alloc, By::Routing(&routes), setting, bytes),
+        None => told(alloc, By::Routes(&routes), setting, bytes),
         Some(why) => Ok(why),
     }
 }
@@ -293,6 +228,6 @@ pub fn stream_told(
             }
             _ => of_sheet(alloc, sheet, parts, &setting, bytes.as_slice()),
         },
-        None => Ok(format!(in alloc; "not understood")?),
+        None => Ok("not understood".to_string(alloc)?),
     }
 }

@@ -1,12 +1,15 @@
 //! Answers to cases.
 
+use crate::accepted::accepted;
 use crate::compared::compared;
-use crate::extreme::extremes_of_lines;
+use crate::extreme::{extremes_in_words, extremes_of_lines};
 use crate::packets::packets_told;
+use crate::plan::plan_in_words;
 use crate::trees::{draws_told, tree_told};
 use crate::worked::work_told;
 use acn_case_lines::{Answers, word};
 use acn_case_trees::{Built, Sheet};
+use acn_check::Checked;
 use acn_num::{Boxed, NoMemory};
 use acn_tree::Tree;
 use std::alloc::Global;
@@ -49,16 +52,45 @@ fn asked_of(line: &str) -> Option<Asked> {
     }
 }
 
+// What is asked of a tree that is accepted.
+fn checked_told(
+    alloc: Global,
+    asked: Asked,
+    checked: &Checked,
+    words: &[&str],
+) -> Result<String, NoMemory> {
+    match asked {
+        Asked::Packets => packets_told(alloc, checked, words),
+        Asked::Work => work_told(alloc, checked, words),
+        Asked::Trees => match word(words, 0) {
+            "plan" => plan_in_words(alloc, checked),
+            "extremes" => extremes_in_words(alloc, checked, true),
+            _ => extremes_in_words(alloc, checked, false),
+        },
+    }
+}
+
+// Whether the words ask of a tree that need not be accepted.
+fn is_of_any_tree(asked: Asked, words: &[&str]) -> bool {
+    match asked {
+        Asked::Trees => !matches!(word(words, 0), "plan" | "extremes" | "extreme-bits"),
+        Asked::Packets => false,
+        Asked::Work => false,
+    }
+}
+
 fn told(
     alloc: Global,
     asked: Asked,
     tree: Boxed<Tree>,
     words: &[&str],
 ) -> Result<String, NoMemory> {
-    match asked {
-        Asked::Trees => tree_told(alloc, tree, words),
-        Asked::Packets => packets_told(alloc, tree, words),
-        Asked::Work => work_told(alloc, tree, words),
+    if is_of_any_tree(asked, words) {
+        return tree_told(alloc, tree, words);
+    }
+    match accepted(alloc, tree)? {
+        Some(checked) => checked_told(alloc, asked, checked.get(), words),
+        None => Ok("not accepted".to_string(alloc)?),
     }
 }
 
@@ -71,8 +103,8 @@ fn of_sheet(
 ) -> Result<String, NoMemory> {
     match sheet.built(alloc, parts)? {
         Built::Tree(tree) => told(alloc, asked, tree, words),
-        Built::NoTree => Ok(format!(in alloc; "no tree")?),
-        Built::Unknown => Ok(format!(in alloc; "not understood")?),
+        Built::NoTree => Ok("no tree".to_string(alloc)?),
+        Built::Unknown => Ok("not understood".to_string(alloc)?),
     }
 }
 

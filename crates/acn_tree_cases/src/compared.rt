@@ -1,7 +1,8 @@
 //! Two trees of the same lines, with other parts in their places.
 
+use crate::accepted::accepted;
 use acn_case_trees::{Built, Sheet, path_in_words};
-use acn_check::{Checked, check};
+use acn_check::Checked;
 use acn_compare::{Answer, Reason, compare};
 use acn_num::{Boxed, NoMemory, Path};
 use std::alloc::Global;
@@ -15,9 +16,9 @@ enum Made {
 
 fn checked_tree(alloc: Global, sheet: &Sheet, parts: &[&str]) -> Result<Made, NoMemory> {
     match sheet.built(alloc, parts)? {
-        Built::Tree(tree) => match check(alloc, tree.into_inner()) {
-            Ok(checked) => Ok(Made::Accepted(Boxed::new(alloc, checked)?)),
-            Err(_) => Ok(Made::Refused("not accepted")),
+        Built::Tree(tree) => match accepted(alloc, tree)? {
+            Some(checked) => Ok(Made::Accepted(checked)),
+            None => Ok(Made::Refused("not accepted")),
         },
         Built::NoTree => Ok(Made::Refused("no tree")),
         Built::Unknown => Ok(Made::Refused("not understood")),
@@ -53,7 +54,7 @@ fn no_in_words(
 
 fn answer_in_words(alloc: Global, old: &Checked, new: &Checked) -> Result<String, NoMemory> {
     match compare(alloc, old, new)? {
-        Answer::Yes => Ok(format!(in alloc; "yes")?),
+        Answer::Yes => Ok("yes".to_string(alloc)?),
         Answer::No { at, reason, number } => no_in_words(alloc, &at, reason, number),
     }
 }
@@ -83,6 +84,6 @@ fn two(alloc: Global, sheet: &Sheet, old: &str, new: &str) -> Result<String, NoM
 pub fn compared(alloc: Global, sheet: &Sheet, case: &str) -> Result<String, NoMemory> {
     match case.split_once(" / ") {
         Some((old, new)) => two(alloc, sheet, old, new),
-        None => Ok(format!(in alloc; "not understood")?),
+        None => Ok("not understood".to_string(alloc)?),
     }
 }

@@ -164,11 +164,11 @@ fn told(alloc: Global, counts: &Counts) -> Result<String, NoMemory> {
     if counts.lost > 0 {
         Ok(format!(in alloc; "{} lost", counts.lost)?)
     } else if counts.refused == 0 {
-        Ok(format!(in alloc; "all read again")?)
+        Ok("all read again".to_string(alloc)?)
     } else if counts.read_again == 0 {
-        Ok(format!(in alloc; "all refused")?)
+        Ok("all refused".to_string(alloc)?)
     } else {
-        Ok(format!(in alloc; "some read again, the others refused")?)
+        Ok("some read again, the others refused".to_string(alloc)?)
     }
 }
 
@@ -180,7 +180,7 @@ pub fn drawn_told(
     count: u32,
 ) -> Result<String, NoMemory> {
     if !items_named(checked.tree()) {
-        return Ok(format!(in alloc; "not named")?);
+        return Ok("not named".to_string(alloc)?);
     }
     let plan = compile(alloc, checked)?;
     let mut draw = Draw::new(start);

@@ -1,7 +1,8 @@
 //! A shortest and a longest packet of a tree, in words.
 
+use crate::accepted::accepted;
 use acn_case_trees::{Built, Sheet, path_in_words, value_in_words};
-use acn_check::{Checked, check};
+use acn_check::Checked;
 use acn_extremes::{Ends, ExtremesFault, Why, extremes};
 use acn_num::{Boxed, NoMemory, Path};
 use acn_tree::Tree;
@@ -52,23 +53,23 @@ fn fault_told(alloc: Global, fault: &ExtremesFault) -> Result<String, NoMemory> 
     }
 }
 
-fn of_checked(alloc: Global, checked: &Checked, with_values: bool) -> Result<String, NoMemory> {
+/// What `extremes` answers of a tree that is accepted, with the values or with their counts of bits alone.
+pub fn extremes_in_words(
+    alloc: Global,
+    checked: &Checked,
+    with_values: bool,
+) -> Result<String, NoMemory> {
     match extremes(alloc, checked) {
         Ok(Some(ends)) => ends_told(alloc, &ends, with_values),
-        Ok(None) => Ok(format!(in alloc; "none")?),
+        Ok(None) => Ok("none".to_string(alloc)?),
         Err(fault) => fault_told(alloc, &fault),
     }
 }
 
-/// What `extremes` answers of a tree that is accepted, with the values or with their counts of bits alone.
-pub fn extremes_in_words(
-    alloc: Global,
-    tree: Boxed<Tree>,
-    with_values: bool,
-) -> Result<String, NoMemory> {
-    match check(alloc, tree.into_inner()) {
-        Ok(checked) => of_checked(alloc, &checked, with_values),
-        Err(_) => Ok(format!(in alloc; "not accepted")?),
+fn of_tree(alloc: Global, tree: Boxed<Tree>) -> Result<String, NoMemory> {
+    match accepted(alloc, tree)? {
+        Some(checked) => extremes_in_words(alloc, checked.get(), true),
+        None => Ok("not accepted".to_string(alloc)?),
     }
 }
 
@@ -79,8 +80,8 @@ pub fn extremes_of_lines(alloc: Global, lines: &str) -> Result<String, NoMemory>
         sheet.take(alloc, line)?;
     }
     match sheet.built(alloc, &[])? {
-        Built::Tree(tree) => extremes_in_words(alloc, tree, true),
-        Built::NoTree => Ok(format!(in alloc; "no tree")?),
-        Built::Unknown => Ok(format!(in alloc; "not understood")?),
+        Built::Tree(tree) => of_tree(alloc, tree),
+        Built::NoTree => Ok("no tree".to_string(alloc)?),
+        Built::Unknown => Ok("not understood".to_string(alloc)?),
     }
 }

@@ -21,6 +21,7 @@
 //! answer is the line of the summary, with `$` for its line feed.
 #![tactic(auto)]
 
+mod accepted;
 mod answer;
 mod compared;
 mod drawn;

@@ -77,7 +77,7 @@ fn in_greatest(alloc: Global, plan: &Plan, value: &Value) -> Result<String, NoMe
     requires shaped { Shaped (root_of plan.now.steps) (data_of value.now) }
 {
     if plan.greatest() > 8 * PACKET_OCTETS as u64 {
-        return Ok(format!(in alloc; "too long")?);
+        return Ok("too long".to_string(alloc)?);
     }
     let mut buffer = [MARK; PACKET_OCTETS];
     packed_into(alloc, plan, value, &mut buffer)

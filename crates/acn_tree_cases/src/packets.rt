@@ -10,30 +10,38 @@ use crate::drawn::drawn_told;
 use crate::packed::packed;
 use acn_case_lines::{bits_in_words, octets_of, small, wide, word};
 use acn_case_trees::{path_in_words, unfit_in_words, value_in_words, value_of};
-use acn_check::{Checked, check};
-use acn_num::{Boxed, NoMemory};
+use acn_check::Checked;
+use acn_num::NoMemory;
 use acn_plain::{PlainFault, plain_decode, plain_encode};
 use acn_plan::{Plan, compile};
 use acn_reads::MOST_BYTES;
-use acn_tree::{Fault, Reason, Refuse, Tree, Value, items_named, shaped};
+use acn_tree::{Fault, Reason, Refuse, Value, items_named, shaped};
 use acn_unpack::{skim, unpack};
 use std::alloc::Global;
 
+// Of the reasons that keep nothing.
+fn plain_word(reason: &Reason) -> &'static str {
+    match reason {
+        Reason::Short => "Short",
+        Reason::NotMinimal => "NotMinimal",
+        Reason::BadDigit => "BadDigit",
+        Reason::BadCharacter => "BadCharacter",
+        Reason::BadPattern => "BadPattern",
+        Reason::TooLong => "TooLong",
+        Reason::NoAlternative => "NoAlternative",
+        Reason::PastContent => "PastContent",
+        _ => "another reason",
+    }
+}
+
 fn reason_in_words(alloc: Global, reason: &Reason) -> Result<String, NoMemory> {
     match reason {
-        Reason::Short => Ok(format!(in alloc; "Short")?),
         Reason::OutOfRange { wire } => Ok(format!(in alloc; "OutOfRange {wire}")?),
-        Reason::NotMinimal => Ok(format!(in alloc; "NotMinimal")?),
-        Reason::BadDigit => Ok(format!(in alloc; "BadDigit")?),
-        Reason::BadCharacter => Ok(format!(in alloc; "BadCharacter")?),
-        Reason::BadPattern => Ok(format!(in alloc; "BadPattern")?),
-        Reason::TooLong => Ok(format!(in alloc; "TooLong")?),
         Reason::SizeOutOfRange { n } => Ok(format!(in alloc; "SizeOutOfRange {n}")?),
-        Reason::NoAlternative => Ok(format!(in alloc; "NoAlternative")?),
         Reason::ContentSize { octets, used } => {
             Ok(format!(in alloc; "ContentSize {octets} {used}")?)
         }
-        Reason::PastContent => Ok(format!(in alloc; "PastContent")?),
+        plain => Ok(plain_word(plain).to_string(alloc)?),
     }
 }
 
@@ -94,10 +102,10 @@ fn is_said_of(alone: &str, whole: &str) -> bool {
 // What stands at the front of the octets: said once where the three readers agree.
 fn read(alloc: Global, checked: &Checked, octets: &[u8]) -> Result<String, NoMemory> {
     if !items_named(checked.tree()) {
-        return Ok(format!(in alloc; "not named")?);
+        return Ok("not named".to_string(alloc)?);
     }
     if octets.len() > MOST_BYTES {
-        return Ok(format!(in alloc; "too many octets")?);
+        return Ok("too many octets".to_string(alloc)?);
     }
     let plan = compile(alloc, checked)?;
     let tree = by_tree(alloc, checked, octets)?;
@@ -123,10 +131,10 @@ fn written_by_tree(alloc: Global, checked: &Checked, value: &Value) -> Result<St
 // What is written for a value: said once where both writers agree.
 fn written(alloc: Global, checked: &Checked, value: &Value) -> Result<String, NoMemory> {
     if !shaped(checked.tree().root(), value) {
-        return Ok(format!(in alloc; "not shaped")?);
+        return Ok("not shaped".to_string(alloc)?);
     }
     if !items_named(checked.tree()) {
-        return Ok(format!(in alloc; "not named")?);
+        return Ok("not named".to_string(alloc)?);
     }
     let plan = compile(alloc, checked)?;
     let tree = written_by_tree(alloc, checked, value)?;
@@ -140,11 +148,12 @@ fn written(alloc: Global, checked: &Checked, value: &Value) -> Result<String, No
 fn write(alloc: Global, checked: &Checked, words: &[&str]) -> Result<String, NoMemory> {
     match value_of(alloc, words)? {
         Some(value) => written(alloc, checked, value.get()),
-        None => Ok(format!(in alloc; "no value")?),
+        None => Ok("no value".to_string(alloc)?),
     }
 }
 
-fn of_checked(alloc: Global, checked: &Checked, words: &[&str]) -> Result<String, NoMemory> {
+/// What is read or written by a tree that is accepted.
+pub fn packets_told(alloc: Global, checked: &Checked, words: &[&str]) -> Result<String, NoMemory> {
     if word(words, 0) == "write" {
         return write(alloc, checked, words.get(1..).unwrap_or(&[]));
     }
@@ -153,12 +162,4 @@ fn of_checked(alloc: Global, checked: &Checked, words: &[&str]) -> Result<String
     }
     let octets = octets_of(alloc, words)?;
     read(alloc, checked, octets.as_slice())
-}
-
-/// What is read or written by a tree that is accepted.
-pub fn packets_told(alloc: Global, tree: Boxed<Tree>, words: &[&str]) -> Result<String, NoMemory> {
-    match check(alloc, tree.into_inner()) {
-        Ok(checked) => of_checked(alloc, &checked, words),
-        Err(_) => Ok(format!(in alloc; "not accepted")?),
-    }
 }

@@ -10,7 +10,7 @@ use acn_case_trees::{
 use acn_check::Checked;
 use acn_num::{Name, NoMemory};
 use acn_plan::{Act, Place, Step, compile};
-use acn_tree::Test;
+use acn_tree::{Test, items_named};
 use std::alloc::Global;
 
 fn push_alternative(
@@ -68,9 +68,7 @@ fn push_act(alloc: Global, act: &Act, words: &mut String) -> Result<(), NoMemory
     }
 }
 
-/// The plan of a tree in words: its bounds, then its steps with ` | ` between them, each with its number, its place, its act, and the
-/// number of the step behind it and all that is inside it.
-pub fn plan_in_words(alloc: Global, checked: &Checked) -> Result<String, NoMemory>
+fn steps_in_words(alloc: Global, checked: &Checked) -> Result<String, NoMemory>
     requires { ItemsNamed (grammar_of checked.now.tree.root) }
 {
     let plan = compile(alloc, checked)?;
@@ -83,4 +81,13 @@ pub fn plan_in_words(alloc: Global, checked: &Checked) -> Result<String, NoMemor
         write!(words, " next {}", step.next)?;
     }
     Ok(words)
+}
+
+/// The plan of a tree in words: its bounds, then its steps with ` | ` between them, each with its number, its place, its act, and the
+/// number of the step behind it and all that is inside it.
+pub fn plan_in_words(alloc: Global, checked: &Checked) -> Result<String, NoMemory> {
+    if !items_named(checked.tree()) {
+        return Ok("not named".to_string(alloc)?);
+    }
+    steps_in_words(alloc, checked)
 }

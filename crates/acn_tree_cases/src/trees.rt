@@ -3,15 +3,13 @@
 ghost use Rattle.acn_grammar.specs.View.{grammar_of};
 ghost use Rattle.acn_grammar.specs.ItemsNamed.{ItemsNamed};
 
-use crate::extreme::extremes_in_words;
 use crate::fault::fault_in_words;
-use crate::plan::plan_in_words;
 use acn_case_lines::{wide, word};
 use acn_case_trees::{unfit_in_words, value_in_words, value_of};
 use acn_check::check;
 use acn_num::{Boxed, NoMemory, Path};
 use acn_tree::{
-    Body, Bounds, Draw, Node, NumLeaf, Tree, interval, items_named, make, meets, node_at,
+    Body, Bounds, Draw, Node, NumLeaf, Tree, Value, interval, items_named, make, meets, node_at,
     node_interval, shaped, value_count,
 };
 use std::alloc::Global;
@@ -23,7 +21,7 @@ fn bounds_in_words(alloc: Global, bounds: Bounds) -> Result<String, NoMemory> {
 // What `check` answers of a tree, and again of the tree that it hands back.
 fn checked(alloc: Global, tree: Boxed<Tree>, again: bool) -> Result<String, NoMemory> {
     match check(alloc, tree.into_inner()) {
-        Ok(_) => Ok(format!(in alloc; "Ok")?),
+        Ok(_) => Ok("Ok".to_string(alloc)?),
         Err((tree, fault)) => {
             let words = fault_in_words(alloc, &fault)?;
             if again {
@@ -41,19 +39,6 @@ fn twice(alloc: Global, tree: Tree, first: &str) -> Result<String, NoMemory> {
             let words = fault_in_words(alloc, &fault)?;
             Ok(format!(in alloc; "{first}, {words}")?)
         }
-    }
-}
-
-// The plan of a tree that can be decoded.
-fn planned(alloc: Global, tree: Boxed<Tree>) -> Result<String, NoMemory> {
-    match check(alloc, tree.into_inner()) {
-        Ok(checked) => {
-            if !items_named(checked.tree()) {
-                return Ok(format!(in alloc; "not named")?);
-            }
-            plan_in_words(alloc, &checked)
-        }
-        Err(_) => Ok(format!(in alloc; "refused")?),
     }
 }
 
@@ -79,53 +64,51 @@ fn leaf_in_words(alloc: Global, leaf: &NumLeaf) -> Result<String, NoMemory> {
     Ok(words)
 }
 
+fn kind_word(body: &Body) -> &'static str {
+    match body {
+        Body::Num(_) => "number",
+        Body::Octets(_) => "octets",
+        Body::Bits(_) => "bits",
+        Body::Text(_) => "text",
+        Body::Seq(_) => "sequence",
+        Body::List(_, _) => "list",
+        Body::Choice(_) => "choice",
+        Body::Contained(_, _) => "contained",
+    }
+}
+
 fn node_in_words(alloc: Global, node: &Node) -> Result<String, NoMemory> {
     match &node.body {
         Body::Num(leaf) => leaf_in_words(alloc, leaf),
-        Body::Octets(_) => Ok(format!(in alloc; "octets")?),
-        Body::Bits(_) => Ok(format!(in alloc; "bits")?),
-        Body::Text(_) => Ok(format!(in alloc; "text")?),
-        Body::Seq(_) => Ok(format!(in alloc; "sequence")?),
-        Body::List(_, _) => Ok(format!(in alloc; "list")?),
-        Body::Choice(_) => Ok(format!(in alloc; "choice")?),
-        Body::Contained(_, _) => Ok(format!(in alloc; "contained")?),
+        other => Ok(kind_word(other).to_string(alloc)?),
     }
 }
 
-fn node_told(alloc: Global, tree: &Tree, text: &str) -> Result<String, NoMemory> {
-    match path_of(text) {
-        Some(path) => match node_at(tree, &path) {
-            Some(node) => node_in_words(alloc, node),
-            None => Ok(format!(in alloc; "none")?),
-        },
-        None => Ok(format!(in alloc; "too long")?),
+// The kind of the node at a path, or its bounds.
+fn node_told(alloc: Global, tree: &Tree, text: &str, bounds: bool) -> Result<String, NoMemory> {
+    let Some(path) = path_of(text) else {
+        return Ok("too long".to_string(alloc)?);
+    };
+    match node_at(tree, &path) {
+        Some(node) if bounds => bounds_in_words(alloc, node_interval(node)),
+        Some(node) => node_in_words(alloc, node),
+        None => Ok("none".to_string(alloc)?),
     }
 }
 
-fn bounds_told(alloc: Global, tree: &Tree, text: &str) -> Result<String, NoMemory> {
-    match path_of(text) {
-        Some(path) => match node_at(tree, &path) {
-            Some(node) => bounds_in_words(alloc, node_interval(node)),
-            None => Ok(format!(in alloc; "none")?),
-        },
-        None => Ok(format!(in alloc; "too long")?),
+fn meeting_in_words(alloc: Global, tree: &Tree, value: &Value) -> Result<String, NoMemory> {
+    match meets(tree.root(), value) {
+        Ok(()) => Ok("Ok".to_string(alloc)?),
+        Err(unfit) => unfit_in_words(alloc, &unfit),
     }
 }
 
-fn meets_told(alloc: Global, tree: &Tree, words: &[&str]) -> Result<String, NoMemory> {
+// Whether a value meets the tree's constraints, or has its shape alone.
+fn value_told(alloc: Global, tree: &Tree, words: &[&str], shape: bool) -> Result<String, NoMemory> {
     match value_of(alloc, words)? {
-        Some(value) => match meets(tree.root(), value.get()) {
-            Ok(()) => Ok(format!(in alloc; "Ok")?),
-            Err(unfit) => unfit_in_words(alloc, &unfit),
-        },
-        None => Ok(format!(in alloc; "no value")?),
-    }
-}
-
-fn shaped_told(alloc: Global, tree: &Tree, words: &[&str]) -> Result<String, NoMemory> {
-    match value_of(alloc, words)? {
-        Some(value) => Ok(format!(in alloc; "{}", shaped(tree.root(), value.get()))?),
-        None => Ok(format!(in alloc; "no value")?),
+        Some(value) if shape => Ok(format!(in alloc; "{}", shaped(tree.root(), value.get()))?),
+        Some(value) => meeting_in_words(alloc, tree, value.get()),
+        None => Ok("no value".to_string(alloc)?),
     }
 }
 
@@ -140,7 +123,7 @@ fn next_made(alloc: Global, tree: &Tree, draw: &mut Draw) -> Result<String, NoMe
 // The first two values that are made from a start.
 fn made_told(alloc: Global, tree: &Tree, start: u64) -> Result<String, NoMemory> {
     if !items_named(tree) {
-        return Ok(format!(in alloc; "not named")?);
+        return Ok("not named".to_string(alloc)?);
     }
     let mut draw = Draw::new(start);
     let first = next_made(alloc, tree, &mut draw)?;
@@ -165,27 +148,24 @@ pub fn draws_told(alloc: Global, words: &[&str]) -> Result<String, NoMemory> {
 fn looked_at(alloc: Global, tree: &Tree, words: &[&str]) -> Result<String, NoMemory> {
     let rest = words.get(1..).unwrap_or(&[]);
     match word(words, 0) {
-        "form" => Ok(format!(in alloc; "Ok")?),
+        "form" => Ok("Ok".to_string(alloc)?),
         "values" => Ok(format!(in alloc; "{}", value_count(tree))?),
         "bits" => bounds_in_words(alloc, interval(tree)),
-        "bits-at" => bounds_told(alloc, tree, word(rest, 0)),
+        "bits-at" => node_told(alloc, tree, word(rest, 0), true),
         "named" => Ok(format!(in alloc; "{}", items_named(tree))?),
-        "at" => node_told(alloc, tree, word(rest, 0)),
-        "meets" => meets_told(alloc, tree, rest),
-        "shaped" => shaped_told(alloc, tree, rest),
+        "at" => node_told(alloc, tree, word(rest, 0), false),
+        "meets" => value_told(alloc, tree, rest, false),
+        "shaped" => value_told(alloc, tree, rest, true),
         "make" => made_told(alloc, tree, wide(rest, 0)),
-        _ => Ok(format!(in alloc; "not understood")?),
+        _ => Ok("not understood".to_string(alloc)?),
     }
 }
 
-/// What a question of a tree is answered.
+/// What a question of a tree is answered that need not be accepted.
 pub fn tree_told(alloc: Global, tree: Boxed<Tree>, words: &[&str]) -> Result<String, NoMemory> {
     match word(words, 0) {
         "check" => checked(alloc, tree, false),
         "check-twice" => checked(alloc, tree, true),
-        "plan" => planned(alloc, tree),
-        "extremes" => extremes_in_words(alloc, tree, true),
-        "extreme-bits" => extremes_in_words(alloc, tree, false),
         _ => looked_at(alloc, tree.get(), words),
     }
 }

@@ -1,11 +1,11 @@
 //! What comes of values that are made, in words.
 
 use acn_case_lines::wide;
-use acn_check::{Checked, check};
-use acn_num::{Boxed, NoMemory};
+use acn_check::Checked;
+use acn_num::NoMemory;
 use acn_outside::MemSink;
 use acn_plan::compile;
-use acn_tree::{Tree, items_named};
+use acn_tree::items_named;
 use acn_work::{Summary, Unwatched, put_summary, work};
 use std::alloc::Global;
 
@@ -20,28 +20,22 @@ fn shown(alloc: Global, summary: &Summary) -> Result<String, NoMemory> {
     let room = vec![in alloc; 0u8; ROOM]?;
     let mut out = MemSink::new(room, 7, Vec::new(alloc));
     if put_summary(summary, &mut out).is_err() {
-        return Ok(format!(in alloc; "not printed")?);
+        return Ok("not printed".to_string(alloc)?);
     }
     let text = String::from_utf8_lossy(alloc, out.bytes().unwrap_or(b"too much"))?;
     Ok(text.as_str().replace(alloc, "\n", "$")?)
 }
 
-fn worked(alloc: Global, checked: &Checked, start: u64, count: u64) -> Result<String, NoMemory> {
+/// The line of a summary of so many values that are made from a start, of a tree that is accepted.
+pub fn work_told(alloc: Global, checked: &Checked, words: &[&str]) -> Result<String, NoMemory> {
     if !items_named(checked.tree()) {
-        return Ok(format!(in alloc; "not named")?);
+        return Ok("not named".to_string(alloc)?);
     }
+    let count = wide(words, 1);
     if count > MOST_OF_A_CASE {
-        return Ok(format!(in alloc; "too many")?);
+        return Ok("too many".to_string(alloc)?);
     }
     let plan = compile(alloc, checked)?;
-    let summary = work(alloc, checked, &plan, start, count, &Unwatched)?;
+    let summary = work(alloc, checked, &plan, wide(words, 0), count, &Unwatched)?;
     shown(alloc, &summary)
-}
-
-/// The line of a summary of so many values that are made from a start, of a tree that is accepted.
-pub fn work_told(alloc: Global, tree: Boxed<Tree>, words: &[&str]) -> Result<String, NoMemory> {
-    match check(alloc, tree.into_inner()) {
-        Ok(checked) => worked(alloc, &checked, wide(words, 0), wide(words, 1)),
-        Err(_) => Ok(format!(in alloc; "not accepted")?),
-    }
 }

@@ -6,7 +6,7 @@ use std::alloc::Global;
 
 /// The asked type and the files of a group.
 #[derive(Drop)]
-pub struct Sheet {
+pub struct Asked {
     /// The name of its module.
     pub module: String,
     /// Its name.
@@ -15,10 +15,10 @@ pub struct Sheet {
     pub files: CaseFiles,
 }
 
-impl Sheet {
+impl Asked {
     /// No type of no files.
-    pub fn new(alloc: Global) -> Sheet {
-        Sheet {
+    pub fn new(alloc: Global) -> Asked {
+        Asked {
             module: String::new(alloc),
             name: String::new(alloc),
             files: CaseFiles::new(alloc),
@@ -26,7 +26,7 @@ impl Sheet {
     }
 
     // Begins a group.
-    fn ask(&mut self, alloc: Global, asked: &str) -> Result<bool, NoMemory> {
+    fn begin(&mut self, alloc: Global, asked: &str) -> Result<bool, NoMemory> {
         match asked.split_once(".") {
             Some((module, name)) => {
                 self.module = module.to_string(alloc)?;
@@ -41,8 +41,8 @@ impl Sheet {
     /// Takes a line that is no case. False comes where it isn't understood.
     pub fn take(&mut self, alloc: Global, line: &str) -> Result<bool, NoMemory> {
         match line.split_once(" ") {
-            Some(("ask", asked)) => self.ask(alloc, asked),
-            Some(("tree", asked)) => self.ask(alloc, asked),
+            Some(("ask", asked)) => self.begin(alloc, asked),
+            Some(("tree", asked)) => self.begin(alloc, asked),
             _ => self.files.take(alloc, line),
         }
     }

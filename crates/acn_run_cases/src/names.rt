@@ -79,7 +79,7 @@ pub fn take_fields(alloc: Global, scope: &mut Scope, line: &str) -> Result<bool,
 fn lead_in_words(alloc: Global, lead: Result<u32, ParamFault>) -> Result<String, NoMemory> {
     match lead {
         Ok(slot) => Ok(format!(in alloc; "slot {slot}")?),
-        Err(ParamFault::UnknownPath) => Ok(format!(in alloc; "UnknownPath")?),
+        Err(ParamFault::UnknownPath) => Ok("UnknownPath".to_string(alloc)?),
         Err(ParamFault::DeterminantMayBeAbsent { through }) => {
             Ok(format!(in alloc; "DeterminantMayBeAbsent {through}")?)
         }
@@ -95,7 +95,7 @@ pub fn slot_of_names(alloc: Global, scope: &Scope, case: &str) -> Result<String,
         }
     }
     if names.items().len() > MOST_NAMES {
-        return Ok(format!(in alloc; "too many names")?);
+        return Ok("too many names".to_string(alloc)?);
     }
     lead_in_words(alloc, scope.slot_of(&AcnPath { names }))
 }

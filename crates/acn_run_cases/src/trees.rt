@@ -6,8 +6,8 @@ ghost use Rattle.acn_sources.specs.Files.{AreShort};
 ghost use Rattle.acn_tree_laws.specs.Laws.{IsOfSources};
 ghost use Rattle.acn_world.specs.Viewed.{world_view};
 
+use crate::asked::Asked;
 use crate::reasons::refused_in_words;
-use crate::sheet::Sheet;
 use crate::tree_words::tree_in_words;
 use acn_case_sheets::{CaseFiles, Trouble, bytes_of, parts_of, trouble_in_words};
 use acn_front::{LoadFault, load};
@@ -78,37 +78,37 @@ fn merged(alloc: Global, world: &World, of: TypeId) -> Result<String, Trouble>
     }
 }
 
-fn of_world(alloc: Global, sheet: &Sheet, world: &World) -> Result<String, Trouble>
+fn of_world(alloc: Global, asked: &Asked, world: &World) -> Result<String, Trouble>
     requires { IsOfSources (world_view world.now) }
 {
-    match world.find(sheet.module.as_bytes(), sheet.name.as_bytes()) {
+    match world.find(asked.module.as_bytes(), asked.name.as_bytes()) {
         Some(of) => merged(alloc, world, of),
         None => Err(Trouble::Absent),
     }
 }
 
-fn of_files(alloc: Global, sheet: &Sheet, files: &[File<'_>]) -> Result<String, Trouble> {
+fn of_files(alloc: Global, asked: &Asked, files: &[File<'_>]) -> Result<String, Trouble> {
     if !are_short(files) {
         return Err(Trouble::TooMuch);
     }
     match load(alloc, files) {
-        Ok(world) => of_world(alloc, sheet, &world),
-        Err(LoadFault::File(_)) => Ok(format!(in alloc; "not read")?),
+        Ok(world) => of_world(alloc, asked, &world),
+        Err(LoadFault::File(_)) => Ok("not read".to_string(alloc)?),
         Err(LoadFault::Name(_)) => Err(Trouble::Misnamed),
         Err(LoadFault::NoMemory) => Err(Trouble::NoMemory),
     }
 }
 
-fn found(alloc: Global, sheet: &Sheet, parts: &[&str]) -> Result<String, Trouble> {
-    let filled = filled_files(alloc, &sheet.files, parts)?;
+fn found(alloc: Global, asked: &Asked, parts: &[&str]) -> Result<String, Trouble> {
+    let filled = filled_files(alloc, &asked.files, parts)?;
     let files = files_of(alloc, filled.as_slice())?;
-    of_files(alloc, sheet, files.as_slice())
+    of_files(alloc, asked, files.as_slice())
 }
 
 /// The tree of the asked type, or the place and the reason why it has none.
-pub fn tree_told(alloc: Global, sheet: &Sheet, case: &str) -> Result<String, NoMemory> {
+pub fn tree_told(alloc: Global, asked: &Asked, case: &str) -> Result<String, NoMemory> {
     let parts = parts_of(alloc, case)?;
-    match found(alloc, sheet, parts.as_slice()) {
+    match found(alloc, asked, parts.as_slice()) {
         Ok(answer) => Ok(answer),
         Err(trouble) => trouble_in_words(alloc, trouble),
     }

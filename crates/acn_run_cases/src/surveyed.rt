@@ -1,10 +1,10 @@
-//! The answer to a case.
+//! The first fault of the nodes that are to be made for a type, or what the walk over them notes.
 
 ghost use Rattle.acn_world.specs.Viewed.{world_view};
 ghost use Rattle.acn_index.specs.World.{IsType};
 
+use crate::asked::Asked;
 use crate::reasons::fault_in_words;
-use crate::sheet::Sheet;
 use crate::walked::walk_in_words;
 use acn_case_sheets::{Trouble, parts_of, trouble_in_words, world_of};
 use acn_num::NoMemory;
@@ -24,19 +24,19 @@ fn surveyed(alloc: Global, world: &World, of: TypeId) -> Result<String, Trouble>
     }
 }
 
-// What a walk over the nodes of the asked type answers.
-fn found(alloc: Global, sheet: &Sheet, parts: &[&str]) -> Result<String, Trouble> {
-    let world = world_of(alloc, &sheet.files, parts)?;
-    match world.find(sheet.module.as_bytes(), sheet.name.as_bytes()) {
+// The same, where it is there.
+fn found(alloc: Global, asked: &Asked, parts: &[&str]) -> Result<String, Trouble> {
+    let world = world_of(alloc, &asked.files, parts)?;
+    match world.find(asked.module.as_bytes(), asked.name.as_bytes()) {
         Some(of) => surveyed(alloc, &world, of),
         None => Err(Trouble::Absent),
     }
 }
 
-/// The answer to a case of a sheet, or why there is none.
-pub fn answer(alloc: Global, sheet: &Sheet, case: &str) -> Result<String, NoMemory> {
+/// What a walk over the nodes of the asked type answers, or why there is none.
+pub fn survey_told(alloc: Global, asked: &Asked, case: &str) -> Result<String, NoMemory> {
     let parts = parts_of(alloc, case)?;
-    match found(alloc, sheet, parts.as_slice()) {
+    match found(alloc, asked, parts.as_slice()) {
         Ok(answer) => Ok(answer),
         Err(trouble) => trouble_in_words(alloc, trouble),
     }

@@ -28,17 +28,17 @@ fn attribute_in_words(kind: AttrKind) -> &'static str {
 fn constraint_in_words(alloc: Global, fault: ConstraintFault) -> Result<String, Trouble> {
     match fault {
         ConstraintFault::NoMemory => Err(Trouble::NoMemory),
-        ConstraintFault::Empty => Ok(format!(in alloc; "Empty")?),
-        ConstraintFault::Unbounded => Ok(format!(in alloc; "Unbounded")?),
+        ConstraintFault::Empty => Ok("Empty".to_string(alloc)?),
+        ConstraintFault::Unbounded => Ok("Unbounded".to_string(alloc)?),
         ConstraintFault::TooWide { number } => Ok(format!(in alloc; "TooWide {number}")?),
         ConstraintFault::SizeLimit { size } => Ok(format!(in alloc; "SizeLimit {size}")?),
-        ConstraintFault::NotHere => Ok(format!(in alloc; "NotHere")?),
+        ConstraintFault::NotHere => Ok("NotHere".to_string(alloc)?),
     }
 }
 
 fn path_in_words(alloc: Global, fault: &PathFault) -> Result<String, Trouble> {
     match fault {
-        PathFault::Unknown => Ok(format!(in alloc; "UnknownPath")?),
+        PathFault::Unknown => Ok("UnknownPath".to_string(alloc)?),
         PathFault::MayBeAbsent { through, names } => {
             let names = String::from_utf8_lossy(alloc, names.bytes())?;
             Ok(format!(in alloc; "DeterminantMayBeAbsent {through} {names}")?)

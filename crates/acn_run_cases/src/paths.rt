@@ -71,7 +71,7 @@ pub fn slot_of_path(alloc: Global, paths: &Paths, case: &str) -> Result<String, 
     let inserted = paths.inserted.items();
     let uses = paths.uses.items();
     if !are_few(inserted, uses) {
-        return Ok(format!(in alloc; "too many")?);
+        return Ok("too many".to_string(alloc)?);
     }
     let homes = Homes::new(alloc, inserted, uses)?;
     if case == "count" {
