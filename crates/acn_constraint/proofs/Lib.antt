@@ -1,5 +1,7 @@
+mod Agrees
 mod Bases
 mod Firsts
+mod Hulls
 mod Judged
 mod Steps
 mod Unions

@@ -67,7 +67,7 @@ between_ranges (Some low) low_out (Some high) high_out = some_ranges (above low_
 
 -- ---- a set that holds what is permitted
 
-abbrev Holds : Ranges → (ℤ → Bool) → Type 0
+abbrev pub Holds : Ranges → (ℤ → Bool) → Type 0
 Holds s p = AreRanges s × ((x : ℤ) → has s x ≡ p x)
 
 less : (s t : Ranges) (p q : ℤ → Bool) → Holds s p → Holds t q → Holds (except s t) (λ x. p x && not (q x))

@@ -1,5 +1,7 @@
+pub mod Asks
 pub mod Constraints
 pub mod Each
+pub mod Hull
 pub mod Permits
 pub mod Readings
 pub mod Sets

@@ -13,6 +13,7 @@ ghost use Rattle.acn_constraint.specs.Readings.{reading_of};
 use crate::evaluate::{Place, Reading, set_in};
 use crate::low::{Names, set_low};
 use crate::sized::says_size;
+use crate::span::around;
 use acn_asn_syntax::{AsnBase, Constraint, Set};
 use acn_num::{NoMemory, RangeSet, Row};
 use acn_set_elements::NumberNames;
@@ -138,6 +139,21 @@ fn left_by(
     }
 }
 
+// What a constraint leaves of what stood before it. It is asked of all numbers between the ends of what stood, so that a
+// set that takes away a few numbers is as small as what it takes, however many ranges stood.
+fn left_of(
+    alloc: Global,
+    constraint: &Constraint,
+    place: Place<'_>,
+    before: &RangeSet,
+) -> Result<RangeSet, NoMemory>
+    ensures { IfOk result (λ s. s ≡ spec.left_by (world_view place.entry.world.now) (reading_of place.entry.reading) (place.entry.owner, constraint_view constraint.now) before.now) }
+{
+    let stood = around(alloc, before)?;
+    let left = left_by(alloc, constraint, place, &stood)?;
+    before.meet(alloc, &left)
+}
+
 /// What the constraints leave of what stood before them.
 pub fn met(
     alloc: Global,
@@ -156,7 +172,7 @@ pub fn met(
             owner,
             reading,
         };
-        left = left_by(alloc, constraint.1, place, &left)?;
+        left = left_of(alloc, constraint.1, place, &left)?;
     }
     Ok(left)
 }

@@ -1,5 +1,6 @@
 ghost use Rattle.std.specs.Prelude.{◌≡◌, ◌≤ℤ◌, IfOk};
 ghost use Rattle.acn_num.specs.Ranges.{some_range, bottom, top};
+ghost use Rattle.acn_constraint.specs.Hull.{hull};
 ghost use Rattle.acn_constraint.specs.Sets as sets;
 
 use acn_num::{BOTTOM, NoMemory, RangeSet, TOP};
@@ -61,4 +62,11 @@ pub fn between(
         (Some(_), None) => Ok(RangeSet::empty(alloc)),
         (None, _) => Ok(RangeSet::empty(alloc)),
     }
+}
+
+/// The numbers from the least to the greatest of a set.
+pub fn around(alloc: Global, set: &RangeSet) -> Result<RangeSet, NoMemory>
+    ensures { IfOk result (λ s. s ≡ hull set.now) }
+{
+    between(alloc, &set.least(), false, &set.greatest(), false)
 }
