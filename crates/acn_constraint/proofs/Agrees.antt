@@ -1,9 +1,9 @@
 -- Of a number that stood, a constraint permits the same whatever else stood, but for the ends where it asks for these.
 use Rattle.std.proofs.Common.{◌≡◌, ℕ, Bool, true, false, not, ◌&&◌, ◌||◌, Option, Some, None, refl, sym, ap, ◌∙◌, ℤ, pos}
-use Rattle.std.specs.Prelude.{if◌then◌else◌, ◌-ℤ◌, Result, Ok, Err, IfOk}
+use Rattle.std.specs.Prelude.{if◌then◌else◌, ◌-ℤ◌}
 use Rattle.acn_num.specs.Ranges.{Ranges, has, AreRanges, meet, least, greatest, bottom}
 use Rattle.acn_num.proofs.Members.{has_meet}
-use Rattle.acn_num.proofs.Order.{same_set, meet_above}
+use Rattle.acn_num.proofs.Order.{meet_above}
 use Rattle.acn_asn_syntax.specs.Mirror.{Set, all_except, union_of, Meets, no_meets, and_meet, Meet, meet_of, Parts, no_parts, and_part, Part, part_of, part_but, Element, value_of, range_of, size_of, from_of, inner_of, Constraint, by_set, by_size, containing}
 use Rattle.acn_asn_syntax.specs.declared.sets.AsnRange.{AsnRange}
 use Rattle.acn_asn_syntax.specs.declared.values.AsnValue.{AsnValue}
@@ -12,8 +12,7 @@ use Rattle.acn_constraint.specs.Sets.{end_of, range_in, Reading, numbers, sizes,
 use Rattle.acn_constraint.specs.Permits.{permits, any_permits, meet_permits, all_permit, part_permits, element_permits}
 use Rattle.acn_constraint.specs.Asks.{asks_end, asks_set, asks_meets, asks_meet, asks_parts, asks_part, asks_element, asks}
 use Rattle.acn_constraint.specs.Constraints.{left_by}
-use Rattle.acn_constraint.specs.Hull.{hull}
-use Rattle.acn_constraint.proofs.Hulls.{SameEnds, over, under, between_has, over_least, under_greatest, hull_of}
+use Rattle.acn_constraint.proofs.Hulls.{SameEnds, over, under, between_has, over_least, under_greatest}
 use Rattle.acn_constraint.proofs.Permitted.{Holds, set_holds}
 
 and_same : {a b c d : Bool} → a ≡ b → c ≡ d → (a && c) ≡ (b && d)
@@ -131,23 +130,3 @@ left_same w r c a b x h k p q same =
     (left_holds w r c a h).1 x
     ∙ (and_same (p ∙ sym q) (permits_same w r c a b x (h, k) (p, q) same)
     ∙ sym ((left_holds w r c b k).1 x))
-
-in_both : (b h l p : Bool) → (b ≡ true → h ≡ l) → l ≡ (b && p) → (b && h) ≡ l
-in_both true h l p same e = same refl
-in_both false h l p same e = sym e
-
--- what a constraint leaves is what stood and what it leaves of the numbers between the ends of this
-pub left_in_hull : (w : World) (r : Reading) (c : ℕ × Constraint) (before : Ranges) → AreRanges before → meet before (left_by w r c (hull before)) ≡ left_by w r c before
-left_in_hull w r c before h =
-    let around = hull_of before h in
-    let left = left_holds w r c before h in
-    same_set (bottom -ℤ pos 1) (meet before (left_by w r c (hull before))) (left_by w r c before)
-    (meet_above (bottom -ℤ pos 1) (bottom -ℤ pos 1) before (left_by w r c (hull before)) h (left_holds w r c (hull before) around.ordered).0) left.0
-    (λ x. has_meet before (left_by w r c (hull before)) x
-    ∙ in_both (has before x) (has (left_by w r c (hull before)) x) (has (left_by w r c before) x) (constraint_permits w r c before x)
-    (λ e. left_same w r c (hull before) before x around.ordered h (around.inside x e) e (λ t. around.ends)) (left.1 x))
-
--- what is answered for a constraint
-pub left_around : {E : Type 0} (w : World) (r : Reading) (c : ℕ × Constraint) (before stood left : Ranges) (answer : Result Ranges E) → AreRanges before → stood ≡ hull before → left ≡ left_by w r c stood → IfOk answer (λ s. s ≡ meet before left) → IfOk answer (λ s. s ≡ left_by w r c before)
-left_around w r c before stood left (Err e) h p q is = is
-left_around w r c before stood left (Ok s) h p q is = is ∙ (ap (λ t. meet before t) (q ∙ ap (λ t. left_by w r c t) p) ∙ left_in_hull w r c before h)

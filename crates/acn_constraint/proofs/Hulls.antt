@@ -1,7 +1,7 @@
 -- The numbers from the least to the greatest of a set have its ends and hold all that it holds.
 use Rattle.std.proofs.Common.{◌≡◌, Bool, true, false, ◌&&◌, [], ◌∷◌, Option, Some, None, refl, sym, ap, subst, ◌∙◌, ℤ, pos, arith}
 use Rattle.std.proofs.lemmas.Int.{ints, clamps}
-use Rattle.std.specs.Prelude.{int_le, if◌then◌else◌, ◌≤ℤ◌, ◌<ℤ◌, ◌-ℤ◌, ◌+ℤ◌}
+use Rattle.std.specs.Prelude.{int_le, if◌then◌else◌, ◌≤ℤ◌, ◌-ℤ◌, ◌+ℤ◌}
 use Rattle.acn_num.specs.Ranges.{Ranges, has, Above, AreRanges, some_range, least, greatest, bottom, top}
 use Rattle.acn_num.proofs.Members.{le_true, not_below, and_false}
 use Rattle.acn_constraint.specs.Sets.{nearest, above, below, between}

@@ -3,6 +3,7 @@ mod Bases
 mod Firsts
 mod Hulls
 mod Judged
+mod Serial
 mod Steps
 mod Unions
 -- for acn_leaf_laws

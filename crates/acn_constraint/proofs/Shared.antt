@@ -20,7 +20,7 @@ use Rattle.acn_constraint.specs.Permits.{all_permit, part_permits}
 use Rattle.acn_constraint.specs.Each.{everything, each_outside, IsWithoutAll}
 use Rattle.acn_constraint.proofs.Permitted.{less_ranges, part_holds, parts_hold}
 
-except_has : (s t : Ranges) (x : ℤ) → AreRanges s → AreRanges t → has (except s t) x ≡ (has s x && not (has t x))
+pub except_has : (s t : Ranges) (x : ℤ) → AreRanges s → AreRanges t → has (except s t) x ≡ (has s x && not (has t x))
 unfolding except
 except_has s t x h i = has_except s t x h i
 

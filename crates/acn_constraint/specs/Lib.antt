@@ -4,6 +4,7 @@ pub mod Each
 pub mod Hull
 pub mod Permits
 pub mod Readings
+pub mod Series
 pub mod Sets
 pub mod Sized
 pub mod Views

@@ -111,8 +111,8 @@ fn outside_of(alloc: Global, set: &RangeSet) -> Result<RangeSet, NoMemory>
     all.except(alloc, set)
 }
 
-// What a set holds outside all others.
-fn without_all(alloc: Global, set: &RangeSet, others: &[RangeSet]) -> Result<RangeSet, NoMemory>
+/// What a set holds outside all others.
+pub fn without_all(alloc: Global, set: &RangeSet, others: &[RangeSet]) -> Result<RangeSet, NoMemory>
     ensures { IfOk result (λ s. IsWithoutAll set.now others.now s) }
 {
     let none = RangeSet::empty(alloc);

@@ -3,6 +3,7 @@
 
 mod along;
 mod answer;
+mod asks;
 mod ends;
 mod evaluate;
 mod fault;
