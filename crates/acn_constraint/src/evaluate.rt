@@ -2,7 +2,7 @@
 //!
 //! Sets nest as deep as parentheses do, which is 64 levels at most.
 
-ghost use Rattle.std.specs.Prelude.{◌≡◌, IfOk, map};
+ghost use Rattle.std.specs.Prelude.{◌≡◌, [], ◌∷◌, IfOk, map};
 ghost use Rattle.acn_asn_syntax.specs.View.{seen_meet, seen_part, element_view, set_view, meet_view, part_view, meets_of, parts_of};
 ghost use Rattle.acn_world.specs.Viewed.{world_view};
 ghost use Rattle.acn_constraint.specs.Readings.{reading_of};
@@ -111,10 +111,23 @@ fn outside_of(alloc: Global, set: &RangeSet) -> Result<RangeSet, NoMemory>
     all.except(alloc, set)
 }
 
+// What a set holds outside another.
+fn without_one(alloc: Global, set: &RangeSet, other: &RangeSet) -> Result<RangeSet, NoMemory>
+    ensures { IfOk result (λ s. IsWithoutAll set.now (other.now ∷ []) s) }
+{
+    let left = set.except(alloc, other)?;
+    let _set = set.ranges();
+    let _left = left.ranges();
+    Ok(left)
+}
+
 /// What a set holds outside all others.
 pub fn without_all(alloc: Global, set: &RangeSet, others: &[RangeSet]) -> Result<RangeSet, NoMemory>
     ensures { IfOk result (λ s. IsWithoutAll set.now others.now s) }
 {
+    if others.len() == 1 {
+        return without_one(alloc, set, &others[0]);
+    }
     let none = RangeSet::empty(alloc);
     let joined = none.union_all(alloc, others)?;
     let left = set.except(alloc, &joined)?;
