@@ -64,8 +64,8 @@ no_number (Some s) align next n i ss (acts.Seq home) h = refl
 no_number None align next n i ss (acts.Seq home) h = refl
 no_number (Some s) align next n i ss (acts.List sizing) h = refl
 no_number None align next n i ss (acts.List sizing) h = refl
-no_number (Some s) align next n i ss (acts.Choice rule) h = refl
-no_number None align next n i ss (acts.Choice rule) h = refl
+no_number (Some s) align next n i ss (acts.Choice cases) h = refl
+no_number None align next n i ss (acts.Choice cases) h = refl
 no_number (Some s) align next n i ss (acts.Contained sizing) h = refl
 no_number None align next n i ss (acts.Contained sizing) h = refl
 

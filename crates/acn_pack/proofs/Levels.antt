@@ -52,5 +52,5 @@ not_number steps i s h n none = by s.act none (subst IsNumber (node_is steps i s
     by (acts.Text leaf) f x = x
     by (acts.Seq home) f x = x
     by (acts.List sizing) f x = x
-    by (acts.Choice rule) f x = x
+    by (acts.Choice cases) f x = x
     by (acts.Contained sizing) f x = x

@@ -1,4 +1,5 @@
 mod Cases
+mod Chosen
 mod Fields
 mod Levels
 mod Paths

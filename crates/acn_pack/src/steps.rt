@@ -1,11 +1,12 @@
 //! Steps and what stands at them.
 
-ghost use Rattle.std.specs.Prelude.{◌≡◌, ◌<◌, ◌≤◌, ℕ, List, Option, None, length, IfSome, IfNone};
+ghost use Rattle.std.specs.Prelude.{◌≡◌, ◌<◌, ◌≤◌, ℕ, List, Option, None, length, slice_get, IfSome, IfNone};
 ghost use Rattle.acn_grammar.specs.Grammar.{Grammar};
 ghost use Rattle.acn_grammar.specs.View.{a_component, an_inserted};
 ghost use Rattle.acn_grammar.specs.declared.node.NumLeaf.{NumLeaf as NumLeafData};
 ghost use Rattle.acn_plan.specs.declared.step.Act.TheVariants.{Num};
-ghost use Rattle.acn_plan.specs.Back.{StepAt, item_at, field_by, cases_at};
+ghost use Rattle.acn_plan.specs.declared.step.Step.{Step as StepData};
+ghost use Rattle.acn_plan.specs.Back.{StepAt, item_at, field_by, cases_at, case_places};
 ghost use Rattle.acn_plan.specs.Made.{IsMade};
 ghost use Rattle.acn_pack.specs.Parts.{tests_in, nth_case, IsCase};
 
@@ -104,19 +105,19 @@ pub fn item_of(place: &Place) -> Option<u32>
     }
 }
 
-/// The step of the alternative of an index, where there is one.
-pub fn case_of(steps: &[Step], first: usize, end: usize, i: u32) -> Option<usize>
-    requires made { IsMade steps.now }
-    requires within { end ≤ length steps.now }
-    ensures there { IfSome result (IsCase steps.now first end i) }
-    ensures none { IfNone result (nth_case (cases_at steps.now first end) i ≡ None) }
+fn number_at(numbers: &[u32], i: u32) -> Option<u32>
+    ensures { result ≡ slice_get numbers.now i }
 {
-    let mut this = first;
-    for _ in 0..i {
-        if this >= end {
-            return None;
-        }
-        this = at(steps, this).next as usize;
+    numbers.get(i as usize).copied()
+}
+
+/// The step of the alternative of an index, where there is one, by the numbers of the steps of all.
+pub fn case_of(numbers: &[u32], i: u32) -> Option<usize>
+    ensures there { IfSome result (λ n. (steps : List StepData) (first end : ℕ) → IsMade steps → end ≤ length steps → numbers.now ≡ case_places steps first end → IsCase steps first end i n) }
+    ensures none { IfNone result ((steps : List StepData) (first end : ℕ) → IsMade steps → end ≤ length steps → numbers.now ≡ case_places steps first end → nth_case (cases_at steps first end) i ≡ None) }
+{
+    match number_at(numbers, i) {
+        Some(number) => Some(number as usize),
+        None => None,
     }
-    if this < end { Some(this) } else { None }
 }

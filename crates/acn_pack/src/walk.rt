@@ -24,7 +24,7 @@ use crate::steps::{Component, at, case_of, component_of, inserted_slot};
 use crate::trace::Trace;
 use crate::values::{case_in, elements_in, places_in};
 use acn_grammar::{ChoiceRule, Presence, Sizing, Value};
-use acn_plan::{Act, Step};
+use acn_plan::{Act, Cases, Step};
 use acn_writer::{Halted, Writer};
 
 /// The node of a step.
@@ -73,7 +73,7 @@ fn pack_body<'p, T, const N: usize, const S: usize, const A: usize>(
             pack_seq::<T, N, S, A>(steps, this + 1, end, home.items(), v, w, trace)
         }
         Act::List(sizing) => pack_list::<T, N, S, A>(steps, this + 1, sizing, v, w, trace),
-        Act::Choice(rule) => pack_choice::<T, N, S, A>(steps, this, *rule, v, w, trace),
+        Act::Choice(cases) => pack_choice::<T, N, S, A>(steps, this, cases, v, w, trace),
         Act::Contained(sizing) => pack_contained::<T, N, S, A>(
             steps,
             this + 1,
@@ -360,20 +360,20 @@ fn pack_run<'p, T, const N: usize, const S: usize, const A: usize>(
 fn pack_choice<'p, T, const N: usize, const S: usize, const A: usize>(
     steps: &'p [Step],
     this: usize,
-    rule: ChoiceRule,
+    cases: &'p Cases,
     v: &Value,
     w: &mut Writer<'_, 'p, N, S, A>,
     trace: &mut Trace,
 ) -> Result<(), Halted>
     requires made { IsMade steps.now }
     requires there { this < length steps.now }
-    requires is { (step : StepData) → StepAt steps.now this step → step.act ≡ ChoiceAct rule }
+    requires is { (step : StepData) → StepAt steps.now this step → step.act ≡ ChoiceAct cases.now }
     requires sound { (step : StepData) → StepAt steps.now this step → FormIsSound (root_of steps.now) (length trace.old.path) (form_at steps.now this step) }
     ensures packs { (step : StepData) → StepAt steps.now this step → Packs (form_events (root_of steps.now) (form_at steps.now this step) trace.old.path (data_of v.now)) w.old w.new trace.new.path trace.new.why result }
     ensures path { OnOk result (trace.new.path ≡ trace.old.path) }
 {
     match case_in(v) {
-        Some((i, inside)) => pack_chosen::<T, N, S, A>(steps, this, rule, i, inside, w, trace),
+        Some((i, inside)) => pack_chosen::<T, N, S, A>(steps, this, cases, i, inside, w, trace),
         None => Ok(()),
     }
 }
@@ -383,7 +383,7 @@ fn pack_choice<'p, T, const N: usize, const S: usize, const A: usize>(
 fn pack_chosen<'p, T, const N: usize, const S: usize, const A: usize>(
     steps: &'p [Step],
     this: usize,
-    rule: ChoiceRule,
+    cases: &'p Cases,
     i: u32,
     v: &Value,
     w: &mut Writer<'_, 'p, N, S, A>,
@@ -391,15 +391,14 @@ fn pack_chosen<'p, T, const N: usize, const S: usize, const A: usize>(
 ) -> Result<(), Halted>
     requires made { IsMade steps.now }
     requires there { this < length steps.now }
-    requires is { (step : StepData) → StepAt steps.now this step → step.act ≡ ChoiceAct rule }
+    requires is { (step : StepData) → StepAt steps.now this step → step.act ≡ ChoiceAct cases.now }
     requires sound { (step : StepData) → StepAt steps.now this step → FormIsSound (root_of steps.now) (length trace.old.path) (form_at steps.now this step) }
     ensures packs { (step : StepData) → StepAt steps.now this step → Packs (form_events (root_of steps.now) (form_at steps.now this step) trace.old.path (alt i (data_of v.now))) w.old w.new trace.new.path trace.new.why result }
     ensures path { OnOk result (trace.new.path ≡ trace.old.path) }
 {
-    put_index(&rule, i, w, &mut trace.why)?;
-    let step = at(steps, this);
-    match case_of(steps, this + 1, step.next as usize, i) {
-        Some(case) => pack_case::<T, N, S, A>(steps, case, rule, i, v, w, trace),
+    put_index(&cases.rule, i, w, &mut trace.why)?;
+    match case_of(cases.numbers.items(), i) {
+        Some(case) => pack_case::<T, N, S, A>(steps, case, cases.rule, i, v, w, trace),
         None => Ok(()),
     }
 }

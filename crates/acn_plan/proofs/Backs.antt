@@ -37,7 +37,7 @@ module _ (root : Grammar) where
 
   -- the first step of a node, and the others
   abbrev pub first_step : Place → ℕ → Grammar → Step
-  first_step p i (node align form) = record { align = align; act = act_of form; place = p; next = i + suc (form_count form) }
+  first_step p i (node align form) = record { align = align; act = act_of (i + 1) form; place = p; next = i + suc (form_count form) }
 
   abbrev pub inner_steps : ℕ → Grammar → List Step
   inner_steps i (node align form) = form_steps root (i + 1) form
@@ -105,7 +105,7 @@ module _ (root : Grammar) where
     pub node_back : (p : Place) (i : ℕ) (g : Grammar) (rest : List Step) → first_node (marks i (node_steps root p i g ++ rest)) ≡ g
     node_back p i (node align form) rest = ap (node align) (form_back i form rest)
 
-    form_back : (i : ℕ) (form : Form) (rest : List Step) → form_in (act_of form) (i + suc (form_count form)) (i + 1) (marks (i + 1) (form_steps root (i + 1) form ++ rest)) ≡ form
+    form_back : (i : ℕ) (form : Form) (rest : List Step) → form_in (act_of (i + 1) form) (i + suc (form_count form)) (i + 1) (marks (i + 1) (form_steps root (i + 1) form ++ rest)) ≡ form
     form_back i (num leaf) rest = refl
     form_back i (octets sizing) rest = refl
     form_back i (bits sizing) rest = refl

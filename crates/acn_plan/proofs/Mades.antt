@@ -3,7 +3,7 @@ use Rattle.std.proofs.Common.{◌≡◌, List, length, sym, ap, ◌∙◌, subst
 use Rattle.acn_grammar.specs.Grammar.{Grammar}
 use Rattle.acn_grammar.specs.ItemsNamed.{ItemsNamed}
 use Rattle.acn_packet_laws.specs.Laws.{IsAccepted}
-use Rattle.acn_plan.specs.Back.{root_of, Nested, Itemed}
+use Rattle.acn_plan.specs.Back.{root_of, Nested, Itemed, Listed}
 use Rattle.acn_plan.specs.Made.{IsMade}
 use Rattle.acn_plan.specs.Steps.{steps_of}
 use Rattle.acn_plan.specs.declared.step.Place.TheVariants as places
@@ -11,6 +11,7 @@ use Rattle.acn_plan.specs.declared.step.Step.{Step}
 use Rattle.acn_plan.proofs.Backs.{root_back, node_length}
 use Rattle.acn_plan.proofs.Few.{few_nodes}
 use Rattle.acn_plan.proofs.Itemizes.{itemed}
+use Rattle.acn_plan.proofs.Lists.{listed}
 use Rattle.acn_plan.proofs.Nests.{nested}
 
 pub made_nested : (steps : List Step) → IsMade steps → Nested steps
@@ -18,6 +19,9 @@ made_nested steps m = subst Nested m.said (nested (root_of steps))
 
 pub made_itemed : (steps : List Step) → IsMade steps → Itemed (root_of steps) steps
 made_itemed steps m = subst (Itemed (root_of steps)) m.said (itemed (root_of steps))
+
+pub made_listed : (steps : List Step) → IsMade steps → Listed steps
+made_listed steps m = subst Listed m.said (listed (root_of steps))
 
 pub made : (root : Grammar) (steps : List Step) → steps ≡ steps_of root → IsAccepted root → ItemsNamed root → IsMade steps
 made root steps e accepted named =

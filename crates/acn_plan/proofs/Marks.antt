@@ -2,7 +2,7 @@
 use Rattle.std.proofs.Common.{◌≡◌, ℕ, zero, suc, ◌+◌, ◌-◌, ◌<◌, ◌≤◌, List, [], ◌∷◌, drop, Option, refl, sym, ap, ◌∙◌, arith}
 use Rattle.std.proofs.lemmas.List.{drop_all}
 use Rattle.acn_grammar.specs.Grammar.{Grammar, node, no_fields, no_alternatives}
-use Rattle.acn_plan.specs.Back.{first_node, put_field, put_case, fields_in, cases_in, marks, node_at, form_at, fields_at, cases_at, items_in, item_at, case_items, StepAt}
+use Rattle.acn_plan.specs.Back.{first_node, put_field, put_case, fields_in, cases_in, marks, node_at, form_at, fields_at, cases_at, items_in, item_at, case_items, numbers_in, case_places, StepAt}
 use Rattle.acn_plan.specs.declared.step.Step.{Step}
 
 -- Parts of lists.
@@ -60,6 +60,19 @@ items_pass (suc pass) (suc left) n (s ∷ ss) =
     let f : n + suc pass ≡ (n + 1) + pass = omega arith in
     rw (e, f) (items_pass pass left (n + 1) ss))
 
+pub numbers_pass : (pass left n : ℕ) (ss : List Step) → numbers_in pass left n ss ≡ numbers_in 0 (left - pass) (n + pass) (drop pass ss)
+numbers_pass zero left n ss = (let e : left - 0 ≡ left = omega arith in let f : n + 0 ≡ n = omega arith in rw (e, f) refl)
+numbers_pass (suc pass) zero n ss = (let e : 0 - suc pass ≡ 0 = omega arith in rw e refl)
+numbers_pass (suc pass) (suc left) n [] = none (suc left - suc pass) (n + suc pass) (drop (suc pass) []) (drop_all (suc pass) [] (omega arith))
+  where
+    none : (l m : ℕ) (ss : List Step) → ss ≡ [] → [] ≡ numbers_in 0 l m ss
+    none zero m ss e = refl
+    none (suc l) m ss e = rw e refl
+numbers_pass (suc pass) (suc left) n (s ∷ ss) =
+    (let e : suc left - suc pass ≡ left - pass = omega arith in
+    let f : n + suc pass ≡ (n + 1) + pass = omega arith in
+    rw (e, f) (numbers_pass pass left (n + 1) ss))
+
 -- the fields of a list of steps that isn't at its end
 pub fields_first : (k end : ℕ) (s : Step) (ss : List Step) → k < end → k < s.next
     → fields_in 0 (end - k) k (marks k (s ∷ ss)) ≡ put_field s.place (first_node (marks k (s ∷ ss))) (fields_in 0 (end - s.next) s.next (marks s.next (drop (s.next - (k + 1)) ss)))
@@ -90,6 +103,16 @@ items_first k end s ss less up =
     let p = items_pass (s.next - (k + 1)) (end - (k + 1)) (k + 1) ss in
     ap (λ (l : ℕ). items_in 0 l k (s ∷ ss)) e
     ∙ ap (λ (x : List (Option ℕ)). item_at s.place ∷ x) (p ∙ (ap (λ (l : ℕ). items_in 0 l ((k + 1) + (s.next - (k + 1))) (drop (s.next - (k + 1)) ss)) f ∙ ap (λ (m : ℕ). items_in 0 (end - s.next) m (drop (s.next - (k + 1)) ss)) h)))
+
+pub numbers_first : (k end : ℕ) (s : Step) (ss : List Step) → k < end → k < s.next
+    → numbers_in 0 (end - k) k (s ∷ ss) ≡ k ∷ numbers_in 0 (end - s.next) s.next (drop (s.next - (k + 1)) ss)
+numbers_first k end s ss less up =
+    (let e : end - k ≡ suc (end - (k + 1)) = omega (arith, less) in
+    let f : (end - (k + 1)) - (s.next - (k + 1)) ≡ end - s.next = omega (arith, up) in
+    let h : (k + 1) + (s.next - (k + 1)) ≡ s.next = omega (arith, up) in
+    let p = numbers_pass (s.next - (k + 1)) (end - (k + 1)) (k + 1) ss in
+    ap (λ (l : ℕ). numbers_in 0 l k (s ∷ ss)) e
+    ∙ ap (λ (x : List ℕ). k ∷ x) (p ∙ (ap (λ (l : ℕ). numbers_in 0 l ((k + 1) + (s.next - (k + 1))) (drop (s.next - (k + 1)) ss)) f ∙ ap (λ (m : ℕ). numbers_in 0 (end - s.next) m (drop (s.next - (k + 1)) ss)) h)))
 
 -- One level, by numbers.
 
@@ -130,3 +153,14 @@ items_more steps k end s h less up =
 
 pub items_none : (steps : List Step) (k end : ℕ) → end ≤ k → case_items steps k end ≡ []
 items_none steps k end le = (let e : end - k ≡ 0 = omega (arith, le) in ap (λ (l : ℕ). items_in 0 l k (drop k steps)) e)
+
+pub places_more : (steps : List Step) (k end : ℕ) (s : Step) → StepAt steps k s → k < end → k < s.next → case_places steps k end ≡ k ∷ case_places steps s.next end
+places_more steps k end s h less up =
+    (let q = drop_drop (k + 1) (s.next - (k + 1)) steps in
+    let e : (k + 1) + (s.next - (k + 1)) ≡ s.next = omega (arith, up) in
+    ap (λ (ss : List Step). numbers_in 0 (end - k) k ss) h
+    ∙ (numbers_first k end s (drop (k + 1) steps) less up
+    ∙ ap (λ (ss : List Step). k ∷ numbers_in 0 (end - s.next) s.next ss) (q ∙ ap (λ (m : ℕ). drop m steps) e)))
+
+pub places_none : (steps : List Step) (k end : ℕ) → end ≤ k → case_places steps k end ≡ []
+places_none steps k end le = (let e : end - k ≡ 0 = omega (arith, le) in ap (λ (l : ℕ). numbers_in 0 l k (drop k steps)) e)

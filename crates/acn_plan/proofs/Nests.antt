@@ -22,7 +22,7 @@ one_of end n zero (x ∷ xs) s a h = (let e : x ≡ s = cc in let f : n ≡ n + 
 one_of end n (suc i) (x ∷ xs) s a h = (let f : (n + 1) + i ≡ n + suc i = omega arith in let e : suc i + 1 ≡ suc (i + 1) = omega arith in subst (λ (m : ℕ). IsNested end m s) f (one_of end (n + 1) i xs s a.1 (h ∙ ap (λ (m : ℕ). s ∷ drop m (x ∷ xs)) e)))
 
 module _ (root : Grammar) where
-  holds_one : (form : Form) (i : ℕ) → HoldsOne (act_of form) i (i + suc (form_count form))
+  holds_one : (form : Form) (i : ℕ) → HoldsOne (act_of (i + 1) form) i (i + suc (form_count form))
   holds_one (num leaf) i = tt
   holds_one (octets sizing) i = tt
   holds_one (bits sizing) i = tt

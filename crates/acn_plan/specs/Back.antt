@@ -8,6 +8,7 @@ use Rattle.acn_grammar.specs.declared.node.ChoiceRule.TheVariants.{Item}
 use Rattle.acn_plan.specs.Steps.{item_named}
 use Rattle.acn_plan.specs.declared.step.Act.{Act}
 use Rattle.acn_plan.specs.declared.step.Act.TheVariants as acts
+use Rattle.acn_plan.specs.declared.step.Cases.{Cases}
 use Rattle.acn_plan.specs.declared.step.Place.{Place}
 use Rattle.acn_plan.specs.declared.step.Place.TheVariants as places
 use Rattle.acn_plan.specs.declared.step.Step.{Step}
@@ -58,7 +59,7 @@ form_in (acts.Bits sizing) next n ms = bits sizing
 form_in (acts.Text leaf) next n ms = text leaf
 form_in (acts.Seq home) next n ms = seq (fields_in 0 (next - n) n ms) home
 form_in (acts.List sizing) next n ms = list sizing (first_node ms)
-form_in (acts.Choice rule) next n ms = choice (cases_in 0 (next - n) n ms) rule
+form_in (acts.Choice cases) next n ms = choice (cases_in 0 (next - n) n ms) cases.rule
 form_in (acts.Contained sizing) next n ms = contained sizing (first_node ms)
 
 -- steps from a number on, each with its node
@@ -125,5 +126,22 @@ case_items steps k end = items_in 0 (end - k) k (drop k steps)
 -- where the number of a slot says which alternative is there, each alternative has the item of its name
 abbrev pub Itemed : Grammar → List Step → Type 0
 Itemed root steps =
-    (i : ℕ) (s : Step) (slot : ℕ) → StepAt steps i s → s.act ≡ acts.Choice (Item slot)
+    (i : ℕ) (s : Step) (cases : Cases) (slot : ℕ) → StepAt steps i s → s.act ≡ acts.Choice cases → cases.rule ≡ Item slot
     → case_items steps (i + 1) s.next ≡ map (λ name. item_named name 0 (items_of root slot)) (names_of (cases_at steps (i + 1) s.next))
+
+-- Numbers.
+
+-- the numbers of the alternatives among so many steps from a number on, behind some that are passed over
+abbrev pub numbers_in : (pass left number : ℕ) → List Step → List ℕ
+numbers_in pass zero n ss = []
+numbers_in pass (suc left) n [] = []
+numbers_in zero (suc left) n (s ∷ ss) = n ∷ numbers_in (s.next - (n + 1)) left (n + 1) ss
+numbers_in (suc pass) (suc left) n (s ∷ ss) = numbers_in pass left (n + 1) ss
+
+-- the numbers of the alternatives from step k on to an end
+abbrev pub case_places : List Step → (k end : ℕ) → List ℕ
+case_places steps k end = numbers_in 0 (end - k) k (drop k steps)
+
+-- each CHOICE has the numbers of its alternatives' steps
+abbrev pub Listed : List Step → Type 0
+Listed steps = (i : ℕ) (s : Step) (cases : Cases) → StepAt steps i s → s.act ≡ acts.Choice cases → cases.numbers ≡ case_places steps (i + 1) s.next

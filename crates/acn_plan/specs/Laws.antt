@@ -1,7 +1,7 @@
 -- Laws of steps, as contracts name them.
 use Rattle.std.specs.Prelude.{◌≡◌}
 use Rattle.acn_grammar.specs.Grammar.{Grammar}
-use Rattle.acn_plan.specs.Back.{Nested, Itemed, root_of}
+use Rattle.acn_plan.specs.Back.{Nested, Itemed, Listed, root_of}
 use Rattle.acn_plan.specs.Steps.{steps_of}
 
 -- the steps of a root, read back, are that root
@@ -19,3 +19,7 @@ StepsAreNested = (root : Grammar) → Nested (steps_of root)
 -- where the number of a slot says which alternative is there, each has the item of its name
 abbrev pub StepsAreItemed : Type 0
 StepsAreItemed = (root : Grammar) → Itemed root (steps_of root)
+
+-- each CHOICE has the numbers of its alternatives' steps
+abbrev pub StepsListTheirCases : Type 0
+StepsListTheirCases = (root : Grammar) → Listed (steps_of root)

@@ -1,10 +1,13 @@
--- What the code keeps on its way: the items by which a CHOICE is told, each with its index, and steps that have no end yet.
+-- What the code keeps on its way: the items by which a CHOICE is told, each with its index, and steps that have neither an end yet nor the numbers of
+-- their alternatives' steps.
 use Rattle.std.specs.Prelude.{ℕ, ◌+◌, ℤ, List, [], ◌∷◌}
-use Rattle.acn_grammar.specs.Grammar.{Grammar, node}
+use Rattle.acn_grammar.specs.Grammar.{Grammar, Form, node, choice}
 use Rattle.acn_grammar.specs.Slots.{items_of}
 use Rattle.acn_grammar.specs.declared.node.ChoiceRule.{ChoiceRule}
 use Rattle.acn_grammar.specs.declared.node.ChoiceRule.TheVariants.{Item}
-use Rattle.acn_plan.specs.Steps.{act_of}
+use Rattle.acn_plan.specs.Steps.{case_numbers, act_of}
+use Rattle.acn_plan.specs.declared.step.Act.{Act}
+use Rattle.acn_plan.specs.declared.step.Act.TheVariants as acts
 use Rattle.acn_plan.specs.declared.step.Place.{Place}
 use Rattle.acn_plan.specs.declared.step.Step.{Step}
 
@@ -18,9 +21,23 @@ abbrev pub item_places : (root : Grammar) → ChoiceRule → List (List ℕ × �
 item_places root (Item s) = numbered 0 (items_of root s)
 item_places root _ = []
 
--- the step of a node, without its end
-abbrev pub open_step : Place → Grammar → Step
-open_step place (node align form) = record { align = align; act = act_of form; place = place; next = 0 }
+-- the numbers of the steps of a body's alternatives, of which the first has this number
+abbrev pub form_numbers : (number : ℕ) → Form → List ℕ
+form_numbers i (choice cases rule) = case_numbers i cases
+form_numbers i _ = []
 
-abbrev pub ended : Step → (next : ℕ) → Step
-ended s next = record { align = s.align; act = s.act; place = s.place; next = next }
+-- an act with these numbers of its alternatives' steps
+abbrev pub with_numbers : List ℕ → Act → Act
+with_numbers numbers (acts.Choice cases) = acts.Choice (record { rule = cases.rule; numbers = numbers })
+with_numbers numbers act = act
+
+-- the act of a body without these numbers
+abbrev pub open_act : Form → Act
+open_act form = with_numbers [] (act_of 0 form)
+
+-- the step of a node, without its end and these numbers
+abbrev pub open_step : Place → Grammar → Step
+open_step place (node align form) = record { align = align; act = open_act form; place = place; next = 0 }
+
+abbrev pub ended : Step → (numbers : List ℕ) → (next : ℕ) → Step
+ended s numbers next = record { align = s.align; act = with_numbers numbers s.act; place = s.place; next = next }

@@ -33,16 +33,21 @@ abbrev mutual
   cases_count no_alternatives = 0
   cases_count (alternative name g tests more) = count_of g + cases_count more
 
--- the body of a node without the nodes inside it
-abbrev pub act_of : Form → Act
-act_of (num leaf) = acts.Num leaf
-act_of (octets sizing) = acts.Octets sizing
-act_of (bits sizing) = acts.Bits sizing
-act_of (text leaf) = acts.Text leaf
-act_of (seq fs home) = acts.Seq home
-act_of (list sizing g) = acts.List sizing
-act_of (choice cases rule) = acts.Choice rule
-act_of (contained sizing g) = acts.Contained sizing
+-- the numbers of the steps of alternatives, of which the first has this number
+abbrev pub case_numbers : (number : ℕ) → Alternatives → List ℕ
+case_numbers i no_alternatives = []
+case_numbers i (alternative name g tests more) = i ∷ case_numbers (i + count_of g) more
+
+-- the body of a node without the nodes inside it, of whose steps the first has this number
+abbrev pub act_of : (number : ℕ) → Form → Act
+act_of i (num leaf) = acts.Num leaf
+act_of i (octets sizing) = acts.Octets sizing
+act_of i (bits sizing) = acts.Bits sizing
+act_of i (text leaf) = acts.Text leaf
+act_of i (seq fs home) = acts.Seq home
+act_of i (list sizing g) = acts.List sizing
+act_of i (choice cases rule) = acts.Choice (record { rule = rule; numbers = case_numbers i cases })
+act_of i (contained sizing g) = acts.Contained sizing
 
 -- the index of the first item of a name
 abbrev pub item_named : (name : List ℕ) → (index : ℕ) → List (List ℕ × ℤ) → Option ℕ
@@ -59,7 +64,7 @@ module _ (root : Grammar) where
   abbrev mutual
     pub node_steps : Place → (number : ℕ) → Grammar → List Step
     node_steps place i (node align form) =
-        record { align = align; act = act_of form; place = place; next = i + suc (form_count form) } ∷ form_steps (i + 1) form
+        record { align = align; act = act_of (i + 1) form; place = place; next = i + suc (form_count form) } ∷ form_steps (i + 1) form
 
     pub form_steps : (number : ℕ) → Form → List Step
     form_steps i (seq fs home) = field_steps i fs

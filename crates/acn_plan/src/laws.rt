@@ -1,6 +1,6 @@
 //! Laws of steps, for the crates that walk over them.
 
-ghost use Rattle.acn_plan.specs.Laws.{StepsSayTheirRoot, StepsTellTheirRoot, StepsAreNested, StepsAreItemed};
+ghost use Rattle.acn_plan.specs.Laws.{StepsSayTheirRoot, StepsTellTheirRoot, StepsAreNested, StepsAreItemed, StepsListTheirCases};
 
 /// The steps of a root, read back as a tree, are that root.
 pub fn steps_say_their_root()
@@ -20,4 +20,9 @@ pub fn steps_are_nested()
 /// In the steps of a root each alternative has the item of its name, where the number of a slot says which alternative is there.
 pub fn steps_are_itemed()
     ensures { StepsAreItemed }
+{}
+
+/// In the steps of a root each CHOICE has the numbers of the steps of its alternatives.
+pub fn steps_list_their_cases()
+    ensures { StepsListTheirCases }
 {}

@@ -10,6 +10,9 @@ mod put;
 mod step;
 
 pub use compiling::compile;
-pub use laws::{steps_are_itemed, steps_are_nested, steps_say_their_root, steps_tell_their_root};
+pub use laws::{
+    steps_are_itemed, steps_are_nested, steps_list_their_cases, steps_say_their_root,
+    steps_tell_their_root,
+};
 pub use plan::Plan;
-pub use step::{Act, Place, Step};
+pub use step::{Act, Cases, Place, Step};

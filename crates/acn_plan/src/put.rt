@@ -4,8 +4,8 @@ ghost use Rattle.std.specs.Prelude.{◌≡◌, ◌+◌, ◌++◌, [], ◌∷◌,
 ghost use Rattle.acn_firsts.specs.Placed.{noted_all};
 ghost use Rattle.acn_grammar.specs.Grammar.{Grammar};
 ghost use Rattle.acn_grammar.specs.View.{grammar_of, form_of, field_of, fields_view, alternatives_view, with_field};
-ghost use Rattle.acn_plan.specs.Steps.{act_of, count_of, form_count, fields_count, cases_count, node_steps, form_steps, field_steps, case_steps, one_field_steps, item_for};
-ghost use Rattle.acn_plan.specs.Program.{item_places, open_step, ended};
+ghost use Rattle.acn_plan.specs.Steps.{case_numbers, count_of, form_count, fields_count, cases_count, node_steps, form_steps, field_steps, case_steps, one_field_steps, item_for};
+ghost use Rattle.acn_plan.specs.Program.{item_places, form_numbers, with_numbers, open_act, open_step, ended};
 ghost use Rattle.acn_plan.specs.declared.step.Step.{Step as StepData};
 ghost use Rattle.acn_plan.specs.declared.step.Place.TheVariants.{Component as Component_place, Inserted as Inserted_place, Alternative as Alternative_place};
 ghost use Rattle.acn_grammar.specs.Grammar.{no_fields};
@@ -15,15 +15,15 @@ use crate::copies::{
     leaf_of, name_of, numbers_of, optional, presence_of, sizing_of, tests_of, text_of,
 };
 use crate::items::{item_names, item_of};
-use crate::step::{Act, Place, Step};
+use crate::step::{Act, Cases, Place, Step};
 use acn_firsts::Firsts;
 use acn_grammar::{Alternative, Body, ChoiceRule, Field, Node, Presence, Test};
-use acn_num::{Name, NoMemory};
+use acn_num::{Name, NoMemory, Row};
 use std::alloc::Global;
 
-// The body of a node without the nodes inside it.
+// The body of a node without the nodes inside it, the numbers of whose steps aren't known yet.
 fn act(alloc: Global, body: &Body) -> Result<Act, NoMemory>
-    ensures { IfOk result (λ act. act ≡ act_of (form_of body.now)) }
+    ensures { IfOk result (λ act. act ≡ open_act (form_of body.now)) }
 {
     match body {
         Body::Num(leaf) => Ok(Act::Num(leaf_of(alloc, leaf)?)),
@@ -32,7 +32,10 @@ fn act(alloc: Global, body: &Body) -> Result<Act, NoMemory>
         Body::Text(leaf) => Ok(Act::Text(text_of(alloc, leaf)?)),
         Body::Seq(seq) => Ok(Act::Seq(numbers_of(alloc, seq.home.items())?)),
         Body::List(sizing, _) => Ok(Act::List(sizing_of(alloc, sizing)?)),
-        Body::Choice(choice) => Ok(Act::Choice(choice.rule)),
+        Body::Choice(choice) => Ok(Act::Choice(Cases {
+            rule: choice.rule,
+            numbers: Row::new(alloc),
+        })),
         Body::Contained(sizing, _) => Ok(Act::Contained(sizing_of(alloc, sizing)?)),
     }
 }
@@ -51,13 +54,37 @@ fn put_step(alloc: Global, node: &Node, place: Place, steps: &mut Vec<Step>) -> 
     Ok(())
 }
 
+// Gives an act the numbers of the steps of its alternatives.
+fn set_numbers(act: &mut Act, numbers: Row<u32>)
+    ensures { act.new ≡ with_numbers numbers act.old }
+{
+    match act {
+        Act::Choice(cases) => cases.numbers = numbers,
+        Act::Num(_) => {}
+        Act::Octets(_) => {}
+        Act::Bits(_) => {}
+        Act::Text(_) => {}
+        Act::Seq(_) => {}
+        Act::List(_) => {}
+        Act::Contained(_) => {}
+    }
+}
+
+fn end(step: &mut Step, numbers: Row<u32>, next: u32)
+    ensures { step.new ≡ ended step.old numbers next }
+{
+    set_numbers(&mut step.act, numbers);
+    step.next = next;
+}
+
 // Ends a step behind the last one.
-fn end_step(at: usize, steps: &mut Vec<Step>)
+fn end_step(at: usize, numbers: Row<u32>, steps: &mut Vec<Step>)
     requires there { at < length steps.old.items }
     requires few { length steps.old.items < 2 ^ 32 }
-    ensures { (front behind : List StepData) (s : StepData) → length front ≡ at → steps.old.items ≡ front ++ s ∷ behind → steps.new.items ≡ front ++ ended s (length steps.old.items) ∷ behind }
+    ensures { (front behind : List StepData) (s : StepData) → length front ≡ at → steps.old.items ≡ front ++ s ∷ behind → steps.new.items ≡ front ++ ended s numbers (length steps.old.items) ∷ behind }
 {
-    steps[at].next = steps.len() as u32;
+    let next = steps.len() as u32;
+    end(&mut steps[at], numbers, next);
 }
 
 fn component_place(
@@ -115,24 +142,37 @@ pub fn put_node(
 {
     let at = steps.len();
     put_step(alloc, node, place, steps)?;
-    put_body(alloc, &node.body, root, steps)?;
-    end_step(at, steps);
+    let numbers = put_body(alloc, &node.body, root, steps)?;
+    end_step(at, numbers, steps);
     Ok(())
 }
 
+// Adds the steps of what is inside a node. The answer is the numbers of the steps of its alternatives.
 #[cycle(put)]
-fn put_body(alloc: Global, body: &Body, root: &Node, steps: &mut Vec<Step>) -> Result<(), NoMemory>
+fn put_body(
+    alloc: Global,
+    body: &Body,
+    root: &Node,
+    steps: &mut Vec<Step>,
+) -> Result<Row<u32>, NoMemory>
     requires few { length steps.old.items + form_count (form_of body.now) < 2 ^ 32 }
     requires items { (s : ℕ) → length (items_of (grammar_of root.now) s) < 2 ^ 32 }
-    ensures { OnOk result (steps.new.items ≡ steps.old.items ++ form_steps (grammar_of root.now) (length steps.old.items) (form_of body.now)) }
+    ensures put { OnOk result (steps.new.items ≡ steps.old.items ++ form_steps (grammar_of root.now) (length steps.old.items) (form_of body.now)) }
+    ensures numbers { IfOk result (λ numbers. numbers ≡ form_numbers (length steps.old.items) (form_of body.now)) }
 {
     match body {
-        Body::Num(_) => Ok(()),
-        Body::Octets(_) => Ok(()),
-        Body::Bits(_) => Ok(()),
-        Body::Text(_) => Ok(()),
-        Body::Seq(seq) => put_fields(alloc, seq.fields.items(), root, steps),
-        Body::List(_, element) => put_node(alloc, element.get(), root, Place::Element, steps),
+        Body::Num(_) => Ok(Row::new(alloc)),
+        Body::Octets(_) => Ok(Row::new(alloc)),
+        Body::Bits(_) => Ok(Row::new(alloc)),
+        Body::Text(_) => Ok(Row::new(alloc)),
+        Body::Seq(seq) => {
+            put_fields(alloc, seq.fields.items(), root, steps)?;
+            Ok(Row::new(alloc))
+        }
+        Body::List(_, element) => {
+            put_node(alloc, element.get(), root, Place::Element, steps)?;
+            Ok(Row::new(alloc))
+        }
         Body::Choice(choice) => put_cases(
             alloc,
             choice.alternatives.items(),
@@ -140,7 +180,10 @@ fn put_body(alloc: Global, body: &Body, root: &Node, steps: &mut Vec<Step>) -> R
             root,
             steps,
         ),
-        Body::Contained(_, content) => put_node(alloc, content.get(), root, Place::Content, steps),
+        Body::Contained(_, content) => {
+            put_node(alloc, content.get(), root, Place::Content, steps)?;
+            Ok(Row::new(alloc))
+        }
     }
 }
 
@@ -190,6 +233,7 @@ fn put_field(
     }
 }
 
+// Adds the steps of alternatives. The answer is the number of the first of each.
 #[cycle(put)]
 fn put_cases(
     alloc: Global,
@@ -197,16 +241,19 @@ fn put_cases(
     rule: &ChoiceRule,
     root: &Node,
     steps: &mut Vec<Step>,
-) -> Result<(), NoMemory>
+) -> Result<Row<u32>, NoMemory>
     requires few { length steps.old.items + cases_count (alternatives_view alternatives.now) < 2 ^ 32 }
     requires items { (s : ℕ) → length (items_of (grammar_of root.now) s) < 2 ^ 32 }
-    ensures { OnOk result (steps.new.items ≡ steps.old.items ++ case_steps (grammar_of root.now) rule.now (length steps.old.items) (alternatives_view alternatives.now)) }
+    ensures put { OnOk result (steps.new.items ≡ steps.old.items ++ case_steps (grammar_of root.now) rule.now (length steps.old.items) (alternatives_view alternatives.now)) }
+    ensures numbers { IfOk result (λ numbers. numbers ≡ case_numbers (length steps.old.items) (alternatives_view alternatives.now)) }
 {
     let names = item_names(alloc, root, rule)?;
+    let mut numbers = Row::new(alloc);
     for alternative in alternatives {
+        numbers.push(steps.len() as u32)?;
         put_case(alloc, alternative, rule, &names, root, steps)?;
     }
-    Ok(())
+    Ok(numbers)
 }
 
 #[cycle(put)]

@@ -29,10 +29,19 @@ pub enum Act {
     Seq(Row<u32>),
     /// SEQUENCE OF; its sizes count elements.
     List(Sizing),
-    /// CHOICE, with what says which alternative is there.
-    Choice(ChoiceRule),
+    /// CHOICE, with its alternatives.
+    Choice(Cases),
     /// OCTET STRING (CONTAINING ..); its sizes count octets.
     Contained(Sizing),
+}
+
+/// The alternatives of a CHOICE without the nodes inside it.
+#[derive(Drop)]
+pub struct Cases {
+    /// What says which of them is there.
+    pub rule: ChoiceRule,
+    /// The numbers of their steps, in order.
+    pub numbers: Row<u32>,
 }
 
 /// Where a node stands in the one round it, with what that one says of it. What the fields mean stands at `Field` and `Alternative` of

@@ -115,7 +115,7 @@ no_steps (acts.Octets sizing) next n ms s e = refl
 no_steps (acts.Bits sizing) next n ms s e = refl
 no_steps (acts.Text leaf) next n ms s e = refl
 no_steps (acts.List sizing) next n ms s e = refl
-no_steps (acts.Choice rule) next n ms s e = refl
+no_steps (acts.Choice cases) next n ms s e = refl
 no_steps (acts.Contained sizing) next n ms s e = refl
 
 pub no_here : (a : Act) (next n : ℕ) (ms : List Mark) (s : ℕ) → is_sequence a ≡ false → form_here (form_in a next n ms) s ≡ None
@@ -125,7 +125,7 @@ no_here (acts.Octets sizing) next n ms s e = refl
 no_here (acts.Bits sizing) next n ms s e = refl
 no_here (acts.Text leaf) next n ms s e = refl
 no_here (acts.List sizing) next n ms s e = refl
-no_here (acts.Choice rule) next n ms s e = refl
+no_here (acts.Choice cases) next n ms s e = refl
 no_here (acts.Contained sizing) next n ms s e = refl
 
 -- the same of a step

@@ -63,7 +63,7 @@ fn push_act(alloc: Global, act: &Act, words: &mut String) -> Result<(), NoMemory
         Act::Text(leaf) => push_text(leaf, words),
         Act::Seq(home) => push_sequence(home.items(), words),
         Act::List(sizing) => push_sized("list", sizing, words),
-        Act::Choice(rule) => push_choice(*rule, words),
+        Act::Choice(cases) => push_choice(cases.rule, words),
         Act::Contained(sizing) => push_sized("contained", sizing, words),
     }
 }

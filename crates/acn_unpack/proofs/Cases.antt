@@ -8,7 +8,6 @@ use Rattle.acn_plan.specs.Back.{StepAt, cases_at, put_case}
 use Rattle.acn_plan.specs.declared.step.Place.{Place}
 use Rattle.acn_plan.specs.declared.step.Place.TheVariants as places
 use Rattle.acn_plan.specs.declared.step.Step.{Step}
-use Rattle.acn_plan.proofs.Marks.{cases_none}
 use Rattle.acn_unpack.specs.Items.{is_item, first_item}
 
 pub one_case : (p : Place) (g : Grammar) (more : Alternatives) → count_of (put_case p g more) ≡ suc (count_of more)
@@ -34,14 +33,6 @@ case_later (places.Component name presence default slot) g more i = refl
 case_later (places.Inserted name slot) g more i = refl
 case_later places.Element g more i = refl
 case_later places.Content g more i = refl
-
--- where there is an alternative the end isn't reached
-pub some_case : (steps : List Step) (k end : ℕ) → 0 < count_of (cases_at steps k end) → k < end
-some_case steps k end h = by (end - k) refl
-  where
-    by : (n : ℕ) → n ≡ end - k → k < end
-    by zero e = (let le : end ≤ k = omega (arith, e) in let n = ap count_of (cases_none steps k end le) in absurd (omega (arith, h, n)))
-    by (suc n) e = omega (arith, e)
 
 pub holds_case : (p : List ℕ → List Test → Bool) (i : ℕ) (name : List ℕ) (g : Grammar) (tests : List Test) (more : Alternatives) → p name tests ≡ true → first_case p i (alternative name g tests more) ≡ Some i
 holds_case p i name g tests more e = rw e refl

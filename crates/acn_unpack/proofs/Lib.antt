@@ -1,4 +1,5 @@
 mod Cases
+mod Chosen
 mod Halting
 mod ItemCases
 mod Kept

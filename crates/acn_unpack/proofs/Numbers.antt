@@ -76,7 +76,7 @@ number_act (acts.Bits sizing) align next n i ss h = absurd h
 number_act (acts.Text leaf) align next n i ss h = absurd h
 number_act (acts.Seq home) align next n i ss h = absurd h
 number_act (acts.List sizing) align next n i ss h = absurd h
-number_act (acts.Choice rule) align next n i ss h = absurd h
+number_act (acts.Choice cases) align next n i ss h = absurd h
 number_act (acts.Contained sizing) align next n i ss h = absurd h
 
 pub no_slot : (root : Grammar) (steps : List Step) (i : ℕ) (s : Step) (k : ℕ) (slot : Option ℕ) (t : Env) (around : List ℕ) → StepAt steps i s → OwnStands root k (node_at steps i) slot t around → ((leaf : NumLeaf) → s.act ≡ acts.Num leaf → ⊥) → slot ≡ None

@@ -12,7 +12,7 @@ ghost use Rattle.acn_grammar.specs.declared.node.ChoiceRule.TheVariants.{Item};
 ghost use Rattle.acn_grammar.specs.declared.node.SizeRule.TheVariants.{Ended};
 ghost use Rattle.acn_num.specs.Ranges.{greatest};
 ghost use Rattle.acn_num.specs.declared.limits.TheConstants.{MOST_SIZE};
-ghost use Rattle.acn_plan.specs.Back.{StepAt, root_of, node_at, form_at, fields_at, cases_at, case_items, field_by};
+ghost use Rattle.acn_plan.specs.Back.{StepAt, root_of, node_at, form_at, fields_at, cases_at, case_items, case_places, field_by};
 ghost use Rattle.acn_plan.specs.Made.{IsMade};
 ghost use Rattle.acn_reads.specs.Decoded.{Fine, NodeStands, FormStands, FieldsStand, InnerStands, RunTurn, TailStops, counted, ended, NodeRead, FormRead, NodeStops, FormStops, Turn, FieldsStop};
 ghost use Rattle.acn_reads.specs.Ends.{EndedRead};
@@ -26,10 +26,10 @@ use crate::leaves::{read_leaf, read_number};
 use crate::slots::note;
 use crate::steps::{act_leaf, at, case_of, counts_of, number_leaf};
 use acn_bits::ReadCursor;
-use acn_grammar::{ChoiceRule, Pattern, Presence, ReadFault, Reason, Sizing};
+use acn_grammar::{Pattern, Presence, ReadFault, Reason, Sizing};
 use acn_num::Path;
 use acn_open_slots::SlotTable;
-use acn_plan::{Act, Place, Step};
+use acn_plan::{Act, Cases, Place, Step};
 use acn_reads::{
     Stop, is_ended, is_there, most_of, named, no_end, pad, pass_end, pattern_of, read_code,
     read_size, stands,
@@ -118,12 +118,12 @@ fn read_body<K: Keep, T: SlotTable>(
                 from,
             )
         }
-        Act::Choice(rule) => read_choice(
+        Act::Choice(cases) => read_choice(
             keep,
             steps,
             this + 1,
             step.next as usize,
-            *rule,
+            cases,
             cur,
             slots,
             path,
@@ -544,7 +544,7 @@ fn read_choice<K: Keep, T: SlotTable>(
     steps: &[Step],
     first: usize,
     end: usize,
-    rule: ChoiceRule,
+    cases: &Cases,
     cur: &mut ReadCursor<'_>,
     slots: &mut T,
     path: &mut Path,
@@ -553,17 +553,18 @@ fn read_choice<K: Keep, T: SlotTable>(
 ) -> Result<K::Kept, Stop>
     requires made { IsMade steps.now }
     requires within { end ≤ length steps.now }
-    requires items { (s : ℕ) → rule ≡ Item s → ItemsAre (root_of steps.now) s (cases_at steps.now first end) (case_items steps.now first end) }
-    requires ready { (around : List ℕ) × FormStands (root_of steps.now) (length path.old) (choice (cases_at steps.now first end) rule) (T.env slots.old) around }
+    requires row { cases.now.numbers ≡ case_places steps.now first end }
+    requires items { (s : ℕ) → cases.now.rule ≡ Item s → ItemsAre (root_of steps.now) s (cases_at steps.now first end) (case_items steps.now first end) }
+    requires ready { (around : List ℕ) × FormStands (root_of steps.now) (length path.old) (choice (cases_at steps.now first end) cases.now.rule) (T.env slots.old) around }
     requires named { AlternativesItemsNamed (cases_at steps.now first end) }
     requires fine { Fine (root_of steps.now) (T.env slots.old) }
-    ensures read { IfOk result (λ kept. (d : Data) × K.says kept d × FormRead (root_of steps.now) (choice (cases_at steps.now first end) rule) d (T.env slots.old) (T.env slots.new) cur.old cur.new) }
-    ensures fails { IfErr result (λ e. Halts (MayLack K.takes T.places) e (FormStops (root_of steps.now) (choice (cases_at steps.now first end) rule) (record { path = path.old; place = from; inside = inside }) cur.old.origin (T.env slots.old) cur.old path.new)) }
+    ensures read { IfOk result (λ kept. (d : Data) × K.says kept d × FormRead (root_of steps.now) (choice (cases_at steps.now first end) cases.now.rule) d (T.env slots.old) (T.env slots.new) cur.old cur.new) }
+    ensures fails { IfErr result (λ e. Halts (MayLack K.takes T.places) e (FormStops (root_of steps.now) (choice (cases_at steps.now first end) cases.now.rule) (record { path = path.old; place = from; inside = inside }) cur.old.origin (T.env slots.old) cur.old path.new)) }
     ensures path { OnOk result (path.new ≡ path.old) }
 {
-    match pick(cur, steps, first, end, &rule, slots.items(), inside, from) {
+    match pick(cur, steps, first, end, cases, slots.items(), inside, from) {
         Ok(i) => {
-            let this = case_of(steps, first, end, i);
+            let this = case_of(cases.numbers.items(), i);
             match read_child(keep, steps, this, i, cur, slots, path, inside) {
                 Ok(kept) => match keep.alternative(i, kept) {
                     Ok(chosen) => Ok(chosen),

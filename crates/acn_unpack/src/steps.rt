@@ -1,16 +1,17 @@
 //! Steps and their numbers.
 
-ghost use Rattle.std.specs.Prelude.{◌≡◌, ◌<◌, ◌≤◌, ◌+◌, ◌^◌, length, Some, IfSome, IfNone};
+ghost use Rattle.std.specs.Prelude.{◌≡◌, ◌<◌, ◌≤◌, ◌+◌, ◌^◌, ℕ, List, length, IfSome, IfNone};
 ghost use Rattle.acn_grammar.specs.Fails.{presence_count};
 ghost use Rattle.acn_grammar.specs.Grammar.{Grammar, Fields, Alternatives, alternative, node as a_node, num};
-ghost use Rattle.acn_grammar.specs.Fails as cases;
-ghost use Rattle.acn_reads.specs.Choices.{first_case, grammar_at};
+ghost use Rattle.acn_grammar.specs.Fails as alternatives;
+ghost use Rattle.acn_reads.specs.Choices.{first_case};
 ghost use Rattle.acn_reads.specs.Present.{all_hold_now};
-ghost use Rattle.acn_unpack.specs.Items.{name_in, is_item, first_item};
+ghost use Rattle.acn_unpack.specs.Items.{name_in, is_item, first_item, IsCase};
 ghost use Rattle.acn_grammar.specs.View.{with_field};
 ghost use Rattle.acn_grammar.specs.declared.node.NumLeaf.{NumLeaf as NumLeafData};
 ghost use Rattle.acn_plan.specs.declared.step.Act.TheVariants.{Num};
-ghost use Rattle.acn_plan.specs.Back.{StepAt, node_at, fields_at, cases_at, case_items, item_at, field_by, put_case};
+ghost use Rattle.acn_plan.specs.Back.{StepAt, node_at, fields_at, cases_at, case_items, case_places, item_at, field_by, put_case};
+ghost use Rattle.acn_plan.specs.declared.step.Step.{Step as StepData};
 ghost use Rattle.acn_plan.specs.Made.{IsMade};
 ghost use Rattle.acn_reads.specs.Steps.{IsNumber};
 
@@ -143,35 +144,19 @@ fn is_of(item: Option<u32>, x: &i128) -> bool
     }
 }
 
-/// How many alternatives there are.
-pub fn count_cases(steps: &[Step], first: usize, end: usize) -> u64
-    requires made { IsMade steps.now }
-    requires within { end ≤ length steps.now }
-    ensures { result ≡ cases.count_of (cases_at steps.now first end) }
+/// How many alternatives there are, by the numbers of their steps.
+pub fn count_cases(numbers: &[u32]) -> u64
+    ensures { (steps : List StepData) (first end : ℕ) → IsMade steps → end ≤ length steps → numbers.now ≡ case_places steps first end → result ≡ alternatives.count_of (cases_at steps first end) }
 {
-    let mut this = first;
-    let mut count = 0u64;
-    while this < end {
-        count += 1;
-        this = at(steps, this).next as usize;
-    }
-    count
+    numbers.len() as u64
 }
 
-/// The step of the alternative of an index.
-pub fn case_of(steps: &[Step], first: usize, end: usize, i: u32) -> usize
-    requires made { IsMade steps.now }
-    requires within { end ≤ length steps.now }
-    requires there { i < cases.count_of (cases_at steps.now first end) }
-    ensures from { first ≤ result }
-    ensures inside { result < length steps.now }
-    ensures is { grammar_at (cases_at steps.now first end) i ≡ Some (node_at steps.now result) }
+/// The step of the alternative of an index, by the numbers of the steps of all.
+pub fn case_of(numbers: &[u32], i: u32) -> usize
+    requires there { i < length numbers.now }
+    ensures { (steps : List StepData) (first end : ℕ) → IsMade steps → end ≤ length steps → numbers.now ≡ case_places steps first end → IsCase steps first end i result }
 {
-    let mut this = first;
-    for _ in 0..i {
-        this = at(steps, this).next as usize;
-    }
-    this
+    numbers[i as usize] as usize
 }
 
 /// The first alternative whose conditions hold.

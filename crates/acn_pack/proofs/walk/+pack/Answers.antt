@@ -18,10 +18,11 @@ use Rattle.acn_plan.proofs.Mades.{made_nested, made_itemed}
 use Rattle.acn_plan.proofs.Marks.{fields_more, fields_none}
 use Rattle.acn_writer.specs.Halts.{halt_of}
 use Rattle.acn_pack.specs.Packs.{Ran, Stopped, Packs}
-use Rattle.acn_pack.specs.Parts.{place_events, item_events, case_tests, left_of, name_in, tests_in, nth_case, IsItemed}
+use Rattle.acn_pack.specs.Parts.{place_events, item_events, case_tests, left_of, name_in, tests_in, IsItemed}
 use Rattle.acn_pack.specs.Sounds.{IsSound, FormIsSound, FieldsAreSound}
 use Rattle.acn_pack.proofs.Cases.{nth_events, no_events, cases_sound, nth_sound, is_itemed}
-use Rattle.acn_pack.proofs.Levels.{child_inside, form_by, inside, same_step}
+use Rattle.acn_pack.proofs.Chosen.{chosen_case, no_chosen}
+use Rattle.acn_pack.proofs.Levels.{child_inside, form_by, inside, same_step, step_there}
 use Rattle.acn_pack.proofs.Fields.{below, no_element}
 use Rattle.acn_pack.proofs.Paths.{back}
 use Rattle.acn_pack.proofs.Sounding.{depth_is, body_sound, form_as, num_is_fine, text_is_fine, list_is_fine, element_sound, content_sound, fields_sound, deeper, head_sound, rest_sound, own_is_number}
@@ -138,7 +139,7 @@ pack_body-pack_choice-requires g t c κs within =
     let k = length c.args.trace.now.path in
     let s = c.args.step.now in
     let same : (other : Step) → StepAt c.args.steps.now c.args.this other → s ≡ other = λ other h. same_step c.args.steps.now c.args.this s other c.requires.is h in
-    (omega (arith, c.requires.there), (within, (search rules, (search rules, (search rules, (search rules, (c.requires.made, (c.requires.there, ((λ other h. subst (λ x. x.act ≡ acts.Choice c.in-Choice.rule) (same other h) c.in-Choice.is), (λ other h. subst (λ x. FormIsSound root k (form_at c.args.steps.now c.args.this x)) (same other h) c.requires.sound))))))))))
+    (omega (arith, c.requires.there), (within, (search rules, (search rules, (search rules, (search rules, (c.requires.made, (c.requires.there, ((λ other h. subst (λ x. x.act ≡ acts.Choice c.in-Choice.cases) (same other h) c.in-Choice.is), (λ other h. subst (λ x. FormIsSound root k (form_at c.args.steps.now c.args.this x)) (same other h) c.requires.sound))))))))))
 
 pub pack_body-returns-in-Choice-clause-packs : goal.pack_body-returns-in-Choice-clause-packs
 pack_body-returns-in-Choice-clause-packs g t c = c.pack_choice.ensures.packs c.args.step.now c.requires.is
@@ -600,65 +601,63 @@ pack_choice-returns-in-None-clause-packs g t c s h =
     let root = root_of c.args.steps.now in
     let cases = cases_at c.args.steps.now (c.args.this + 1) s.next in
     nothing (form_events root (form_at c.args.steps.now c.args.this s) c.args.trace.now.path (data_of c.args.v.now)) c.args.w.now
-    (ap (λ f. form_events root f c.args.trace.now.path (data_of c.args.v.now)) (form_by c.args.steps.now c.args.this s (acts.Choice c.args.rule) (c.requires.is s h)) ∙ c.in-None.ensures.none root cases c.args.rule c.args.trace.now.path)
-
-pub pack_chosen-case_of-requires : goal.pack_chosen-case_of-requires
-pack_chosen-case_of-requires g t c = record { made = c.requires.made; within = (made_nested c.args.steps.now c.requires.made c.args.this c.at-step.result.now c.at-step.ensures).within }
+    (ap (λ f. form_events root f c.args.trace.now.path (data_of c.args.v.now)) (form_by c.args.steps.now c.args.this s (acts.Choice c.args.cases.now) (c.requires.is s h)) ∙ c.in-None.ensures.none root cases c.args.cases.now.rule c.args.trace.now.path)
 
 pub pack_chosen-pack_case-requires : goal.pack_chosen-pack_case-requires
 pack_chosen-pack_case-requires g t c κs within =
     let root = root_of c.args.steps.now in
     let k = length c.args.trace.now.path in
-    let s = c.at-step.result.now in
+    let st = step_there c.args.steps.now c.args.this c.requires.there in
+    let s = st.0 in
     let cases = cases_at c.args.steps.now (c.args.this + 1) s.next in
-    let act = c.requires.is s c.at-step.ensures in
-    let sound = form_as root k (form_at c.args.steps.now c.args.this s) (choice cases c.args.rule) (form_by c.args.steps.now c.args.this s (acts.Choice c.args.rule) act) (c.requires.sound s c.at-step.ensures) in
-    let here = c.in-Some.ensures.there in
-    let itemed : (other : Step) → StepAt c.args.steps.now c.in-Some.case other → IsItemed root c.args.rule other.place = λ other h. subst (λ x. IsItemed root c.args.rule x.place) (same_step c.args.steps.now c.in-Some.case here.step other here.at h)
-    (is_itemed root k cases c.args.rule (case_items c.args.steps.now (c.args.this + 1) s.next) c.args.i _ here.step.place sound (λ slot e. made_itemed c.args.steps.now c.requires.made c.args.this s slot c.at-step.ensures (act ∙ ap acts.Choice e)) here.is refl here.item) in
-    (omega (arith, here.from, c.requires.there), (within, (search rules, (search rules, (search rules, (search rules, (c.requires.made, (inside c.args.steps.now c.in-Some.case here.step here.at, (nth_sound root (suc k) cases c.args.i _ (cases_sound root k cases c.args.rule sound) here.is, itemed)))))))))
+    let act = c.requires.is s st.1 in
+    let sound = form_as root k (form_at c.args.steps.now c.args.this s) (choice cases c.args.cases.now.rule) (form_by c.args.steps.now c.args.this s (acts.Choice c.args.cases.now) act) (c.requires.sound s st.1) in
+    let here = chosen_case c.args.steps.now c.requires.made c.args.this s c.args.cases.now c.items.result.now st.1 act c.items.ensures c.in-Some.ensures.there in
+    let itemed : (other : Step) → StepAt c.args.steps.now c.in-Some.case other → IsItemed root c.args.cases.now.rule other.place = λ other h. subst (λ x. IsItemed root c.args.cases.now.rule x.place) (same_step c.args.steps.now c.in-Some.case here.step other here.at h)
+    (is_itemed root k cases c.args.cases.now.rule (case_items c.args.steps.now (c.args.this + 1) s.next) c.args.i _ here.step.place sound (λ slot e. made_itemed c.args.steps.now c.requires.made c.args.this s c.args.cases.now slot st.1 act e) here.is refl here.item) in
+    (omega (arith, here.from, c.requires.there), (within, (search rules, (search rules, (search rules, (search rules, (c.requires.made, (inside c.args.steps.now c.in-Some.case here.step here.at, (nth_sound root (suc k) cases c.args.i _ (cases_sound root k cases c.args.cases.now.rule sound) here.is, itemed)))))))))
 
 pub pack_chosen-returns-in_err-put_index-clause-packs : goal.pack_chosen-returns-in_err-put_index-clause-packs
 pack_chosen-returns-in_err-put_index-clause-packs g t c s h =
     let root = root_of c.args.steps.now in
     let p = c.args.trace.now.path in
     let d = data_of c.args.v.now in
+    let rule = c.args.cases.now.rule in
     let cases = cases_at c.args.steps.now (c.args.this + 1) s.next in
-    let form = form_by c.args.steps.now c.args.this s (acts.Choice c.args.rule) (c.requires.is s h) in
-    let whole = form_events root (choice cases c.args.rule) p (alt c.args.i d) in
+    let form = form_by c.args.steps.now c.args.this s (acts.Choice c.args.cases.now) (c.requires.is s h) in
+    let whole = form_events root (choice cases c.args.cases.now.rule) p (alt c.args.i d) in
     packs_as whole (form_events root (form_at c.args.steps.now c.args.this s) p (alt c.args.i d)) c.args.w.now c.put_index.new.w p c.put_index.new.why c.from_residual.result (ap (λ f. form_events root f p (alt c.args.i d)) (sym form))
-    (failed_some whole (index_events c.args.rule c.args.i) (case_events root cases c.args.rule p c.args.i c.args.i d) p c.args.w.now c.args.w.now c.put_index.new.w c.put_index.new.why c.in_err-put_index.field-0.0 c.from_residual.result c.from_residual.ensures.1 (begin whole c.args.w.now) (c.in_err-put_index.ensures p))
+    (failed_some whole (index_events rule c.args.i) (case_events root cases rule p c.args.i c.args.i d) p c.args.w.now c.args.w.now c.put_index.new.w c.put_index.new.why c.in_err-put_index.field-0.0 c.from_residual.result c.from_residual.ensures.1 (begin whole c.args.w.now) (c.in_err-put_index.ensures p))
 
 pub pack_chosen-returns-in-Some-clause-packs : goal.pack_chosen-returns-in-Some-clause-packs
 pack_chosen-returns-in-Some-clause-packs g t c s h =
     let root = root_of c.args.steps.now in
     let p = c.args.trace.now.path in
     let d = data_of c.args.v.now in
-    let same = same_step c.args.steps.now c.args.this c.at-step.result.now s c.at-step.ensures h in
+    let rule = c.args.cases.now.rule in
     let cases = cases_at c.args.steps.now (c.args.this + 1) s.next in
-    let form = form_by c.args.steps.now c.args.this s (acts.Choice c.args.rule) (c.requires.is s h) in
-    let whole = form_events root (choice cases c.args.rule) p (alt c.args.i d) in
-    let here = c.in-Some.ensures.there in
-    let is = ap (λ x. nth_case (cases_at c.args.steps.now (c.args.this + 1) x.next) c.args.i) (sym same) ∙ here.is in
-    let one = nth_events root c.args.rule p cases c.args.i c.args.i _ d is in
+    let form = form_by c.args.steps.now c.args.this s (acts.Choice c.args.cases.now) (c.requires.is s h) in
+    let whole = form_events root (choice cases c.args.cases.now.rule) p (alt c.args.i d) in
+    let here = chosen_case c.args.steps.now c.requires.made c.args.this s c.args.cases.now c.items.result.now h (c.requires.is s h) c.items.ensures c.in-Some.ensures.there in
+    let one = nth_events root rule p cases c.args.i c.args.i _ d here.is in
     packs_as whole (form_events root (form_at c.args.steps.now c.args.this s) p (alt c.args.i d)) c.args.w.now c.pack_case.new.w c.pack_case.new.trace.path c.pack_case.new.trace.why c.pack_case.result (ap (λ f. form_events root f p (alt c.args.i d)) (sym form))
-    (last whole (case_events root cases c.args.rule p c.args.i c.args.i d) c.args.w.now c.put_index.new.w c.pack_case.new.w c.pack_case.new.trace.path c.pack_case.new.trace.why c.pack_case.result
-    (then_some whole (index_events c.args.rule c.args.i) (case_events root cases c.args.rule p c.args.i c.args.i d) c.args.w.now c.args.w.now c.put_index.new.w (begin whole c.args.w.now) (c.in_ok-put_index.ensures p))
-    (packs_as _ (case_events root cases c.args.rule p c.args.i c.args.i d) c.put_index.new.w c.pack_case.new.w c.pack_case.new.trace.path c.pack_case.new.trace.why c.pack_case.result (sym one) (c.pack_case.ensures.packs here.step here.at)))
+    (last whole (case_events root cases rule p c.args.i c.args.i d) c.args.w.now c.put_index.new.w c.pack_case.new.w c.pack_case.new.trace.path c.pack_case.new.trace.why c.pack_case.result
+    (then_some whole (index_events rule c.args.i) (case_events root cases rule p c.args.i c.args.i d) c.args.w.now c.args.w.now c.put_index.new.w (begin whole c.args.w.now) (c.in_ok-put_index.ensures p))
+    (packs_as _ (case_events root cases rule p c.args.i c.args.i d) c.put_index.new.w c.pack_case.new.w c.pack_case.new.trace.path c.pack_case.new.trace.why c.pack_case.result (sym one) (c.pack_case.ensures.packs here.step here.at)))
 
 pub pack_chosen-returns-in-None-clause-packs : goal.pack_chosen-returns-in-None-clause-packs
 pack_chosen-returns-in-None-clause-packs g t c s h =
     let root = root_of c.args.steps.now in
     let p = c.args.trace.now.path in
     let d = data_of c.args.v.now in
-    let same = same_step c.args.steps.now c.args.this c.at-step.result.now s c.at-step.ensures h in
+    let rule = c.args.cases.now.rule in
     let cases = cases_at c.args.steps.now (c.args.this + 1) s.next in
-    let form = form_by c.args.steps.now c.args.this s (acts.Choice c.args.rule) (c.requires.is s h) in
-    let whole = form_events root (choice cases c.args.rule) p (alt c.args.i d) in
-    let rest = case_events root cases c.args.rule p c.args.i c.args.i d in
-    let none = ap (λ x. nth_case (cases_at c.args.steps.now (c.args.this + 1) x.next) c.args.i) (sym same) ∙ c.in-None.ensures.none in
+    let form = form_by c.args.steps.now c.args.this s (acts.Choice c.args.cases.now) (c.requires.is s h) in
+    let whole = form_events root (choice cases c.args.cases.now.rule) p (alt c.args.i d) in
+    let rest = case_events root cases rule p c.args.i c.args.i d in
+    let none = no_chosen c.args.steps.now c.requires.made c.args.this s c.args.cases.now c.items.result.now h (c.requires.is s h) c.items.ensures c.args.i c.in-None.ensures.none in
     subst (λ (es : List Event). Ran es c.args.w.now c.put_index.new.w) (ap (λ f. form_events root f p (alt c.args.i d)) (sym form))
-    (ended whole c.args.w.now c.put_index.new.w (left_as whole rest [] c.args.w.now c.put_index.new.w (no_events root c.args.rule p cases c.args.i c.args.i d none) (then_some whole (index_events c.args.rule c.args.i) rest c.args.w.now c.args.w.now c.put_index.new.w (begin whole c.args.w.now) (c.in_ok-put_index.ensures p))))
+    (ended whole c.args.w.now c.put_index.new.w (left_as whole rest [] c.args.w.now c.put_index.new.w (no_events root rule p cases c.args.i c.args.i d none) (then_some whole (index_events rule c.args.i) rest c.args.w.now c.args.w.now c.put_index.new.w (begin whole c.args.w.now) (c.in_ok-put_index.ensures p))))
 
 pub pack_case-push-requires : goal.pack_case-push-requires
 pack_case-push-requires g t c =

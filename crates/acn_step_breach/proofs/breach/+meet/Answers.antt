@@ -62,11 +62,11 @@ body_meets-returns-in-List-clause-answer t c =
 pub body_meets-choice_meets-requires : goal.body_meets-choice_meets-requires
 body_meets-choice_meets-requires t c =
     let u = c.requires.there in
-    (omega (arith, u), (c.requires.made, ((made_nested c.args.steps.now c.requires.made c.args.this c.args.step.now c.requires.is).within, choice_room (form_at c.args.steps.now c.args.this c.args.step.now) (cases_at c.args.steps.now (c.args.this + 1) c.args.step.now.next) c.in-Choice.field-0 (length c.args.path.now) (form_by c.args.steps.now c.args.this c.args.step.now (acts.Choice c.in-Choice.field-0) c.in-Choice.is) c.requires.room)))
+    (omega (arith, u), (c.requires.made, ((made_nested c.args.steps.now c.requires.made c.args.this c.args.step.now c.requires.is).within, choice_room (form_at c.args.steps.now c.args.this c.args.step.now) (cases_at c.args.steps.now (c.args.this + 1) c.args.step.now.next) c.in-Choice.field-0.rule (length c.args.path.now) (form_by c.args.steps.now c.args.this c.args.step.now (acts.Choice c.in-Choice.field-0) c.in-Choice.is) c.requires.room)))
 
 pub body_meets-returns-in-Choice-clause-answer : goal.body_meets-returns-in-Choice-clause-answer
 body_meets-returns-in-Choice-clause-answer t c =
-    form_breaks _ (form_at c.args.steps.now c.args.this c.args.step.now) (choice (cases_at c.args.steps.now (c.args.this + 1) c.args.step.now.next) c.in-Choice.field-0) c.args.path.now (data_of c.args.v.now) (form_by c.args.steps.now c.args.this c.args.step.now (acts.Choice c.in-Choice.field-0) c.in-Choice.is) (c.choice_meets.ensures.answer c.in-Choice.field-0)
+    form_breaks _ (form_at c.args.steps.now c.args.this c.args.step.now) (choice (cases_at c.args.steps.now (c.args.this + 1) c.args.step.now.next) c.in-Choice.field-0.rule) c.args.path.now (data_of c.args.v.now) (form_by c.args.steps.now c.args.this c.args.step.now (acts.Choice c.in-Choice.field-0) c.in-Choice.is) (c.choice_meets.ensures.answer c.in-Choice.field-0.rule)
 
 pub body_meets-child_meets-requires : goal.body_meets-child_meets-requires
 body_meets-child_meets-requires t c =

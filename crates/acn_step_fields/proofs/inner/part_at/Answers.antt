@@ -21,7 +21,7 @@ returns-in-Seq-clause-is c =
 
 pub returns-in-Choice-clause-is : goal.returns-in-Choice-clause-is
 returns-in-Choice-clause-is c =
-    part_by _ (node_at c.args.steps.now c.args.this) c.args.step.now.align (form_at c.args.steps.now c.args.this c.args.step.now) (choice (cases_at c.args.steps.now (c.args.this + 1) c.args.step.now.next) c.in-Choice.field-0) c.args.number (node_is c.args.steps.now c.args.this c.args.step.now c.requires.is) (form_by c.args.steps.now c.args.this c.args.step.now (acts.Choice c.in-Choice.field-0) c.in-Choice.is) c.inner_at-in-Choice.ensures.case
+    part_by _ (node_at c.args.steps.now c.args.this) c.args.step.now.align (form_at c.args.steps.now c.args.this c.args.step.now) (choice (cases_at c.args.steps.now (c.args.this + 1) c.args.step.now.next) c.in-Choice.field-0.rule) c.args.number (node_is c.args.steps.now c.args.this c.args.step.now c.requires.is) (form_by c.args.steps.now c.args.this c.args.step.now (acts.Choice c.in-Choice.field-0) c.in-Choice.is) c.inner_at-in-Choice.ensures.case
 
 pub returns-in-List-clause-is : goal.returns-in-List-clause-is
 returns-in-List-clause-is c =

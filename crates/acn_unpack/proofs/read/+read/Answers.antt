@@ -13,7 +13,7 @@ use Rattle.acn_grammar.specs.LeafFails.{content_size}
 use Rattle.acn_grammar.specs.View.{OneField, with_field, elements_of, places_of}
 use Rattle.acn_plan.specs.Back.{root_of, node_at, form_at, fields_at, cases_at, field_by}
 use Rattle.acn_plan.specs.declared.step.Act.TheVariants as acts
-use Rattle.acn_plan.proofs.Mades.{made_nested, made_itemed}
+use Rattle.acn_plan.proofs.Mades.{made_nested, made_itemed, made_listed}
 use Rattle.acn_plan.proofs.Marks.{node_is, fields_more, fields_none}
 use Rattle.acn_reads.specs.Decoded.{FormRead, FormStops, NodeRead, NodeStops, NodeStands, FieldsStand, FieldsStop, Turn}
 use Rattle.acn_reads.specs.Present.{there_now}
@@ -25,6 +25,7 @@ use Rattle.acn_reads.proofs.Runs.{contained_rule, contained_inner, contained_rea
 use Rattle.acn_reads.proofs.SlotTurns.{component_read}
 use Rattle.acn_reads.proofs.StringReads.{octets_rule, bits_rule, text_rule}
 use Rattle.acn_reads.proofs.Turns.{bit_is, there_told, away_turn, component_stops, no_turn, depth_is}
+use Rattle.acn_unpack.proofs.Chosen.{cases_counted}
 use Rattle.acn_unpack.proofs.Levels.{form_by, node_of_number, body_ready, body_named, form_ready, child_inside}
 use Rattle.acn_unpack.proofs.Seqs.{flags_are, fields_ready, seq_read_at, seq_fails_at, seq_short_at, field_named, component_ready, inserted_ready, next_field_ready}
 use Rattle.acn_unpack.proofs.Halting.{halts_map, stops_map, fault_map}
@@ -541,44 +542,47 @@ read_choice-pick-requires types t c =
     record {
       made = c.requires.made;
       within = c.requires.within;
+      row = c.requires.row;
       few = r.1.is.1;
       items = c.requires.items;
-      known = subst (RuleKnown c.args.rule (cases_at c.args.steps.now c.args.first c.args.end)) (sym c.items.ensures) (choice_known (root_of c.args.steps.now) (cases_at c.args.steps.now c.args.first c.args.end) c.args.rule (length c.args.path.now) (types.T.SlotTable.env c.args.slots.now) r.0 c.requires.fine r.1);
-      fits = index_fits (cases_at c.args.steps.now c.args.first c.args.end) c.args.rule r.1.is.0 r.1.is.1;
+      known = subst (RuleKnown c.args.cases.now.rule (cases_at c.args.steps.now c.args.first c.args.end)) (sym c.items.ensures) (choice_known (root_of c.args.steps.now) (cases_at c.args.steps.now c.args.first c.args.end) c.args.cases.now.rule (length c.args.path.now) (types.T.SlotTable.env c.args.slots.now) r.0 c.requires.fine r.1);
+      fits = index_fits (cases_at c.args.steps.now c.args.first c.args.end) c.args.cases.now.rule r.1.is.0 r.1.is.1;
     }
 
 pub read_choice-case_of-this-requires : goal.read_choice-case_of-this-requires
 read_choice-case_of-this-requires types t c =
-    record { made = c.requires.made; within = c.requires.within; there = c.in-Ok.ensures.picked.there }
+    let counted = ap length (c.items-in-Ok.ensures ∙ c.requires.row) ∙ cases_counted c.args.steps.now (made_nested c.args.steps.now c.requires.made) c.args.end c.requires.within c.args.first in
+    let there = c.in-Ok.ensures.picked.there in
+    omega (arith, there, counted)
 
 pub read_choice-read_child-requires : goal.read_choice-read_child-requires
 read_choice-read_child-requires types t c κs within =
     let r = c.requires.ready in
-    let w = c.case_of-this.ensures in
+    let w = c.case_of-this.ensures c.args.steps.now c.args.first c.args.end c.requires.made c.requires.within (c.items-in-Ok.ensures ∙ c.requires.row) in
     let a = w.from in
     let b = w.inside in
     (omega (arith, a, b), (within.0, (within.1.0, (within.1.1.0, (within.1.1.1.0, (within.1.1.1.1, (c.requires.made, (w.inside, ((r.0, record { known = r.1.known; noted = r.1.noted; is = (case_sound (root_of c.args.steps.now) (suc (length c.args.path.now)) r.0 r.1.known (cases_at c.args.steps.now c.args.first c.args.end) c.in-Ok.i (node_at c.args.steps.now c.case_of-this.result) w.is r.1.is.3).1 }), (case_named (cases_at c.args.steps.now c.args.first c.args.end) c.in-Ok.i (node_at c.args.steps.now c.case_of-this.result) w.is c.requires.named, c.requires.fine))))))))))
 
 pub read_choice-returns-in-Err-read_child-clause-fails : goal.read_choice-returns-in-Err-read_child-clause-fails
 read_choice-returns-in-Err-read_child-clause-fails types t c =
-    halts_map c.in-Err-read_child.stop _ _ _ _ (λ x. x) (λ q at s. choice_fails (root_of c.args.steps.now) (record { path = c.args.path.now; place = c.args.from; inside = c.args.inside }) (cases_at c.args.steps.now c.args.first c.args.end) c.args.rule c.in-Ok.i (node_at c.args.steps.now c.case_of-this.result) (types.T.SlotTable.env c.args.slots.now) c.args.cur.now c.pick.new.cur _ q at c.case_of-this.ensures.is (subst (λ (x : Env). Picked (root_of c.args.steps.now) (cases_at c.args.steps.now c.args.first c.args.end) c.args.rule x c.args.cur.now c.pick.new.cur c.in-Ok.i) c.items.ensures c.in-Ok.ensures.picked) s) c.in-Err-read_child.ensures.fails
+    halts_map c.in-Err-read_child.stop _ _ _ _ (λ x. x) (λ q at s. choice_fails (root_of c.args.steps.now) (record { path = c.args.path.now; place = c.args.from; inside = c.args.inside }) (cases_at c.args.steps.now c.args.first c.args.end) c.args.cases.now.rule c.in-Ok.i (node_at c.args.steps.now c.case_of-this.result) (types.T.SlotTable.env c.args.slots.now) c.args.cur.now c.pick.new.cur _ q at (c.case_of-this.ensures c.args.steps.now c.args.first c.args.end c.requires.made c.requires.within (c.items-in-Ok.ensures ∙ c.requires.row)).is (subst (λ (x : Env). Picked (root_of c.args.steps.now) (cases_at c.args.steps.now c.args.first c.args.end) c.args.cases.now.rule x c.args.cur.now c.pick.new.cur c.in-Ok.i) c.items.ensures c.in-Ok.ensures.picked) s) c.in-Err-read_child.ensures.fails
 
 pub read_choice-returns-in-Err-clause-fails : goal.read_choice-returns-in-Err-clause-fails
 read_choice-returns-in-Err-clause-fails types t c =
-    halts_map c.in-Err.stop _ _ _ _ (λ x. absurd x) (λ q at s. choice_none (root_of c.args.steps.now) (record { path = c.args.path.now; place = c.args.from; inside = c.args.inside }) (cases_at c.args.steps.now c.args.first c.args.end) c.args.rule (types.T.SlotTable.env c.args.slots.now) c.args.cur.now q at c.requires.fine (subst (λ (x : Env). Named c.args.inside c.args.from (NoCase (root_of c.args.steps.now) (cases_at c.args.steps.now c.args.first c.args.end) c.args.rule x c.args.cur.now) q at) c.items.ensures s)) c.in-Err.ensures.fails
+    halts_map c.in-Err.stop _ _ _ _ (λ x. absurd x) (λ q at s. choice_none (root_of c.args.steps.now) (record { path = c.args.path.now; place = c.args.from; inside = c.args.inside }) (cases_at c.args.steps.now c.args.first c.args.end) c.args.cases.now.rule (types.T.SlotTable.env c.args.slots.now) c.args.cur.now q at c.requires.fine (subst (λ (x : Env). Named c.args.inside c.args.from (NoCase (root_of c.args.steps.now) (cases_at c.args.steps.now c.args.first c.args.end) c.args.cases.now.rule x c.args.cur.now) q at) c.items.ensures s)) c.in-Err.ensures.fails
 
 pub read_body-read_choice-requires : goal.read_body-read_choice-requires
 read_body-read_choice-requires types t c κs within =
     let u = c.requires.there in
-    (omega (arith, u), (within.0, (within.1.0, (within.1.1.0, (within.1.1.1.0, (within.1.1.1.1, (c.requires.made, ((made_nested c.args.steps.now c.requires.made c.args.this c.args.step.now c.requires.is).within, ((λ s e. made_itemed c.args.steps.now c.requires.made c.args.this c.args.step.now s c.requires.is (c.in-Choice.is ∙ ap acts.Choice e)), (form_ready (root_of c.args.steps.now) (form_at c.args.steps.now c.args.this c.args.step.now) (choice (cases_at c.args.steps.now (c.args.this + 1) c.args.step.now.next) c.in-Choice.rule) (length c.args.path.now) (types.T.SlotTable.env c.args.slots.now) (form_by c.args.steps.now c.args.this c.args.step.now (acts.Choice c.in-Choice.rule) c.in-Choice.is) c.requires.ready, (subst FormItemsNamed (form_by c.args.steps.now c.args.this c.args.step.now (acts.Choice c.in-Choice.rule) c.in-Choice.is) c.requires.named, c.requires.fine)))))))))))
+    (omega (arith, u), (within.0, (within.1.0, (within.1.1.0, (within.1.1.1.0, (within.1.1.1.1, (c.requires.made, ((made_nested c.args.steps.now c.requires.made c.args.this c.args.step.now c.requires.is).within, (made_listed c.args.steps.now c.requires.made c.args.this c.args.step.now c.in-Choice.cases c.requires.is c.in-Choice.is, ((λ s e. made_itemed c.args.steps.now c.requires.made c.args.this c.args.step.now c.in-Choice.cases s c.requires.is c.in-Choice.is e), (form_ready (root_of c.args.steps.now) (form_at c.args.steps.now c.args.this c.args.step.now) (choice (cases_at c.args.steps.now (c.args.this + 1) c.args.step.now.next) c.in-Choice.cases.rule) (length c.args.path.now) (types.T.SlotTable.env c.args.slots.now) (form_by c.args.steps.now c.args.this c.args.step.now (acts.Choice c.in-Choice.cases) c.in-Choice.is) c.requires.ready, (subst FormItemsNamed (form_by c.args.steps.now c.args.this c.args.step.now (acts.Choice c.in-Choice.cases) c.in-Choice.is) c.requires.named, c.requires.fine))))))))))))
 
 pub read_body-returns-in-Choice-clause-read : goal.read_body-returns-in-Choice-clause-read
 read_body-returns-in-Choice-clause-read types t c =
-    ok_map c.read_choice.result _ _ (λ v f. (f.0, f.1, subst (λ (x : Form). FormRead (root_of c.args.steps.now) x f.0 (types.T.SlotTable.env c.args.slots.now) (types.T.SlotTable.env c.read_choice.new.slots) c.args.cur.now c.read_choice.new.cur) (sym (form_by c.args.steps.now c.args.this c.args.step.now (acts.Choice c.in-Choice.rule) c.in-Choice.is)) f.2)) c.read_choice.ensures.read
+    ok_map c.read_choice.result _ _ (λ v f. (f.0, f.1, subst (λ (x : Form). FormRead (root_of c.args.steps.now) x f.0 (types.T.SlotTable.env c.args.slots.now) (types.T.SlotTable.env c.read_choice.new.slots) c.args.cur.now c.read_choice.new.cur) (sym (form_by c.args.steps.now c.args.this c.args.step.now (acts.Choice c.in-Choice.cases) c.in-Choice.is)) f.2)) c.read_choice.ensures.read
 
 pub read_body-returns-in-Choice-clause-fails : goal.read_body-returns-in-Choice-clause-fails
 read_body-returns-in-Choice-clause-fails types t c =
-    stops_map c.read_choice.result _ _ _ _ (λ x. x) (λ q at s. subst (λ (x : Form). FormStops (root_of c.args.steps.now) x (record { path = c.args.path.now; place = c.args.from; inside = c.args.inside }) c.args.cur.now.origin (types.T.SlotTable.env c.args.slots.now) c.args.cur.now c.read_choice.new.path q at) (sym (form_by c.args.steps.now c.args.this c.args.step.now (acts.Choice c.in-Choice.rule) c.in-Choice.is)) s) c.read_choice.ensures.fails
+    stops_map c.read_choice.result _ _ _ _ (λ x. x) (λ q at s. subst (λ (x : Form). FormStops (root_of c.args.steps.now) x (record { path = c.args.path.now; place = c.args.from; inside = c.args.inside }) c.args.cur.now.origin (types.T.SlotTable.env c.args.slots.now) c.args.cur.now c.read_choice.new.path q at) (sym (form_by c.args.steps.now c.args.this c.args.step.now (acts.Choice c.in-Choice.cases) c.in-Choice.is)) s) c.read_choice.ensures.fails
 
 pub read_ended-read_elements-requires : goal.read_ended-read_elements-requires
 read_ended-read_elements-requires types t c κs within =
@@ -767,7 +771,7 @@ read_field-returns-in-Component-clause-fails types t c =
 pub read_choice-returns-in-Ok-alternative-clause-read : goal.read_choice-returns-in-Ok-alternative-clause-read
 read_choice-returns-in-Ok-alternative-clause-read types t c =
     let k = c.in-Ok-read_child.ensures.read in
-    (alt c.in-Ok.i k.0, c.in-Ok-alternative.ensures.says k.0 k.1, choice_read (root_of c.args.steps.now) (cases_at c.args.steps.now c.args.first c.args.end) c.args.rule c.in-Ok.i (node_at c.args.steps.now c.case_of-this.result) k.0 (types.T.SlotTable.env c.args.slots.now) (types.T.SlotTable.env c.read_child.new.slots) c.args.cur.now c.pick.new.cur c.read_child.new.cur c.case_of-this.ensures.is (subst (λ (x : Env). Picked (root_of c.args.steps.now) (cases_at c.args.steps.now c.args.first c.args.end) c.args.rule x c.args.cur.now c.pick.new.cur c.in-Ok.i) c.items.ensures c.in-Ok.ensures.picked) k.2)
+    (alt c.in-Ok.i k.0, c.in-Ok-alternative.ensures.says k.0 k.1, choice_read (root_of c.args.steps.now) (cases_at c.args.steps.now c.args.first c.args.end) c.args.cases.now.rule c.in-Ok.i (node_at c.args.steps.now c.case_of-this.result) k.0 (types.T.SlotTable.env c.args.slots.now) (types.T.SlotTable.env c.read_child.new.slots) c.args.cur.now c.pick.new.cur c.read_child.new.cur (c.case_of-this.ensures c.args.steps.now c.args.first c.args.end c.requires.made c.requires.within (c.items-in-Ok.ensures ∙ c.requires.row)).is (subst (λ (x : Env). Picked (root_of c.args.steps.now) (cases_at c.args.steps.now c.args.first c.args.end) c.args.cases.now.rule x c.args.cur.now c.pick.new.cur c.in-Ok.i) c.items.ensures c.in-Ok.ensures.picked) k.2)
 
 pub read_choice-returns-in-Err-alternative-clause-fails : goal.read_choice-returns-in-Err-alternative-clause-fails
 read_choice-returns-in-Err-alternative-clause-fails types t c =
