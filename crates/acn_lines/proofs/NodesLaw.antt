@@ -21,7 +21,7 @@ use Rattle.acn_json.specs.Reads.{num_from, octets_of, bits_of, ascii_of}
 use Rattle.acn_lines.specs.Taken.{LeafTaken, IsTaken, alternative_number}
 use Rattle.acn_lines.proofs.TakenLaw.{leaf_taken, content_taken, grammar_at, alternative_taken}
 
-view_num_form : (leaf : NumLeaf) → form_of (Num_body leaf) ≡ num leaf
+pub view_num_form : (leaf : NumLeaf) → form_of (Num_body leaf) ≡ num leaf
 view_num_form leaf = search (rules, node_lemmas)
 
 view_octets_form : (sizing : Sizing) → form_of (Octets_body sizing) ≡ octets sizing

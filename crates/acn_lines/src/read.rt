@@ -3,6 +3,7 @@
 ghost use Rattle.std.specs.Prelude.{◌≡◌, ◌++◌, List, ℕ, None, IfSome, OnSome, length, false};
 ghost use Rattle.serde_json.specs.Written.{members_text};
 ghost use Rattle.acn_grammar.specs.Grammar as grammar;
+ghost use Rattle.acn_grammar.specs.Grammar.{Data};
 ghost use Rattle.acn_grammar.specs.View.{grammar_of, data_of, field_of, fields_view, elements_view, places_view, alternatives_view};
 ghost use Rattle.acn_grammar.specs.declared.node.ChoiceRule.{ChoiceRule};
 ghost use Rattle.acn_grammar.specs.declared.node.Sizing.{Sizing};
@@ -10,15 +11,15 @@ ghost use Rattle.acn_lines.specs.Filled as filled;
 ghost use Rattle.acn_lines.specs.Order as spec;
 ghost use Rattle.acn_lines.specs.Taken as taken;
 ghost use Rattle.acn_lines.specs.declared.order.Order.{out-Order};
-ghost use Rattle.acn_printed.specs.Read.{IsRead};
+ghost use Rattle.acn_printed.specs.Read.{IsRead, IsNumberRead};
 
 use crate::order::Order;
 use crate::places::{alternative_called, is_whole, no_values};
 use crate::take::alternative_of;
 use crate::turns::Turn;
-use acn_grammar::{Alternative, Body, Field, Node, Presence, Value};
+use acn_grammar::{Alternative, Body, Field, Node, NumLeaf, Presence, Value};
 use acn_num::Row;
-use acn_printed::{Rest, behind, read_bits, read_characters, read_number, read_octets};
+use acn_printed::{Rest, read_bits, read_characters, read_number, read_octets};
 use std::alloc::Global;
 
 /// Reads the value of a node, if its text comes next.
@@ -135,14 +136,34 @@ fn read_turn(
     }
 }
 
-// Reads the value of a component.
+// The leaf of a node that is a number.
+#[inline]
+fn leaf_of(node: &Node) -> Option<&NumLeaf>
+    ensures { IfSome result (λ leaf. (d : Data) (old new : List ℕ) → IsNumberRead leaf.now.kind leaf.now.items.items d old new → IsRead (grammar_of node.now) d old new) }
+{
+    match &node.body {
+        Body::Num(leaf) => Some(leaf),
+        Body::Octets(_) => None,
+        Body::Bits(_) => None,
+        Body::Text(_) => None,
+        Body::Seq(_) => None,
+        Body::List(_, _) => None,
+        Body::Choice(_) => None,
+        Body::Contained(_, _) => None,
+    }
+}
+
+// Reads the value of a component. A number is read here, without a turn of the cycle.
 #[cycle(read)]
 fn read_field(alloc: Global, field: &Field, order: &Order, rest: &mut Rest<'_>) -> Option<Value>
     requires { spec.IsFieldOrder (field_of field.now) order.now }
     ensures { IfSome result (λ v. filled.IsFieldRead (field_of field.now) (data_of v) rest.old.text.now rest.new.text.now) }
 {
     match field {
-        Field::Component { node, .. } => read_node(alloc, node, order, rest),
+        Field::Component { node, .. } => match leaf_of(node) {
+            Some(leaf) => read_number(leaf, order.names.items(), rest),
+            None => read_node(alloc, node, order, rest),
+        },
         Field::Inserted { .. } => None,
     }
 }
@@ -226,15 +247,17 @@ fn has_to_come(field: Option<&Field>) -> bool {
     )
 }
 
-// Whether a line may be one that was printed, by its first key and what stands behind it. It takes no memory.
+// Whether a line may be one that was printed, by the colon of its first key and what stands behind it. It takes no memory.
 fn may_begin(fields: &[Field], turns: &[Turn], line: &[u8]) -> bool {
-    let (Some(turn), Some(members)) = (turns.first(), behind(line, b"{")) else {
+    let Some(turn) = turns.first() else {
         return true;
     };
-    match behind(members, turn.key.items()) {
-        Some(value) => !value.starts_with(b" "),
-        None => !has_to_come(fields.get(turn.field)),
+    // the brace stands in front of the key, whose last octet is the colon
+    let colon = turn.key.items().len();
+    if colon >= line.len() || line[colon] != b':' {
+        return !has_to_come(fields.get(turn.field));
     }
+    colon + 1 == line.len() || line[colon + 1] != b' '
 }
 
 /// Whether a line may be one that was printed. It takes no memory: most lines that weren't printed show it at their first key.

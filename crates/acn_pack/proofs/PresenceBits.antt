@@ -64,6 +64,11 @@ room_first a b m room = (let l = length-append a b in omega (arith, room, l))
 pub begins_ran : {N S A : ℕ} (homes : List (ℕ × List ℕ)) (bs : List Bool) (m n : Writer N S A) → Room (length bs) (state_of m) → state_of n ≡ put bs (state_of m) → n.cursor.buf.ghost_name ≡ m.cursor.buf.ghost_name → Ran (begins homes bs ∷ []) m n
 begins_ran homes bs m n room e same = record { runs = (state_of n, record { can = room; does = e }, refl); same_buffer = same }
 
+-- it has none
+pub begins_none : {N S A : ℕ} (homes : List (ℕ × List ℕ)) (bs : List Bool) (m : Writer N S A) → length bs ≡ 0 → Room (length bs) (state_of m) → Ran (begins homes bs ∷ []) m m
+begins_none homes [] m none room = begins_ran homes [] m m room (sym (put_none (state_of m))) refl
+begins_none homes (b ∷ bs) m none room = absurd (omega (arith, none))
+
 pub begins_lost : {N S A : ℕ} (homes : List (ℕ × List ℕ)) (bs : List Bool) (m : Writer N S A) → (Room (length bs) (state_of m) → ⊥) → Stopped (begins homes bs ∷ []) m m lost
 begins_lost homes bs m none = record { stops = inl (refl, none); same_buffer = refl }
 

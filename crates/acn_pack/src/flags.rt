@@ -159,6 +159,9 @@ pub fn put_flags<const N: usize, const S: usize, const A: usize>(
 {
     let count = count_flags(steps, first, end, places);
     if w.has_room(count) {
+        if count == 0 {
+            return Ok(());
+        }
         put_each(steps, first, end, places, w);
         Ok(())
     } else {

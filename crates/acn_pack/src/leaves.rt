@@ -5,7 +5,7 @@ ghost use Rattle.acn_grammar.specs.Grammar.{Grammar, octets as octets_form, bits
 ghost use Rattle.acn_grammar.specs.Leaves.{num_fine, text_fine};
 ghost use Rattle.acn_grammar.specs.Length.{number_of};
 ghost use Rattle.acn_grammar.specs.View.{data_of};
-ghost use Rattle.acn_events.specs.Event.{codes, fills};
+ghost use Rattle.acn_events.specs.Event.{aligns, codes, fills};
 ghost use Rattle.acn_events.specs.Events.{form_events, end_events, index_events};
 ghost use Rattle.acn_pack.specs.Packs.{Packs};
 
@@ -26,6 +26,21 @@ pub fn put_number<const N: usize, const S: usize, const A: usize>(
 {
     let x = v.number();
     w.code(leaf, x, why)
+}
+
+/// A number, behind the zeros that align it.
+pub fn put_aligned<const N: usize, const S: usize, const A: usize>(
+    align: u32,
+    leaf: &NumLeaf,
+    v: &Value,
+    w: &mut Writer<'_, '_, N, S, A>,
+    why: &mut Halt,
+) -> Result<(), Halted>
+    requires { IsTrue (num_fine leaf.now) }
+    ensures { (path : List ℕ) → Packs (aligns align ∷ codes leaf.now (number_of (data_of v.now)) ∷ []) w.old w.new path why.new result }
+{
+    w.align(align, why)?;
+    put_number(leaf, v, w, why)
 }
 
 fn copy_octets<const N: usize, const S: usize, const A: usize>(

@@ -18,9 +18,11 @@ ghost use Rattle.acn_pack.specs.Sounds.{IsSound, FormIsSound, FieldsAreSound};
 
 use crate::asking::{ask_presence, ask_size};
 use crate::flags::put_flags;
-use crate::leaves::{fill_home, put_bits, put_end, put_index, put_number, put_octets, put_text};
+use crate::leaves::{
+    fill_home, put_aligned, put_bits, put_end, put_index, put_number, put_octets, put_text,
+};
 use crate::parts::{ask_case, ask_item, note_own, put_inserted};
-use crate::steps::{Component, at, case_of, component_of, inserted_slot};
+use crate::steps::{Component, at, case_of, component_of, inserted_slot, number_leaf};
 use crate::trace::Trace;
 use crate::values::{case_in, elements_in, places_in};
 use acn_grammar::{ChoiceRule, Presence, Sizing, Value};
@@ -267,6 +269,7 @@ fn pack_place<'p, T, const N: usize, const S: usize, const A: usize>(
     }
 }
 
+// A component that is there. A number is put without a turn of the cycle.
 #[cycle(pack)]
 fn pack_there<'p, T, const N: usize, const S: usize, const A: usize>(
     steps: &'p [Step],
@@ -285,7 +288,11 @@ fn pack_there<'p, T, const N: usize, const S: usize, const A: usize>(
 {
     note_own(steps, this, component.slot, v, w, &mut trace.why)?;
     ask_presence(component.presence, true, w, &mut trace.why)?;
-    pack_step::<T, N, S, A>(steps, this, v, w, trace)
+    let step = at(steps, this);
+    match number_leaf(&step.act) {
+        Some(leaf) => put_aligned(step.align, leaf, v, w, &mut trace.why),
+        None => pack_step::<T, N, S, A>(steps, this, v, w, trace),
+    }
 }
 
 #[cycle(pack)]

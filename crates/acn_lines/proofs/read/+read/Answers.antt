@@ -1,7 +1,8 @@
 use Rattle.std.proofs.Common.{◌≡◌, ◌<◌, ◌++◌, ◌∷◌, [], length, refl, sym, ap, subst, ◌∙◌, arith, rules}
 use Rattle.std.proofs.lemmas.Grind.{common_steps}
-use Rattle.acn_grammar.specs.View.{grammar_of, data_of, field_of, fields_view, places_view}
+use Rattle.acn_grammar.specs.View.{a_component, grammar_of, data_of, field_of, fields_view, places_view}
 use Rattle.acn_grammar.specs.declared.node.Body.{the_lemmas as node_lemmas}
+use Rattle.acn_grammar.proofs.Views.{view_component}
 use Rattle.serde_json.specs.Written.{comma_if}
 use Rattle.acn_lines.specs.Filled.{AreFilled, AreEmpty}
 use Rattle.acn_lines.specs.Order.{IsNodeOrder, AreTurns}
@@ -9,7 +10,7 @@ use Rattle.acn_printed.specs.Read.{IsRead}
 use Rattle.acn_lines.proofs.FillingLaw.{keyed-within, none-filled, all-empty, empty-here, empty-behind, turn-more, turns-end, turn-read}
 use Rattle.acn_lines.proofs.MembersLaw.{keyed_at, placed_at}
 use Rattle.acn_lines.proofs.Parts.{field-here, field-within, orders-within, order-here, alternatives-within, alternative-here}
-use Rattle.acn_lines.proofs.ReadLaw.{seq_read, list_read, choice_read, record_read, elements_begin, elements_more, elements_end, alternative_read}
+use Rattle.acn_lines.proofs.ReadLaw.{field_read, seq_read, list_read, choice_read, record_read, elements_begin, elements_more, elements_end, alternative_read}
 use Rattle.acn_lines.proofs.read.+read.Goals as goal
 
 -- The node.
@@ -122,6 +123,14 @@ read_turn-returns-in_ok-value-clause-read t c =
     let keys = c.pass_key.ensures.passed c.if-pass_key.true ∙ ap (λ k. comma_if c.args.later ++ (k ++ c.pass_key.new.self.text.now)) c.items.ensures in
     turn-read (fields_view fs) turn (field_of c.index-fields-turn.result) c.in_ok-value.value c.args.later c.args.places.now.items _ _ _ _
     (field-here fs turn.field c.index-fields-turn.result within c.index-fields-turn.is) c.requires.keyed placed room refl keys c.in_ok-value.ensures c.requires.filled
+
+-- The value of a component.
+
+pub read_field-returns-in-Some : goal.read_field-returns-in-Some
+read_field-returns-in-Some t c =
+    let f = c.in-Component in
+    let is = ap field_of f.is ∙ view_component f.name f.node f.presence f.default f.slot in
+    field_read c.args.field.now (a_component f.name (grammar_of f.node) f.presence f.default f.slot) c.in-Some.leaf.now c.read_number.result _ _ is c.in-Some.ensures c.read_number.ensures
 
 -- Lists.
 

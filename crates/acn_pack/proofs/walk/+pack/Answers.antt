@@ -2,14 +2,14 @@ use Rattle.std.proofs.Common.{rules, true, ◌≡◌, ℕ, suc, ◌+◌, ◌≤�
 use Rattle.std.specs.Prelude.{option_map, IfSome}
 use Rattle.std.proofs.lemmas.Bool.{and_parts}
 use Rattle.acn_grammar.specs.Asks.{field_path}
-use Rattle.acn_grammar.specs.Grammar.{Fields, num, octets, bits, text, seq, list, choice, contained, record_of, list_of, alt}
+use Rattle.acn_grammar.specs.Grammar.{Grammar, Fields, num, octets, bits, text, seq, list, choice, contained, record_of, list_of, alt}
 use Rattle.acn_grammar.specs.Leaves.{sizes_fine, list_rule_fine}
-use Rattle.acn_grammar.specs.Length.{bit_length, ending, presence_bits}
+use Rattle.acn_grammar.specs.Length.{bit_length, ending, number_of, presence_bits}
 use Rattle.acn_grammar.specs.View.{data_of, elements_view, places_view, with_field}
 use Rattle.acn_grammar.specs.declared.value.Value.{Value}
 use Rattle.acn_grammar.proofs.TextRules.{size_few}
 use Rattle.acn_num.specs.Bits.{octets as octets_for}
-use Rattle.acn_events.specs.Event.{Event, aligns, begins, closes, enters, fills, sizes}
+use Rattle.acn_events.specs.Event.{Event, aligns, begins, closes, codes, enters, fills, sizes}
 use Rattle.acn_events.specs.Events.{events, form_events, field_events, index_events, case_events, run_events, size_wants, end_events, inserted_events, own_events, presence_events}
 use Rattle.acn_plan.specs.declared.step.Step.{Step}
 use Rattle.acn_plan.specs.Back.{StepAt, root_of, node_at, form_at, fields_at, cases_at, case_items, field_by}
@@ -22,10 +22,10 @@ use Rattle.acn_pack.specs.Parts.{place_events, item_events, case_tests, left_of,
 use Rattle.acn_pack.specs.Sounds.{IsSound, FormIsSound, FieldsAreSound}
 use Rattle.acn_pack.proofs.Cases.{nth_events, no_events, cases_sound, nth_sound, is_itemed}
 use Rattle.acn_pack.proofs.Chosen.{chosen_case, no_chosen}
-use Rattle.acn_pack.proofs.Levels.{child_inside, form_by, inside, same_step, step_there}
+use Rattle.acn_pack.proofs.Levels.{child_inside, form_by, inside, node_of_number, same_step, step_there}
 use Rattle.acn_pack.proofs.Fields.{below, no_element}
 use Rattle.acn_pack.proofs.Paths.{back}
-use Rattle.acn_pack.proofs.Sounding.{depth_is, body_sound, form_as, num_is_fine, text_is_fine, list_is_fine, element_sound, content_sound, fields_sound, deeper, head_sound, rest_sound, own_is_number}
+use Rattle.acn_pack.proofs.Sounding.{depth_is, body_sound, form_as, leaf_is_fine, num_is_fine, text_is_fine, list_is_fine, element_sound, content_sound, fields_sound, deeper, head_sound, rest_sound, own_is_number}
 use Rattle.acn_pack.proofs.Walking.{node_begins, component_on, component_stops, component_ends, inserted_on, inserted_stops, field_on, field_ends, field_stops, element_events, element_on, element_stops, list_begins, case_whole, case_begins}
 use Rattle.acn_pack.proofs.Ways.{begin, then_one, then_some, left_as, packs_as, ended, nothing, last, last_one, failed, failed_to, failed_one, failed_some, ran_on, stopped_as, stop_some, stop_on, close_ran, close_halted}
 use Rattle.acn_pack.proofs.walk.+pack.Goals as goal
@@ -428,7 +428,7 @@ pub pack_there-note_own-requires : goal.pack_there-note_own-requires
 pack_there-note_own-requires g t c = (search rules, (c.requires.there, c.requires.own))
 
 pub pack_there-pack_step-requires : goal.pack_there-pack_step-requires
-pack_there-pack_step-requires g t c κs within = (omega arith, (within, (search rules, (search rules, (search rules, (search rules, (c.requires.made, (c.requires.there, c.requires.sound))))))))
+pack_there-pack_step-requires g t c κs within = (omega arith, (within, (search rules, (search rules, (search rules, (c.requires-raw.1.1.1.1.1.0, (c.requires.made, (c.requires.there, c.requires.sound))))))))
 
 pub pack_there-returns-in_err-note_own-clause-packs : goal.pack_there-returns-in_err-note_own-clause-packs
 pack_there-returns-in_err-note_own-clause-packs g t c =
@@ -450,8 +450,30 @@ pack_there-returns-in_err-ask_presence-clause-packs g t c =
     failed_some whole asked (events root n p d) p c.args.w.now c.note_own.new.w c.ask_presence.new.w c.ask_presence.new.why c.in_err-ask_presence.field-0.0 c.from_residual-in_err-ask_presence.result c.from_residual-in_err-ask_presence.ensures.1
     (then_some whole (own_events p c.args.component.slot n d) (asked ++ events root n p d) c.args.w.now c.args.w.now c.note_own.new.w (begin whole c.args.w.now) (c.in_ok-note_own.ensures p)) (c.in_err-ask_presence.ensures p)
 
-pub pack_there-returns-clause-packs : goal.pack_there-returns-clause-packs
-pack_there-returns-clause-packs g t c =
+pub pack_there-put_aligned-requires : goal.pack_there-put_aligned-requires
+pack_there-put_aligned-requires g t c =
+    let s = c.at-step.result.now in
+    let leaf = c.in-Some.leaf.now in
+    (c.requires-raw.1.1.1.1.1.0, leaf_is_fine (root_of c.args.steps.now) (length c.args.trace.now.path) (node_at c.args.steps.now c.args.this) s.align leaf (node_of_number c.args.steps.now c.args.this s leaf c.at-step.ensures c.in-Some.ensures.some) c.requires.sound)
+
+pub pack_there-returns-in-Some-clause-packs : goal.pack_there-returns-in-Some-clause-packs
+pack_there-returns-in-Some-clause-packs g t c =
+    let root = root_of c.args.steps.now in
+    let n = node_at c.args.steps.now c.args.this in
+    let p = c.args.trace.now.path in
+    let d = data_of c.args.v.now in
+    let s = c.at-step.result.now in
+    let leaf = c.in-Some.leaf.now in
+    let asked = presence_events p true c.args.component.presence.now in
+    let whole = place_events root n c.args.component.presence.now c.args.component.slot p (Some d) in
+    let is = node_of_number c.args.steps.now c.args.this s leaf c.at-step.ensures c.in-Some.ensures.some in
+    let number = aligns s.align ∷ codes leaf (number_of d) ∷ [] in
+    last whole (events root n p d) c.args.w.now c.ask_presence.new.w c.put_aligned.new.w p c.put_aligned.new.why c.put_aligned.result
+    (then_some whole asked (events root n p d) c.args.w.now c.note_own.new.w c.ask_presence.new.w (then_some whole (own_events p c.args.component.slot n d) (asked ++ events root n p d) c.args.w.now c.args.w.now c.note_own.new.w (begin whole c.args.w.now) (c.in_ok-note_own.ensures p)) (c.in_ok-ask_presence.ensures p))
+    (packs_as number (events root n p d) c.ask_presence.new.w c.put_aligned.new.w p c.put_aligned.new.why c.put_aligned.result (ap (λ (y : Grammar). events root y p d) (sym is)) (c.put_aligned.ensures p))
+
+pub pack_there-returns-in-None-clause-packs : goal.pack_there-returns-in-None-clause-packs
+pack_there-returns-in-None-clause-packs g t c =
     let root = root_of c.args.steps.now in
     let n = node_at c.args.steps.now c.args.this in
     let p = c.args.trace.now.path in
