@@ -20,17 +20,18 @@ use Rattle.acn_stream_laws.proofs.Gaining.{left_of, all_given}
 use Rattle.acn_stream_laws.specs.Laws.{RecordingsAreDecoded, RecordingsAreShown, LinesAreEncoded, IsNotRefused}
 use Rattle.acn_tree.specs.declared.tree.Tree.{Tree}
 use Rattle.acn_words.specs.Requests.{Request, check, bounds, layout, encode, decode, compare, extremes, route, explain, work, request_in, files_of}
-use Rattle.acn_run.specs.Asked.{HasGrammars}
+use Rattle.acn_commands.specs.Asked.{HasGrammars}
 use Rattle.acn_run.specs.Complete.{IsUnrefused, NothingFailed, Holds, IsLinesOf, IsRecordingOf, CanBeRouted, CanBeConverted, DoesTheWhole, IsComplete}
 use Rattle.acn_run.specs.Complete as whole
 use Rattle.acn_run.specs.Exactly.{AreTold, EndsRefused, IsRefused}
 use Rattle.acn_run.specs.OneAnswer.{Answers}
-use Rattle.acn_run.specs.Outside.{Outside}
-use Rattle.acn_run.specs.Refusals.{Refuses}
-use Rattle.acn_run.specs.Run.{code_of, IsText, Routes, StreamEnds, Serves, printed, converted, routed, refused, Ends, no_form, served}
-use Rattle.acn_run.specs.declared.status.Status.{Status}
-use Rattle.acn_run.specs.declared.status.Status.TheVariants.{Done, Usage, NoGrammar, BadInput, FileFailed, InputFailed, OutputFailed, NoMemory}
-use Rattle.acn_run.specs.declared.streams.TheConstants.{MOST_INPUT_BYTES}
+use Rattle.acn_commands.specs.Outside.{Outside}
+use Rattle.acn_commands.specs.Refusals.{Refuses}
+use Rattle.acn_commands.specs.Serves.{code_of, IsText, Routes, StreamEnds, Serves, printed, converted, routed, refused}
+use Rattle.acn_run.specs.Run.{Ends, no_form, served}
+use Rattle.acn_commands.specs.declared.status.Status.{Status}
+use Rattle.acn_commands.specs.declared.status.Status.TheVariants.{Done, Usage, NoGrammar, BadInput, FileFailed, InputFailed, OutputFailed, NoMemory}
+use Rattle.acn_commands.specs.declared.streams.TheConstants.{MOST_INPUT_BYTES}
 use Rattle.acn_run.proofs.Completing.{completes}
 use Rattle.acn_run.proofs.Ended.{is_accepted}
 use Rattle.acn_run.proofs.Excluded.{refuses, one_tree, same_head}

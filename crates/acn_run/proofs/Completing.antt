@@ -26,15 +26,16 @@ use Rattle.acn_tree.specs.declared.tree.Tree.{Tree}
 use Rattle.acn_words.specs.Names.{TypeName}
 use Rattle.acn_words.specs.Routes.{Route}
 use Rattle.acn_words.specs.Requests.{Request, check, bounds, layout, encode, decode, compare, extremes, route, explain, work, request_in}
-use Rattle.acn_run.specs.Asked.{HasGrammars}
+use Rattle.acn_commands.specs.Asked.{HasGrammars}
 use Rattle.acn_run.specs.Complete as complete
 use Rattle.acn_run.specs.Complete.{NothingFailed, IsUnrefused, Holds, AreConverted, AreRouted, AreSpacePackets, CanBeConverted, CanBeRouted, DoesTheWhole, IsComplete}
-use Rattle.acn_run.specs.Outside.{Outside}
-use Rattle.acn_run.specs.Routed.{is_of_packets, listed_by}
-use Rattle.acn_run.specs.Run.{code_of, is_of_input, Converts, StreamEnds, Routes, Serves, printed, converted, routed, refused, unconverted, unrouted, unreadable, broken_off, route_broken, unwritten, cut, route_cut, stopped, halted, route_halted, Ends, no_form, served}
-use Rattle.acn_run.specs.declared.status.Status.{Status}
-use Rattle.acn_run.specs.declared.status.Status.TheVariants.{Done, Usage, NoGrammar, BadInput, FileFailed, InputFailed, OutputFailed, NoMemory}
-use Rattle.acn_run.specs.declared.streams.TheConstants.{MOST_INPUT_BYTES}
+use Rattle.acn_commands.specs.Outside.{Outside}
+use Rattle.acn_commands.specs.Routed.{is_of_packets, listed_by}
+use Rattle.acn_commands.specs.Serves.{code_of, is_of_input, Converts, StreamEnds, Routes, Serves, printed, converted, routed, refused, unconverted, unrouted, unreadable, broken_off, route_broken, unwritten, cut, route_cut, stopped, halted, route_halted}
+use Rattle.acn_run.specs.Run.{Ends, no_form, served}
+use Rattle.acn_commands.specs.declared.status.Status.{Status}
+use Rattle.acn_commands.specs.declared.status.Status.TheVariants.{Done, Usage, NoGrammar, BadInput, FileFailed, InputFailed, OutputFailed, NoMemory}
+use Rattle.acn_commands.specs.declared.streams.TheConstants.{MOST_INPUT_BYTES}
 use Rattle.acn_run.proofs.Ended.{is_accepted}
 
 ok_is_no_fault : (count : ℕ) (fault : StreamFault) → Ok count ≡ Err fault → ⊥

@@ -10,12 +10,13 @@ use Rattle.acn_index.specs.declared.sources.TypeId.{TypeId}
 use Rattle.acn_packet_laws.specs.Laws.{IsAccepted}
 use Rattle.acn_tree.specs.declared.tree.Tree.{Tree}
 use Rattle.acn_words.specs.Requests.{Request, request_in}
-use Rattle.acn_run.specs.Asked.{HasGrammars}
+use Rattle.acn_commands.specs.Asked.{HasGrammars}
 use Rattle.acn_run.specs.Headline.{KeepsItsPromise, EachGrammarKeepsItsPromise}
-use Rattle.acn_run.specs.Outside.{Outside}
-use Rattle.acn_run.specs.Run.{code_of, Serves, Ends, no_form, served}
-use Rattle.acn_run.specs.declared.status.Status.{Status}
-use Rattle.acn_run.specs.declared.status.Status.TheVariants.{Done, Usage, NoGrammar, BadInput, FileFailed, InputFailed, OutputFailed, NoMemory}
+use Rattle.acn_commands.specs.Outside.{Outside}
+use Rattle.acn_commands.specs.Serves.{code_of, Serves}
+use Rattle.acn_run.specs.Run.{Ends, no_form, served}
+use Rattle.acn_commands.specs.declared.status.Status.{Status}
+use Rattle.acn_commands.specs.declared.status.Status.TheVariants.{Done, Usage, NoGrammar, BadInput, FileFailed, InputFailed, OutputFailed, NoMemory}
 
 pub at_most_seven : (status : Status) → code_of status ≤ 7
 at_most_seven Done = omega arith

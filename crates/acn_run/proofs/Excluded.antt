@@ -29,14 +29,15 @@ use Rattle.acn_stream.specs.declared.stream_fault.StreamFault.TheVariants as str
 use Rattle.acn_tree.specs.declared.tree.Tree.{Tree}
 use Rattle.acn_words.specs.Names.{TypeName}
 use Rattle.acn_words.specs.Requests.{Request, check, bounds, layout, encode, decode, compare, extremes, route, explain, work, request_in, files_of, types_of, reads_input, asks_extremes}
-use Rattle.acn_run.specs.Asked.{AreFilesOf, AreRead, IsWorldOfNames, HasGrammars, with_type, types_named, types_for}
+use Rattle.acn_commands.specs.Asked.{AreFilesOf, AreRead, IsWorldOfNames, HasGrammars, with_type, types_named, types_for}
 use Rattle.acn_run.specs.Exactly.{AreTold, EndsRefused, IsRefused}
-use Rattle.acn_run.specs.Outside.{Outside}
-use Rattle.acn_run.specs.Refusals as refusals
-use Rattle.acn_run.specs.Refusals.{Refuses, IsFirstUnknown, HasTypeFault}
-use Rattle.acn_run.specs.Run.{code_of, IsText, Converts, Routes, StreamEnds, Serves, printed, converted, routed, refused, unconverted, unrouted, unreadable, broken_off, route_broken, unwritten, cut, route_cut, stopped, halted, route_halted, Ends, no_form, served}
-use Rattle.acn_run.specs.declared.status.Status.{Status}
-use Rattle.acn_run.specs.declared.status.Status.TheVariants.{Done, Usage, NoGrammar, BadInput, FileFailed, InputFailed, OutputFailed, NoMemory}
+use Rattle.acn_commands.specs.Outside.{Outside}
+use Rattle.acn_commands.specs.Refusals as refusals
+use Rattle.acn_commands.specs.Refusals.{Refuses, IsFirstUnknown, HasTypeFault}
+use Rattle.acn_commands.specs.Serves.{code_of, IsText, Converts, Routes, StreamEnds, Serves, printed, converted, routed, refused, unconverted, unrouted, unreadable, broken_off, route_broken, unwritten, cut, route_cut, stopped, halted, route_halted}
+use Rattle.acn_run.specs.Run.{Ends, no_form, served}
+use Rattle.acn_commands.specs.declared.status.Status.{Status}
+use Rattle.acn_commands.specs.declared.status.Status.TheVariants.{Done, Usage, NoGrammar, BadInput, FileFailed, InputFailed, OutputFailed, NoMemory}
 
 -- ---- what files hold
 

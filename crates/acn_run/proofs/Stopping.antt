@@ -18,15 +18,16 @@ use Rattle.acn_stream.specs.declared.stream_fault.StreamFault.TheVariants as str
 use Rattle.acn_stream_laws.specs.Laws.{RefusesPacket, StuckRecordingsAreRefused}
 use Rattle.acn_tree.specs.declared.tree.Tree.{Tree}
 use Rattle.acn_words.specs.Requests.{Request, check, bounds, layout, encode, decode, compare, extremes, route, explain, work, request_in}
-use Rattle.acn_run.specs.Asked.{HasGrammars}
+use Rattle.acn_commands.specs.Asked.{HasGrammars}
 use Rattle.acn_run.specs.Complete.{IsUnrefused, NothingFailed}
-use Rattle.acn_run.specs.Lines.{stream_line}
-use Rattle.acn_run.specs.Outside.{Outside, Says}
-use Rattle.acn_run.specs.Run.{code_of, is_of_input, Converts, IsText, Routes, StreamEnds, Serves, printed, converted, routed, refused, unconverted, unrouted, unreadable, broken_off, route_broken, unwritten, cut, route_cut, stopped, halted, route_halted, Ends, no_form, served}
+use Rattle.acn_commands.specs.Lines.{stream_line}
+use Rattle.acn_commands.specs.Outside.{Outside, Says}
+use Rattle.acn_commands.specs.Serves.{code_of, is_of_input, Converts, IsText, Routes, StreamEnds, Serves, printed, converted, routed, refused, unconverted, unrouted, unreadable, broken_off, route_broken, unwritten, cut, route_cut, stopped, halted, route_halted}
+use Rattle.acn_run.specs.Run.{Ends, no_form, served}
 use Rattle.acn_run.specs.Stuck.{reads_recording, IsStuckInput, EndsStuck, at_packet, out_of_memory, IsStuckRun}
-use Rattle.acn_run.specs.declared.status.Status.{Status}
-use Rattle.acn_run.specs.declared.status.Status.TheVariants.{Done, Usage, NoGrammar, BadInput, FileFailed, InputFailed, OutputFailed, NoMemory}
-use Rattle.acn_run.specs.declared.streams.TheConstants.{MOST_INPUT_BYTES}
+use Rattle.acn_commands.specs.declared.status.Status.{Status}
+use Rattle.acn_commands.specs.declared.status.Status.TheVariants.{Done, Usage, NoGrammar, BadInput, FileFailed, InputFailed, OutputFailed, NoMemory}
+use Rattle.acn_commands.specs.declared.streams.TheConstants.{MOST_INPUT_BYTES}
 use Rattle.acn_run.proofs.Ended.{is_accepted}
 
 no_text : (request : Request) (trees : List Tree) (text : List ℕ) → IsTrue (reads_recording request) → IsText request trees text → ⊥

@@ -3,11 +3,12 @@ use Rattle.std.proofs.Common.{◌≡◌, ℕ, List, inl, inr, ap, subst}
 use Rattle.acn_print.specs.Printing.{Output}
 use Rattle.acn_run.specs.Complete.{NothingFailed, CountsStay}
 use Rattle.acn_run.specs.Exactly.{EndsInRefusal, EndsUnfailed}
-use Rattle.acn_run.specs.Outside.{Outside, IsUntouched, StreamsStay}
-use Rattle.acn_run.specs.Run.{code_of, Serves, refused, unconverted, unrouted, unreadable, broken_off, route_broken, unwritten, cut, route_cut, Ends, no_form, served}
-use Rattle.acn_run.specs.Steps.{FilesStay}
-use Rattle.acn_run.specs.declared.status.Status.{Status}
-use Rattle.acn_run.specs.declared.status.Status.TheVariants.{Done, Usage, NoGrammar, BadInput, FileFailed, InputFailed, OutputFailed, NoMemory}
+use Rattle.acn_commands.specs.Outside.{Outside, IsUntouched, StreamsStay}
+use Rattle.acn_commands.specs.Serves.{code_of, Serves, refused, unconverted, unrouted, unreadable, broken_off, route_broken, unwritten, cut, route_cut}
+use Rattle.acn_run.specs.Run.{Ends, no_form, served}
+use Rattle.acn_commands.specs.Steps.{FilesStay}
+use Rattle.acn_commands.specs.declared.status.Status.{Status}
+use Rattle.acn_commands.specs.declared.status.Status.TheVariants.{Done, Usage, NoGrammar, BadInput, FileFailed, InputFailed, OutputFailed, NoMemory}
 use Rattle.acn_words.specs.Requests.{Request}
 
 module _ (b a : Outside) (sure : NothingFailed b a) (request : Request) where

@@ -15,12 +15,12 @@ use Rattle.acn_stream_laws.specs.Laws.{IsNotRefused}
 use Rattle.acn_tree.specs.declared.tree.Tree.{Tree}
 use Rattle.acn_words.specs.Routes.{Route}
 use Rattle.acn_words.specs.Requests.{Request, encode, decode, route, explain}
-use Rattle.acn_run.specs.Asked.{HasGrammars}
-use Rattle.acn_run.specs.Outside.{Outside, StreamsStay}
-use Rattle.acn_run.specs.Refusals.{Refuses}
-use Rattle.acn_run.specs.Routed.{listed_by}
-use Rattle.acn_run.specs.Run.{IsText}
-use Rattle.acn_run.specs.declared.streams.TheConstants.{MOST_INPUT_BYTES}
+use Rattle.acn_commands.specs.Asked.{HasGrammars}
+use Rattle.acn_commands.specs.Outside.{Outside, StreamsStay}
+use Rattle.acn_commands.specs.Refusals.{Refuses}
+use Rattle.acn_commands.specs.Routed.{listed_by}
+use Rattle.acn_commands.specs.Serves.{IsText}
+use Rattle.acn_commands.specs.declared.streams.TheConstants.{MOST_INPUT_BYTES}
 
 -- no count of faults rose: of no file, not of the input, and not of the output
 pub record NothingFailed (b a : Outside) : Type 0 where

@@ -3,9 +3,9 @@ use Rattle.std.specs.Prelude.{◌≡◌, ◌⊎◌, ℕ, List, IsTrue, is_some}
 use Rattle.std.specs.List.{AllByRecursion}
 use Rattle.acn_files.specs.Contents.{Told}
 use Rattle.acn_words.specs.Requests.{Request, files_of}
-use Rattle.acn_run.specs.Refusals.{Refuses}
-use Rattle.acn_run.specs.Run.{code_of}
-use Rattle.acn_run.specs.declared.status.Status.TheVariants.{NoGrammar, BadInput, FileFailed, InputFailed, OutputFailed, NoMemory}
+use Rattle.acn_commands.specs.Refusals.{Refuses}
+use Rattle.acn_commands.specs.Serves.{code_of}
+use Rattle.acn_commands.specs.declared.status.Status.TheVariants.{NoGrammar, BadInput, FileFailed, InputFailed, OutputFailed, NoMemory}
 
 -- what each of these files holds is told
 abbrev pub AreTold : Told → List (List ℕ) → Type 0

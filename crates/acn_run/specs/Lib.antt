@@ -1,16 +1,6 @@
-pub mod Asked
 pub mod Headline
-pub mod Lines
-pub mod Outside
-pub mod Refusals
-pub mod Routed
 pub mod Run
-pub mod Steps
 pub mod Stuck
 pub mod Complete
-pub mod Missing
 pub mod Exactly
-pub mod Compared
-pub mod Extremes
 pub mod OneAnswer
-pub mod Roots

@@ -4,9 +4,10 @@ use Rattle.acn_files.specs.Contents.{Told}
 use Rattle.acn_words.specs.Requests.{Request, files_of, request_in}
 use Rattle.acn_run.specs.Complete.{NothingFailed}
 use Rattle.acn_run.specs.Exactly.{AreTold}
-use Rattle.acn_run.specs.Outside.{Outside}
-use Rattle.acn_run.specs.Run.{code_of, EndsWith}
-use Rattle.acn_run.specs.declared.status.Status.TheVariants.{NoMemory}
+use Rattle.acn_commands.specs.Outside.{Outside}
+use Rattle.acn_commands.specs.Serves.{code_of}
+use Rattle.acn_run.specs.Run.{EndsWith}
+use Rattle.acn_commands.specs.declared.status.Status.TheVariants.{NoMemory}
 
 -- A run of these words sees these files and this input. It ends with the number, no device fails, and memory lasts.
 pub record Answers (words : List (List ℕ)) (files : Told) (input : List ℕ) (code : ℕ) : Type 0 where

@@ -10,12 +10,12 @@ use Rattle.acn_stream.specs.declared.stream_fault.StreamFault.{StreamFault}
 use Rattle.acn_stream_laws.specs.Laws.{IsStuckBehind, LineRefusal, IsRefusedBehind, RefusesLine}
 use Rattle.acn_tree.specs.declared.tree.Tree.{Tree}
 use Rattle.acn_words.specs.Requests.{Request, encode, decode, explain}
-use Rattle.acn_run.specs.Asked.{HasGrammars}
+use Rattle.acn_commands.specs.Asked.{HasGrammars}
 use Rattle.acn_run.specs.Complete.{IsUnrefused, NothingFailed}
-use Rattle.acn_run.specs.Lines.{stream_line}
-use Rattle.acn_run.specs.Outside.{Outside, Says}
-use Rattle.acn_run.specs.Run.{is_of_input}
-use Rattle.acn_run.specs.declared.streams.TheConstants.{MOST_INPUT_BYTES}
+use Rattle.acn_commands.specs.Lines.{stream_line}
+use Rattle.acn_commands.specs.Outside.{Outside, Says}
+use Rattle.acn_commands.specs.Serves.{is_of_input}
+use Rattle.acn_commands.specs.declared.streams.TheConstants.{MOST_INPUT_BYTES}
 
 -- whether it reads a recording
 abbrev pub reads_recording : Request → Bool

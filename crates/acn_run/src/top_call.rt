@@ -1,26 +1,21 @@
 //! The top call.
 
-ghost use Rattle.std.specs.Prelude.{◌≡◌, ◌↔◌, ◌≤◌, true, List, None, Some, map, string_bytes, IsTrue};
-ghost use Rattle.std.specs.List.{AllByRecursion, list_all};
-ghost use Rattle.acn_run.specs.Asked.{HasGrammars};
+ghost use Rattle.std.specs.Prelude.{◌≡◌, ◌↔◌, ◌≤◌, None, Some, map, string_bytes, List};
+ghost use Rattle.std.specs.List.{AllByRecursion};
+ghost use Rattle.acn_commands.specs.Asked.{HasGrammars};
 ghost use Rattle.acn_run.specs.Complete.{CountsStay, IsComplete, NothingFailed};
 ghost use Rattle.acn_run.specs.Exactly.{EndsInRefusal, EndsUnfailed, IsRefused};
 ghost use Rattle.acn_run.specs.Headline.{KeepsItsPromise};
-ghost use Rattle.acn_run.specs.Outside.{seen};
+ghost use Rattle.acn_commands.specs.Outside.{seen};
 ghost use Rattle.acn_run.specs.Run as spec;
-ghost use Rattle.acn_run.specs.Steps.{FilesStay};
+ghost use Rattle.acn_commands.specs.Steps.{FilesStay};
 ghost use Rattle.acn_run.specs.Stuck.{IsRefusedRun, IsStuckRun};
 ghost use Rattle.acn_grammar.specs.View.{grammar_of};
 ghost use Rattle.acn_tree.specs.declared.tree.Tree.{Tree};
-ghost use Rattle.acn_words.specs.Files.{is_file};
-ghost use Rattle.acn_words.specs.Requests.{Request, files_of, has_count, request_in};
-ghost use Rattle.acn_words.specs.View.{request_view};
+ghost use Rattle.acn_words.specs.Requests.{Request, request_in};
 
-use crate::answers::answer;
 use crate::laws::each_grammar_keeps_its_promise;
-use crate::reports::usage;
-use crate::sources::read_world;
-use crate::status::Status;
+use acn_commands::{Status, serve, usage};
 use acn_front::{
     faulty_files_have_no_world, one_grammar, one_world, refused_types_have_no_grammars,
 };
@@ -30,30 +25,9 @@ use acn_stream_laws::{
     lines_are_encoded, recordings_are_decoded, recordings_are_shown, refused_lines_are_named,
     stuck_recordings_are_refused,
 };
-use acn_words::{Request as Asked, read_words};
+use acn_words::read_words;
 use acn_work::{Unwatched, Watch};
 use std::alloc::Global;
-
-// Serves a request.
-fn serve<F: Files, S: Source, O: Sink, E: Sink, W: Watch>(
-    alloc: Global,
-    request: &Asked<'_>,
-    files: &mut F,
-    input: &mut S,
-    out: &mut O,
-    err: &mut E,
-    watch: &W,
-) -> Status
-    requires files { IsTrue (list_all is_file (files_of (request_view request.now))) }
-    requires count { has_count (request_view request.now) ≡ true }
-    ensures serves { spec.Serves (seen (F.contents files.old) (F.faults files.old) (S.rest input.old) (S.faults input.old) (O.taken out.old, O.faults out.old) (E.taken err.old, E.faults err.old)) (seen (F.contents files.old) (F.faults files.new) (S.rest input.new) (S.faults input.new) (O.taken out.new, O.faults out.new) (E.taken err.new, E.faults err.new)) (request_view request.now) result }
-    ensures files { FilesStay (F.faults files.old) (F.faults files.new) result }
-{
-    match read_world(alloc, request.files(), files, err) {
-        Ok(world) => answer(alloc, request, &world, input, out, err, watch),
-        Err(status) => status,
-    }
-}
 
 // Does what the words ask for.
 fn run_words<F: Files, S: Source, O: Sink, E: Sink, W: Watch>(

@@ -2,7 +2,7 @@ use Rattle.std.proofs.Common.{◌≡◌, List, None, map, string_bytes, ap, subs
 use Rattle.std.specs.Prelude.{◌↔◌}
 use Rattle.acn_words.specs.Requests.{request_in}
 use Rattle.acn_run.specs.Exactly.{EndsInRefusal}
-use Rattle.acn_run.specs.Run.{code_of}
+use Rattle.acn_commands.specs.Serves.{code_of}
 use Rattle.acn_run.proofs.Completing.{completes}
 use Rattle.acn_run.proofs.Ended.{at_most_seven, is_usage, promises}
 use Rattle.acn_run.proofs.Excluded.{refuses}

@@ -1,0 +1,11 @@
+mod Sorted
+mod Serving
+mod Streaming
+mod TwoGrammars
+mod Refusing
+mod Printing
+mod Begun
+mod Listing
+mod Named
+mod Packets
+mod Telling

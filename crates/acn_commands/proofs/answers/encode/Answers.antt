@@ -1,0 +1,14 @@
+use Rattle.std.proofs.Common.{refl}
+use Rattle.acn_grammar.specs.View.{grammar_of}
+use Rattle.acn_stream.specs.Encoding.{EncodeEnds}
+use Rattle.acn_words.specs.Requests.{encode}
+use Rattle.acn_words.specs.View.{type_view}
+use Rattle.acn_world.specs.Viewed.{world_view}
+use Rattle.acn_commands.specs.declared.streams.TheConstants.{MOST_INPUT_BYTES}
+use Rattle.acn_commands.proofs.Streaming.{stream_serves}
+use Rattle.acn_commands.proofs.answers.encode.Goals as goal
+
+pub returns-in-Ok : goal.returns-in-Ok
+returns-in-Ok g c = λ names.
+    stream_serves (encode (type_view c.args.of.now) names) (world_view c.args.world.now) c.in-Ok.checked.tree c.in-Ok.ensures.grammars (EncodeEnds (grammar_of c.in-Ok.checked.tree.root) MOST_INPUT_BYTES) (λ b a r e. e) refl
+    _ _ _ _ _ _ _ _ _ c.encode.result c.in-Ok.ensures.silent c.encode.ensures

@@ -1,0 +1,11 @@
+pub mod Asked
+pub mod Lines
+pub mod Outside
+pub mod Refusals
+pub mod Routed
+pub mod Serves
+pub mod Steps
+pub mod Missing
+pub mod Compared
+pub mod Extremes
+pub mod Roots

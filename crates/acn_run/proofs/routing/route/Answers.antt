@@ -1,6 +1,0 @@
-use Rattle.std.proofs.Common.{refl}
-use Rattle.acn_run.specs.Run.{stopped}
-use Rattle.acn_run.proofs.routing.route.Goals as goal
-
-pub returns-in_default : goal.returns-in_default
-returns-in_default g c = λ names told faults faults' read. rw c.no_memory.ensures.status (stopped (record { unread = record { input = refl; faults = refl }; out = refl }) c.no_memory.ensures.says)

@@ -1,6 +1,0 @@
-use Rattle.std.proofs.Common.{map, string_bytes, take}
-use Rattle.acn_run.specs.Asked.{AreFilesOf}
-use Rattle.acn_run.proofs.sources.files_of.Given as goal
-
-abbrev pub invariant-loop-number : goal.invariant-loop-number
-invariant-loop-number l = AreFilesOf (take l.number (map string_bytes l.names)) (take l.number (map (λ v. v.items) l.contents)) l.all.items
