@@ -2,6 +2,7 @@ mod BinaryTexts
 mod DigitPairs
 mod DigitTexts
 mod HexTexts
+mod Keeping
 mod LaidTexts
 mod LetterTexts
 mod NumberTexts

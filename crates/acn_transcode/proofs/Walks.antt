@@ -94,6 +94,22 @@ text_shown g d span old new p from to =
 pub number_shown : (align : ℕ) (leaf : NumLeaf) (x : ℤ) (d : Data) (old new : Draft) → IsNumber (node align (num leaf)) x d → new.text.items ≡ old.text.items → new.aside.items ≡ old.aside.items → new.parts.items ≡ old.parts.items → Shows (node align (num leaf)) (Number x) d old new
 number_shown align leaf x d old new is text aside parts = record { aside = aside; parts = parts; text = []; added = text ∙ sym (append-nil _); tells = λ more. is }
 
+-- the texts of the same fields
+pub fields_laid : (items fields : List Field) (ds : List (Option Data)) (old new : Draft) → items ≡ fields → Lays (fields_view fields) no_fields ds old new → Lays (fields_view items) no_fields ds old new
+fields_laid items fields ds old new e p = subst (λ (x : List Field). Lays (fields_view x) no_fields ds old new) (sym e) p
+
+-- and where the draft has other numbers of slots
+pub laid_of : (items fields : List Field) (ds : List (Option Data)) (old mid new : Draft) → items ≡ fields → new.text.items ≡ mid.text.items → new.aside.items ≡ mid.aside.items → new.parts.items ≡ mid.parts.items → Lays (fields_view items) no_fields ds old mid → Lays (fields_view fields) no_fields ds old new
+laid_of items fields ds old mid new e texts asides parts p = fields_laid fields items ds old new (sym e) (record {
+  aside = asides ∙ p.aside;
+  text = p.text;
+  added = texts ∙ p.added;
+  parts = p.parts;
+  noted = parts ∙ p.noted;
+  laid = λ more later xs h.
+      subst (λ t. AreLaid (t ++ more) (fields_view items) (p.parts ++ later) (ds ++ xs)) (sym texts) (p.laid more later xs (subst (λ t. AreLaid (t ++ more) no_fields later xs) texts h));
+})
+
 -- a component that is there
 pub there_laid : (name : List ℕ) (g : Grammar) (presence : Presence) (default : Option (List ℕ)) (own : Option ℕ) (fs : Fields) (d : Data) (part : Part) (old mid new : Draft)
     → Shows g part d old mid → new.text.items ≡ mid.text.items → new.aside.items ≡ mid.aside.items → new.parts.items ≡ mid.parts.items ++ part ∷ []
@@ -247,17 +263,25 @@ seq_put_read root k k' form fields items home hs ds t t' left a m b w n flags' v
 behind_all : {A : Type 0} (a b : List A) → take (length (a ++ b) - length a) (drop (length a) (a ++ b)) ≡ b
 behind_all a b = subst (λ x. take (length (a ++ b) - length a) (drop (length a) x) ≡ b) (append-nil (a ++ b)) (behind_text a b [])
 
--- where the texts of all components stand
-pub all_laid : (all : Fields) (ds : List (Option Data)) (old new : Draft) (first : ℕ) → Lays all no_fields ds old new → first ≡ length old.parts.items → AreLaid new.text.items all (take (length new.parts.items - first) (drop first new.parts.items)) ds
-all_laid all ds old new first p from =
+-- the texts of all components, by the parts that were noted
+whole_laid : (all : Fields) (ds : List (Option Data)) (old new : Draft) → (p : Lays all no_fields ds old new) → AreLaid new.text.items all p.parts ds
+whole_laid all ds old new p =
     let whole = p.laid [] [] [] tt in
     let texts = subst (λ t. AreLaid t all (p.parts ++ []) (ds ++ [])) (append-nil new.text.items) whole in
     let parts = subst (λ s. AreLaid new.text.items all s (ds ++ [])) (append-nil p.parts) texts in
-    let values = subst (λ x. AreLaid new.text.items all p.parts x) (append-nil ds) parts in
+    subst (λ x. AreLaid new.text.items all p.parts x) (append-nil ds) parts
+
+-- where the texts of all components stand
+pub all_laid : (all : Fields) (ds : List (Option Data)) (old new : Draft) (first : ℕ) → Lays all no_fields ds old new → first ≡ length old.parts.items → AreLaid new.text.items all (take (length new.parts.items - first) (drop first new.parts.items)) ds
+all_laid all ds old new first p from =
     let noted : take (length new.parts.items - first) (drop first new.parts.items) ≡ p.parts =
     ap (λ n. take (length new.parts.items - n) (drop n new.parts.items)) from
     ∙ (ap (λ s. take (length s - length old.parts.items) (drop (length old.parts.items) s)) p.noted ∙ behind_all old.parts.items p.parts) in
-    subst (λ s. AreLaid new.text.items all s ds) (sym noted) values
+    subst (λ s. AreLaid new.text.items all s ds) (sym noted) (whole_laid all ds old new p)
+
+-- where nothing was noted before
+pub alone_laid : (all : Fields) (ds : List (Option Data)) (old new : Draft) → Lays all no_fields ds old new → old.parts.items ≡ [] → AreLaid new.text.items all new.parts.items ds
+alone_laid all ds old new p none = subst (λ s. AreLaid new.text.items all s ds) (sym (p.noted ∙ ap (λ s. s ++ p.parts) none)) (whole_laid all ds old new p)
 
 -- what was put aside is taken away
 pub front_left : {A : Type 0} (old more grown new : List A) (mark : ℕ) → mark ≡ length old → grown ≡ old ++ more → new ≡ take mark grown → new ≡ old

@@ -1,6 +1,6 @@
 //! Number leaves.
 
-ghost use Rattle.std.specs.Prelude.{◌≡◌, ◌++◌, ◌+◌, ◌^◌, ◌<◌, ◌≤◌, ◌≤ℤ◌, ◌<ℤ◌, ℤ, pos, nat_abs, true, IsTrue, IfSome, OnOk};
+ghost use Rattle.std.specs.Prelude.{◌≡◌, ◌++◌, ◌+◌, ◌^◌, ◌<◌, ◌≤◌, ◌≤ℤ◌, ◌<ℤ◌, ℤ, pos, nat_abs, true, IsTrue, IfSome, OnOk, OnErr};
 ghost use Rattle.std.specs.Ordering.{int_eq};
 ghost use Rattle.std.specs.Fmt.{decimal, signed_decimal};
 ghost use Rattle.serde_json.specs.Written.{compact_text};
@@ -12,6 +12,7 @@ ghost use Rattle.acn_grammar.specs.Grammar.{Data, num};
 ghost use Rattle.acn_grammar.specs.ItemsNamed.{FormItemsNamed};
 ghost use Rattle.acn_grammar.specs.Leaves.{num_fine};
 ghost use Rattle.acn_grammar.specs.Length.{number_of};
+ghost use Rattle.acn_json.specs.Kept.{Kept};
 ghost use Rattle.acn_json.specs.Lines.{num_json};
 ghost use Rattle.acn_lines.specs.Order.{IsLeafOrder};
 ghost use Rattle.acn_reads.specs.Steps.{noted_by};
@@ -27,6 +28,17 @@ use acn_lines::Order;
 use acn_num::NoMemory;
 use itoa::Buffer;
 
+// The number of any leaf, whose code is passed.
+fn any_number(cur: &mut ReadCursor<'_>, leaf: &NumLeaf) -> Option<i128>
+    requires { IsTrue (num_fine leaf.now) }
+    ensures { IfSome result (λ x. Reads (Code Any leaf.now x) cur.old cur.new) }
+{
+    match read_num(cur, leaf) {
+        Ok(x) => Some(x),
+        Err(_) => None,
+    }
+}
+
 /// The number of a leaf, whose code is passed.
 #[inline(always)]
 pub fn number(cur: &mut ReadCursor<'_>, leaf: &NumLeaf, cut: &Option<Cut>) -> Option<i128>
@@ -36,10 +48,7 @@ pub fn number(cur: &mut ReadCursor<'_>, leaf: &NumLeaf, cut: &Option<Cut>) -> Op
 {
     match cut {
         Some(cut) => read_cut(cur, cut),
-        None => match read_num(cur, leaf) {
-            Ok(x) => Some(x),
-            Err(_) => None,
-        },
+        None => any_number(cur, leaf),
     }
 }
 
@@ -56,7 +65,8 @@ fn digit_of(x: u64) -> u8
 fn put_two_digits(x: u64, text: &mut Vec<u8>) -> Result<(), NoMemory>
     requires least { 10 ≤ x }
     requires most { x < 100 }
-    ensures { OnOk result (text.new.items ≡ text.old.items ++ decimal x) }
+    ensures added { OnOk result (text.new.items ≡ text.old.items ++ decimal x) }
+    ensures kept { OnErr result (Kept text.old.items text.new.items) }
 {
     put(&[digit_of(x / 10), digit_of(x % 10)], text)
 }
@@ -65,7 +75,8 @@ fn put_two_digits(x: u64, text: &mut Vec<u8>) -> Result<(), NoMemory>
 fn put_three_digits(x: u64, text: &mut Vec<u8>) -> Result<(), NoMemory>
     requires least { 100 ≤ x }
     requires most { x < 1000 }
-    ensures { OnOk result (text.new.items ≡ text.old.items ++ decimal x) }
+    ensures added { OnOk result (text.new.items ≡ text.old.items ++ decimal x) }
+    ensures kept { OnErr result (Kept text.old.items text.new.items) }
 {
     put(
         &[digit_of(x / 100), digit_of(x / 10 % 10), digit_of(x % 10)],
@@ -77,7 +88,8 @@ fn put_three_digits(x: u64, text: &mut Vec<u8>) -> Result<(), NoMemory>
 fn put_four_digits(x: u64, text: &mut Vec<u8>) -> Result<(), NoMemory>
     requires least { 1000 ≤ x }
     requires most { x < 10000 }
-    ensures { OnOk result (text.new.items ≡ text.old.items ++ decimal x) }
+    ensures added { OnOk result (text.new.items ≡ text.old.items ++ decimal x) }
+    ensures kept { OnErr result (Kept text.old.items text.new.items) }
 {
     put(
         &[
@@ -93,7 +105,8 @@ fn put_four_digits(x: u64, text: &mut Vec<u8>) -> Result<(), NoMemory>
 #[inline(always)]
 fn put_one_digit(x: u64, text: &mut Vec<u8>) -> Result<(), NoMemory>
     requires { x < 10 }
-    ensures { OnOk result (text.new.items ≡ text.old.items ++ decimal x) }
+    ensures added { OnOk result (text.new.items ≡ text.old.items ++ decimal x) }
+    ensures kept { OnErr result (Kept text.old.items text.new.items) }
 {
     put_octet(digit_of(x), text)
 }
@@ -101,7 +114,8 @@ fn put_one_digit(x: u64, text: &mut Vec<u8>) -> Result<(), NoMemory>
 // Puts a natural number. Those of few digits are put without a loop.
 #[inline(always)]
 fn put_natural(x: u64, text: &mut Vec<u8>) -> Result<(), NoMemory>
-    ensures { OnOk result (text.new.items ≡ text.old.items ++ decimal x) }
+    ensures added { OnOk result (text.new.items ≡ text.old.items ++ decimal x) }
+    ensures kept { OnErr result (Kept text.old.items text.new.items) }
 {
     if x < 10 {
         put_one_digit(x, text)
@@ -119,7 +133,8 @@ fn put_natural(x: u64, text: &mut Vec<u8>) -> Result<(), NoMemory>
 
 // Puts a whole number. Most are natural numbers of 64 bits.
 fn put_number(x: &i128, text: &mut Vec<u8>) -> Result<(), NoMemory>
-    ensures { OnOk result (text.new.items ≡ text.old.items ++ signed_decimal x.now) }
+    ensures added { OnOk result (text.new.items ≡ text.old.items ++ signed_decimal x.now) }
+    ensures kept { OnErr result (Kept text.old.items text.new.items) }
 {
     match u64::try_from(*x) {
         Ok(natural) => put_natural(natural, text),
@@ -151,7 +166,8 @@ pub fn put_value(leaf: &NumLeaf, x: &i128, text: &mut Vec<u8>) -> Result<(), NoM
     requires fine { IsTrue (num_fine leaf.now) }
     requires named { FormItemsNamed (num leaf.now) }
     requires permitted { In leaf.now.set x.now }
-    ensures { OnOk result ((d : Data) × NumberOf leaf.now.kind d x.now × (text.new.items ≡ text.old.items ++ compact_text (num_json leaf.now.kind leaf.now.items.items d))) }
+    ensures added { OnOk result ((d : Data) × NumberOf leaf.now.kind d x.now × (text.new.items ≡ text.old.items ++ compact_text (num_json leaf.now.kind leaf.now.items.items d))) }
+    ensures kept { OnErr result (Kept text.old.items text.new.items) }
 {
     match leaf.kind {
         NumKind::Integer => put_number(x, text),

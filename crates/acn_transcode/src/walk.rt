@@ -3,10 +3,11 @@
 ghost use Rattle.std.specs.Prelude.{◌≡◌, ◌<◌, ◌≤◌, ◌+◌, ◌^◌, ℕ, suc, ◌∷◌, [], ◌++◌, List, Bool, Option, None, Some, true, false, IsTrue, IfSome, length};
 ghost use Rattle.serde_json.specs.Written.{compact_text, members_text};
 ghost use Rattle.acn_grammar.specs.Fails.{Here, flags_behind, presence_count};
-ghost use Rattle.acn_grammar.specs.Grammar.{Grammar, Fields, Data, component, no_fields, list, contained, inserted};
+ghost use Rattle.acn_grammar.specs.Grammar.{Grammar, Fields, Data, component, no_fields, list, contained, inserted, record_of};
 ghost use Rattle.acn_grammar.specs.ItemsNamed.{ItemsNamed, FormItemsNamed, FieldsItemsNamed, AlternativesItemsNamed, field_items_named};
-ghost use Rattle.acn_grammar.specs.View.{grammar_of, form_of, field_of, fields_view, with_field, alternatives_view};
+ghost use Rattle.acn_grammar.specs.View.{grammar_of, form_of, field_of, fields_view, with_field, alternatives_view, places_of};
 ghost use Rattle.acn_grammar.specs.declared.node.Body.TheVariants.{Choice as Choice_body, Seq as Seq_body};
+ghost use Rattle.acn_grammar.specs.declared.node.Presence.TheVariants.{Bit};
 ghost use Rattle.acn_json.specs.Lines.{json_of, form_json, alternative_json};
 ghost use Rattle.acn_lines.specs.Order as order_spec;
 ghost use Rattle.acn_lines.specs.declared.order.Order.{out-Order};
@@ -14,7 +15,7 @@ ghost use Rattle.acn_num.specs.declared.limits.TheConstants.{MOST_SIZE};
 ghost use Rattle.acn_reads.specs.Decoded.{Fine, NodeStands, FormStands, FieldsStand, InnerStands, CasesStand, NodeRead, FormRead, Turn, RunTurn};
 ghost use Rattle.acn_reads.specs.Choices.{grammar_at};
 ghost use Rattle.acn_reads.specs.Ends.{EndedRead};
-ghost use Rattle.acn_reads.specs.Present.{BitThere, there_now};
+ghost use Rattle.acn_reads.specs.Present.{BitThere, first_bit, there_now};
 ghost use Rattle.acn_transcode.specs.Puts as spec;
 ghost use Rattle.acn_transcode.specs.Puts.{Puts, Lays};
 
@@ -31,9 +32,9 @@ use acn_lines::Order;
 use acn_reads::{count_of, is_ended, is_there, most_of, pad, pass_end, pattern_of, pick, stands};
 use std::mem::swap;
 
-/// Puts the value of a node, which is passed.
+// Puts the value of a node, which is passed.
 #[cycle(put)]
-pub fn put_node(
+fn put_node(
     node: &Node,
     order: &Order,
     root: &Node,
@@ -52,8 +53,9 @@ pub fn put_node(
     }
 }
 
+/// Puts the value of a form, which is passed.
 #[cycle(put)]
-fn put_body(
+pub fn put_body(
     body: &Body,
     order: &Order,
     root: &Node,
@@ -96,21 +98,16 @@ fn put_sequence(
     requires order { order_spec.IsFormOrder (form_of (Seq_body seq.now)) order.now }
     ensures put { result ≡ true → (d : Data) × FormRead (grammar_of root.now) (form_of (Seq_body seq.now)) d draft.old.slots.items draft.new.slots.items cur.old cur.new × Puts (compact_text (form_json (form_of (Seq_body seq.now)) d)) draft.old draft.new }
 {
-    let fields = seq.fields.items();
-    let Ok(window) = cur.window(count_of(fields)) else {
-        return false;
-    };
-    let mut flags = window;
     let mark = draft.aside.len();
     let first = draft.parts.len();
     swap(&mut draft.text, &mut draft.aside);
-    if !put_fields(fields, order.inside.items(), root, &mut flags, cur, draft) {
+    if !lay_sequence(seq, order, root, cur, draft) {
         return false;
     }
     swap(&mut draft.text, &mut draft.aside);
     if !put_members(
         order.turns.items(),
-        fields,
+        seq.fields.items(),
         &draft.parts[first..],
         &draft.aside,
         &mut draft.text,
@@ -119,6 +116,33 @@ fn put_sequence(
     }
     draft.aside.truncate(mark);
     draft.parts.truncate(first);
+    true
+}
+
+/// Puts the values of the components of a SEQUENCE, which is passed, one behind the other, but for
+/// numbers, and notes where they stand, and the numbers.
+#[cycle(put)]
+pub fn lay_sequence(
+    seq: &Seq,
+    order: &Order,
+    root: &Node,
+    cur: &mut ReadCursor<'_>,
+    draft: &mut Draft,
+) -> bool
+    requires ready { (k : ℕ) × (around : List ℕ) × FormStands (grammar_of root.now) k (form_of (Seq_body seq.now)) draft.old.slots.items around }
+    requires named { FormItemsNamed (form_of (Seq_body seq.now)) }
+    requires fine { Fine (grammar_of root.now) draft.old.slots.items }
+    requires order { order_spec.IsFormOrder (form_of (Seq_body seq.now)) order.now }
+    ensures laid { result ≡ true → (ds : List (Option Data)) × FormRead (grammar_of root.now) (form_of (Seq_body seq.now)) (record_of (places_of ds)) draft.old.slots.items draft.new.slots.items cur.old cur.new × Lays (fields_view seq.now.fields) no_fields ds draft.old draft.new }
+{
+    let fields = seq.fields.items();
+    let Ok(window) = cur.window(count_of(fields)) else {
+        return false;
+    };
+    let mut flags = window;
+    if !put_fields(fields, order.inside.items(), root, &mut flags, cur, draft) {
+        return false;
+    }
     forget(seq.home.items(), &mut draft.slots);
     true
 }
@@ -176,6 +200,15 @@ fn put_field(
     }
 }
 
+// Whether the next bit is set, which is passed.
+fn is_set(flags: &mut ReadCursor<'_>) -> bool
+    requires { BitThere Bit flags.old.rest }
+    ensures there { result ≡ first_bit flags.old.rest }
+    ensures flags { flags.new.rest ≡ flags_behind Bit flags.old.rest }
+{
+    flags.take(1).unwrap_or(0) == 1
+}
+
 // Whether a component is there. Its bit is passed, where it has one. Most are always there.
 #[inline(always)]
 fn is_here(presence: &Presence, flags: &mut ReadCursor<'_>, numbers: &[(u32, i128)]) -> bool
@@ -185,7 +218,8 @@ fn is_here(presence: &Presence, flags: &mut ReadCursor<'_>, numbers: &[(u32, i12
 {
     match presence {
         Presence::Always => true,
-        _ => is_there(presence, flags, numbers),
+        Presence::Bit => is_set(flags),
+        Presence::When(_) => is_there(presence, flags, numbers),
     }
 }
 

@@ -38,7 +38,7 @@ use Rattle.acn_transcode.specs.Puts.{Puts, Lays, Shows, IsNumber, AreLaid}
 use Rattle.acn_transcode.specs.declared.draft.Draft.{Draft}
 use Rattle.acn_transcode.specs.declared.draft.Part.TheVariants.{Number}
 use Rattle.acn_transcode.proofs.NumberTexts.{value_read}
-use Rattle.acn_transcode.proofs.Walks.{all_laid, alternative_put, array_put, away_laid, front_left, if_true, item_put, later_is, more_laid, no_err, no_items_put, none_laid, number_shown, object_put, one_longer, passed_laid, seen_form, seq_put_read, text_shown, there_laid, view_num, when_ok}
+use Rattle.acn_transcode.proofs.Walks.{all_laid, alternative_put, array_put, away_laid, fields_laid, front_left, if_true, item_put, laid_of, later_is, more_laid, no_err, no_items_put, none_laid, number_shown, object_put, one_longer, passed_laid, seen_form, seq_put_read, text_shown, there_laid, view_num, when_ok}
 use Rattle.acn_transcode.proofs.walk.+put.Goals.{put_list-then-is_ended+else-not-put_elements, put_list-else-is_ended+in-Some+else-not-put_run}
 use Rattle.acn_transcode.proofs.walk.+put.Goals as goal
 
@@ -470,11 +470,11 @@ put_run-returns t c =
     let count : length p.0 ≡ c.args.n = (let n = p.1 in omega (arith, over, within, n)) in
     record { put = λ sure. (p.0, count, p.2, p.3) }
 
-pub put_sequence-count_of-requires : goal.put_sequence-count_of-requires
-put_sequence-count_of-requires t c = (let r = c.requires.ready in few_fields (grammar_of c.args.root.now) _ c.args.seq.now.fields c.items-fields.result.now c.args.seq.now.home r.0 c.args.draft.now.slots.items (view_seq_form c.args.seq.now) c.items-fields.ensures (r.1, r.2))
+pub lay_sequence-count_of-requires : goal.lay_sequence-count_of-requires
+lay_sequence-count_of-requires t c = (let r = c.requires.ready in few_fields (grammar_of c.args.root.now) _ c.args.seq.now.fields c.items-fields.result.now c.args.seq.now.home r.0 c.args.draft.now.slots.items (view_seq_form c.args.seq.now) c.items-fields.ensures (r.1, r.2))
 
-pub put_sequence-put_fields-requires : goal.put_sequence-put_fields-requires
-put_sequence-put_fields-requires t c =
+pub lay_sequence-put_fields-requires : goal.lay_sequence-put_fields-requires
+lay_sequence-put_fields-requires t c =
     let root = grammar_of c.args.root.now in
     let v = view_seq_form c.args.seq.now in
     let r = c.requires.ready in
@@ -489,12 +489,30 @@ put_sequence-put_fields-requires t c =
       ),
     )
 
+pub lay_sequence-returns : goal.lay_sequence-returns
+lay_sequence-returns t c = record {
+  laid = λ sure.
+      let root = grammar_of c.args.root.now in
+      let fields = c.items-fields.result.now in
+      let form = form_of (Seq_body c.args.seq.now) in
+      let v = view_seq_form c.args.seq.now in
+      let r = c.requires.ready in
+      let p = c.put_fields.ensures.put c.if-not-put_fields.false in
+      let count : c.count_of.result ≡ presence_count (fields_view c.args.seq.now.fields) = c.count_of.ensures ∙ ap (λ x. presence_count (fields_view x)) c.items-fields.ensures in (
+        p.0,
+        seq_put_read root r.0 _ form c.args.seq.now.fields fields c.args.seq.now.home c.items-2.result.now p.0 c.args.draft.now.slots.items c.put_fields.new.draft.slots.items c.forget.new.slots.items c.args.cur.now c.window.new.self c.put_fields.new.cur c.in-Ok.window c.count_of.result _
+            v c.items-fields.ensures c.items-2.ensures c.forget.ensures count c.in-Ok.ensures.within c.in-Ok.ensures.window c.in-Ok.ensures.moved (r.1, r.2) p.1,
+        laid_of fields c.args.seq.now.fields p.0 c.args.draft.now c.put_fields.new.draft _ c.items-fields.ensures refl refl refl p.2,
+      );
+}
+
 pub put_sequence-put_members-requires : goal.put_sequence-put_members-requires
 put_sequence-put_members-requires t c =
-    let fields = c.items-fields.result.now in
-    let p = c.put_fields.ensures.put c.if-not-put_fields.false in
+    let fields = c.items-2.result.now in
+    let p = c.lay_sequence.ensures.laid c.if-not-lay_sequence.false in
+    let lays = fields_laid fields c.args.seq.now.fields p.0 _ _ c.items-2.ensures p.2 in
     let o = subst (λ (x : Form). IsFormOrder x c.args.order.now) (view_seq_form c.args.seq.now) c.requires.order in
-    let turns = subst (λ ts. AreTurns (fields_view fields) ts) (sym c.items-2.ensures) (subst (λ (x : List Field). AreTurns (fields_view x) (out-Order c.args.order.now).turns) (sym c.items-fields.ensures) o.0) in
+    let turns = subst (λ ts. AreTurns (fields_view fields) ts) (sym c.items.ensures) (subst (λ (x : List Field). AreTurns (fields_view x) (out-Order c.args.order.now).turns) (sym c.items-2.ensures) o.0) in
     let texts = c.deref-2.ensures.value ∙ ap (λ v. v.items) c.swap-2.ensures.y_after in
     let first = c.len-first.result in
     let before : first ≡ length c.args.draft.now.parts.items = search rules in
@@ -502,7 +520,7 @@ put_sequence-put_members-requires t c =
       laid = (
         p.0,
         subst (λ x. AreLaid x (fields_view fields) (take (length c.deref.result.now - first) (drop first c.deref.result.now)) p.0) (sym texts)
-            (subst (λ x. AreLaid c.put_fields.new.draft.text.items (fields_view fields) (take (length x - first) (drop first x)) p.0) (sym c.deref.ensures.value) (all_laid (fields_view fields) p.0 _ c.put_fields.new.draft first p.2 before)),
+            (subst (λ x. AreLaid c.lay_sequence.new.draft.text.items (fields_view fields) (take (length x - first) (drop first x)) p.0) (sym c.deref.ensures.value) (all_laid (fields_view fields) p.0 _ c.lay_sequence.new.draft first lays before)),
         turns.0,
         turns.2,
       );
@@ -511,30 +529,27 @@ put_sequence-put_members-requires t c =
 pub put_sequence-returns : goal.put_sequence-returns
 put_sequence-returns t c = record {
   put = λ sure.
-      let root = grammar_of c.args.root.now in
-      let fields = c.items-fields.result.now in
+      let fields = c.items-2.result.now in
       let form = form_of (Seq_body c.args.seq.now) in
       let v = view_seq_form c.args.seq.now in
-      let r = c.requires.ready in
-      let p = c.put_fields.ensures.put c.if-not-put_fields.false in
-      let count : c.count_of.result ≡ presence_count (fields_view c.args.seq.now.fields) = c.count_of.ensures ∙ ap (λ x. presence_count (fields_view x)) c.items-fields.ensures in
+      let p = c.lay_sequence.ensures.laid c.if-not-lay_sequence.false in
+      let lays = fields_laid fields c.args.seq.now.fields p.0 _ _ c.items-2.ensures p.2 in
       let o = subst (λ (x : Form). IsFormOrder x c.args.order.now) v c.requires.order in
-      let turns = subst (λ ts. AreTurns (fields_view fields) ts) (sym c.items-2.ensures) (subst (λ (x : List Field). AreTurns (fields_view x) (out-Order c.args.order.now).turns) (sym c.items-fields.ensures) o.0) in
+      let turns = subst (λ ts. AreTurns (fields_view fields) ts) (sym c.items.ensures) (subst (λ (x : List Field). AreTurns (fields_view x) (out-Order c.args.order.now).turns) (sym c.items-2.ensures) o.0) in
       let first = c.len-first.result in
       let before : first ≡ length c.args.draft.now.parts.items = search rules in
       let mark : c.len-mark.result ≡ length c.args.draft.now.aside.items = search rules in
       let texts = c.deref-2.ensures.value ∙ ap (λ v. v.items) c.swap-2.ensures.y_after in
       let laid = subst (λ x. AreLaid x (fields_view fields) (take (length c.deref.result.now - first) (drop first c.deref.result.now)) p.0) (sym texts)
-      (subst (λ x. AreLaid c.put_fields.new.draft.text.items (fields_view fields) (take (length x - first) (drop first x)) p.0) (sym c.deref.ensures.value) (all_laid (fields_view fields) p.0 _ c.put_fields.new.draft first p.2 before)) in
+      (subst (λ x. AreLaid c.lay_sequence.new.draft.text.items (fields_view fields) (take (length x - first) (drop first x)) p.0) (sym c.deref.ensures.value) (all_laid (fields_view fields) p.0 _ c.lay_sequence.new.draft first lays before)) in
       let base = ap (λ v. v.items) c.swap-2.ensures.x_after ∙ (p.2.aside ∙ ap (λ v. v.items) c.swap.ensures.y_after) in
       let said = c.put_members.ensures.put c.if-not-put_members.false p.0 laid turns.0 turns.2 in (
         record_of (places_of p.0),
-        seq_put_read root r.0 _ form c.args.seq.now.fields fields c.args.seq.now.home c.items-3.result.now p.0 c.args.draft.now.slots.items c.put_fields.new.draft.slots.items c.forget.new.slots.items c.args.cur.now c.window.new.self c.put_fields.new.cur c.in-Ok.window c.count_of.result _
-            v c.items-fields.ensures c.items-3.ensures c.forget.ensures count c.in-Ok.ensures.within c.in-Ok.ensures.window c.in-Ok.ensures.moved (r.1, r.2) p.1,
+        p.1,
         record {
-          added = object_put (fields_view fields) c.args.seq.now.home c.items-2.result.now p.0 form c.args.draft.now.text.items c.put_members.new.text.items (v ∙ ap (λ (x : List Field). seq (fields_view x) c.args.seq.now.home) (sym c.items-fields.ensures)) turns (said ∙ ap (λ x. x ++ 123 ∷ members_text false (in_order (fields_view fields) c.items-2.result.now (placed p.0 no_places))) base);
+          added = object_put (fields_view fields) c.args.seq.now.home c.items.result.now p.0 form c.args.draft.now.text.items c.put_members.new.text.items (v ∙ ap (λ (x : List Field). seq (fields_view x) c.args.seq.now.home) (sym c.items-2.ensures)) turns (said ∙ ap (λ x. x ++ 123 ∷ members_text false (in_order (fields_view fields) c.items.result.now (placed p.0 no_places))) base);
           aside = front_left c.args.draft.now.aside.items p.2.text c.swap-2.new.y.items c.truncate.new.self.items c.len-mark.result mark (ap (λ v. v.items) c.swap-2.ensures.y_after ∙ (p.2.added ∙ ap (λ v. v.items ++ p.2.text) c.swap.ensures.x_after)) c.truncate.ensures.items;
-          parts = front_left c.args.draft.now.parts.items p.2.parts c.put_fields.new.draft.parts.items c.truncate-2.new.self.items first before p.2.noted c.truncate-2.ensures.items;
+          parts = front_left c.args.draft.now.parts.items p.2.parts c.lay_sequence.new.draft.parts.items c.truncate-2.new.self.items first before p.2.noted c.truncate-2.ensures.items;
         },
       );
 }
