@@ -1,4 +1,5 @@
 mod Ending
+mod Feeds
 -- for acn_stream_laws
 pub mod Joining
 mod LinesGiving

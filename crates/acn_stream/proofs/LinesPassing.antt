@@ -332,6 +332,22 @@ never_encoded g limit i o = record {
   writes = record { packets = []; give = refl; are = refl; written = gains_nothing o };
 }
 
+-- nothing is in hand yet
+pub nothing_passed : (g : Grammar) (i : Option (List ℕ)) (s : Supplied) → s.hand ≡ [] → Encoded g s.left i i s (record { lines = 0; packets = 0 }) []
+nothing_passed g i s none = record {
+  ls = [];
+  values = [];
+  front = [];
+  taken = subst (Takes i i) (sym none) (takes_nothing i);
+  left = omega (arith, ap length none);
+  lines = refl;
+  give = refl;
+  are = refl;
+  lines_are = refl;
+  packets_are = refl;
+  near = omega (arith, ap length none);
+}
+
 -- there is room behind a line
 pub room_passed : (g : Grammar) (before after : Supplied) (i i' : Option (List ℕ)) (tally : Tally) (line old new : List ℕ) (count : ℕ) → HasRoom before tally → IsEnded before after i i' line → Adds g line old new count
     → HasRoom after (record { lines = tally.lines + 1; packets = tally.packets + count })

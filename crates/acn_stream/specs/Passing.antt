@@ -1,5 +1,5 @@
 -- What the calls inside do with lines.
-use Rattle.std.specs.Prelude.{◌≡◌, ℕ, ◌+◌, ◌^◌, ◌<◌, ◌≤◌, Bool, List, [], ◌++◌, length, Option, Some, None, Result, Ok, Err}
+use Rattle.std.specs.Prelude.{◌≡◌, ℕ, ◌+◌, ◌^◌, ◌<◌, ◌≤◌, Bool, List, [], ◌∷◌, ◌++◌, length, take, drop, Option, Some, None, Result, Ok, Err}
 use Rattle.acn_grammar.specs.Code.{Mode}
 use Rattle.acn_grammar.specs.Faults.{unfit_of}
 use Rattle.acn_grammar.specs.Grammar.{Grammar, Data}
@@ -20,6 +20,7 @@ use Rattle.acn_stream.specs.declared.encode.Way.{Way}
 use Rattle.acn_stream.specs.declared.encode.Way.TheVariants as way
 use Rattle.acn_stream.specs.declared.stream_fault.StreamFault.{StreamFault}
 use Rattle.acn_stream.specs.declared.stream_fault.StreamFault.TheVariants as stream
+use Rattle.acn_supply.specs.Cutting.{IsOneLine}
 use Rattle.acn_supply.specs.Reading.{Supplied}
 use Rattle.acn_supply.specs.declared.lines.NoLine.{NoLine}
 use Rattle.acn_supply.specs.declared.lines.NoLine.TheVariants.{TooLong, PastLimit, Failed, NoMemory}
@@ -102,6 +103,12 @@ abbrev pub told : Way → StreamFault → Option (Result ℕ StreamFault)
 told way.On fault = None
 told (way.Ended count) fault = Some (Ok count)
 told way.Failed fault = Some (Err fault)
+
+-- the first line feed of the bytes stands at this place
+pub record IsFeed (bytes : List ℕ) (at : ℕ) : Type 0 where
+  pub inside : at < length bytes
+  pub one : IsOneLine (take at bytes)
+  pub cut : bytes ≡ take at bytes ++ 10 ∷ drop (at + 1) bytes
 
 abbrev pub unread : Supplied → ℕ
 unread s = length s.hand + s.left

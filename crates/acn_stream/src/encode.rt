@@ -1,6 +1,6 @@
 //! Encoding: lines of an input become packets of an output.
 
-ghost use Rattle.std.specs.Prelude.{◌≡◌, ◌↔◌, ◌+◌, ◌^◌, ◌<◌, ◌≤◌, ◌++◌, ℕ, List, [], length, Option, None, Some, Err, IsErrOf};
+ghost use Rattle.std.specs.Prelude.{◌≡◌, ◌↔◌, ◌+◌, ◌^◌, ◌<◌, ◌≤◌, ◌++◌, ℕ, List, [], length, Option, None, Some, Err, IfSome, IsErrOf};
 ghost use Rattle.acn_grammar.specs.Interval.{span};
 ghost use Rattle.acn_grammar.specs.View.{grammar_of};
 ghost use Rattle.acn_outside.specs.Counts.{Rose, Stays};
@@ -109,8 +109,9 @@ fn take_line<S: Source>(
     ensures failed { spec.told result fault.new ≡ Some (Err stream.InputFault) → Rose (S.faults input.old) (S.faults input.new) }
     ensures stays { (spec.told result fault.new ≡ Some (Err stream.InputFault) → ⊥) → Stays (S.faults input.old) (S.faults input.new) }
 {
-    match read_line(supply, input, &mut space.line) {
-        Ok(Line::Ended) => match put_line(alloc, by, space) {
+    let mut line = Vec::new(alloc);
+    match read_line(supply, input, &mut line) {
+        Ok(Line::Ended) => match put_line(alloc, by, &line, space) {
             Some(count) => {
                 tally.lines += 1;
                 tally.packets += count;
@@ -118,12 +119,80 @@ fn take_line<S: Source>(
             }
             None => fail_at(tally.lines + 1, &mut space.why, fault),
         },
-        Ok(Line::Last) => match put_line(alloc, by, space) {
+        Ok(Line::Last) => match put_line(alloc, by, &line, space) {
             Some(count) => Way::Ended(tally.packets + count),
             None => fail_at(tally.lines + 1, &mut space.why, fault),
         },
         Err(why) => fail_behind(tally.lines, why, fault),
     }
+}
+
+// The place of the first line feed.
+fn feed_in(bytes: &[u8]) -> Option<usize>
+    ensures { IfSome result (spec.IsFeed bytes.now) }
+{
+    memchr(b'\n', bytes)
+}
+
+// Adds the packet of the line that is in hand up to a line feed, where it stands.
+fn take_here(
+    alloc: Global,
+    by: &Encoder<'_>,
+    space: &mut Workspace,
+    supply: &mut Supply,
+    feed: usize,
+    tally: &mut Tally,
+    fault: &mut StreamFault,
+) -> Way
+    requires can { spec.CanEncode by.now }
+    requires room { spec.HasRoom supply.old tally.old }
+    requires feed { spec.IsFeed supply.old.hand feed }
+    ensures goes { (limit : ℕ) (i i' : Option (List ℕ)) (text : List ℕ) → spec.Encoded (spec.grammar_by by.now) limit i i' supply.old tally.old (text ++ space.old.packets.items) → spec.Goes (spec.grammar_by by.now) limit i i' supply.new tally.new (text ++ space.new.packets.items) (spec.told result fault.new) }
+    ensures room { result ≡ way.On → spec.HasRoom supply.new tally.new }
+    ensures falls { result ≡ way.On → spec.unread supply.new < spec.unread supply.old }
+    ensures kept { spec.told result fault.new ≡ Some (Err stream.InputFault) → ⊥ }
+{
+    let hand = supply.hand();
+    let put = put_line(alloc, by, &hand[..feed], space);
+    supply.skip(feed + 1);
+    match put {
+        Some(count) => {
+            tally.lines += 1;
+            tally.packets += count;
+            Way::On
+        }
+        None => fail_at(tally.lines + 1, &mut space.why, fault),
+    }
+}
+
+// Takes the lines that are in hand, up to a block of packets.
+fn take_others(
+    alloc: Global,
+    by: &Encoder<'_>,
+    space: &mut Workspace,
+    supply: &mut Supply,
+    tally: &mut Tally,
+    fault: &mut StreamFault,
+) -> Way
+    requires can { spec.CanEncode by.now }
+    requires room { spec.HasRoom supply.old tally.old }
+    ensures goes { (limit : ℕ) (i i' : Option (List ℕ)) (text : List ℕ) → spec.Encoded (spec.grammar_by by.now) limit i i' supply.old tally.old (text ++ space.old.packets.items) → spec.Goes (spec.grammar_by by.now) limit i i' supply.new tally.new (text ++ space.new.packets.items) (spec.told result fault.new) }
+    ensures room { result ≡ way.On → spec.HasRoom supply.new tally.new }
+    ensures falls { result ≡ way.On → spec.unread supply.new ≤ spec.unread supply.old }
+    ensures kept { spec.told result fault.new ≡ Some (Err stream.InputFault) → ⊥ }
+{
+    while space.packets.len() < BLOCK {
+        let hand = supply.hand();
+        match feed_in(hand) {
+            Some(feed) => match take_here(alloc, by, space, supply, feed, tally, fault) {
+                Way::On => {}
+                Way::Ended(count) => return Way::Ended(count),
+                Way::Failed => return Way::Failed,
+            },
+            None => return Way::On,
+        }
+    }
+    Way::On
 }
 
 // Takes lines until no more is in hand, or the packets fill a block.
@@ -145,15 +214,10 @@ fn take_lines<S: Source>(
     ensures failed { spec.told result fault.new ≡ Some (Err stream.InputFault) → Rose (S.faults input.old) (S.faults input.new) }
     ensures stays { (spec.told result fault.new ≡ Some (Err stream.InputFault) → ⊥) → Stays (S.faults input.old) (S.faults input.new) }
 {
-    loop {
-        match take_line(alloc, by, space, supply, input, tally, fault) {
-            Way::On => {}
-            Way::Ended(count) => return Way::Ended(count),
-            Way::Failed => return Way::Failed,
-        }
-        if space.packets.len() >= BLOCK || memchr(b'\n', supply.hand()).is_none() {
-            return Way::On;
-        }
+    match take_line(alloc, by, space, supply, input, tally, fault) {
+        Way::On => take_others(alloc, by, space, supply, tally, fault),
+        Way::Ended(count) => Way::Ended(count),
+        Way::Failed => Way::Failed,
     }
 }
 
@@ -179,7 +243,6 @@ fn encode_supply<S: Source, O: Sink>(
 {
     let mut space = Workspace {
         room: Room::new(alloc),
-        line: Vec::new(alloc),
         packets: Vec::new(alloc),
         buffer: [0u8; PACKET_OCTETS],
         packer: Packer::new(),

@@ -32,12 +32,11 @@ pub struct Encoder<'a> {
     pub order: &'a Lines,
 }
 
-/// What is used again from line to line: the room for its tokens, the line, the packets that aren't written yet, the buffer in which
-/// a packet is made and what makes it, and, where a line gave no packet, why it didn't.
+/// What is used again from line to line: the room for its tokens, the packets that aren't written yet, the buffer in which a packet is
+/// made and what makes it, and, where a line gave no packet, why it didn't.
 #[derive(Drop)]
 pub struct Workspace {
     pub room: Room,
-    pub line: Vec<u8>,
     pub packets: Vec<u8>,
     pub buffer: [u8; PACKET_OCTETS],
     pub packer: Packer,
@@ -138,13 +137,13 @@ fn bad(fault: JsonFault) -> LineFault
 
 // The same for a line whose value isn't seen at once, if it has one.
 #[inline(never)]
-fn put_unseen(alloc: Global, by: &Encoder<'_>, space: &mut Workspace) -> Option<u64>
+fn put_unseen(alloc: Global, by: &Encoder<'_>, line: &[u8], space: &mut Workspace) -> Option<u64>
     requires can { CanEncode by.now }
-    requires few { length space.old.line.items ≤ MOST_LINE_BYTES }
-    requires some { spec.is_blank space.old.line.items ≡ false }
-    ensures { PutsLine (grammar_by by.now) space.old.line.items space.old.packets.items space.new.packets.items (answered result space.new.why) }
+    requires few { length line.now ≤ MOST_LINE_BYTES }
+    requires some { spec.is_blank line.now ≡ false }
+    ensures { PutsLine (grammar_by by.now) line.now space.old.packets.items space.new.packets.items (answered result space.new.why) }
 {
-    match from_line(alloc, by.checked.tree(), &space.line) {
+    match from_line(alloc, by.checked.tree(), line) {
         Ok(value) => put_value(by.plan, &value, space),
         Err(fault) => {
             space.why = bad(fault);
@@ -155,19 +154,19 @@ fn put_unseen(alloc: Global, by: &Encoder<'_>, space: &mut Workspace) -> Option<
 
 /// Adds the packet of the line, and answers how many these are: none of a blank line, else one. None comes where the line gives
 /// none, and then it stands beside it why.
-pub fn put_line(alloc: Global, by: &Encoder<'_>, space: &mut Workspace) -> Option<u64>
+pub fn put_line(alloc: Global, by: &Encoder<'_>, line: &[u8], space: &mut Workspace) -> Option<u64>
     requires can { CanEncode by.now }
-    requires few { length space.old.line.items ≤ MOST_LINE_BYTES }
-    ensures { PutsLine (grammar_by by.now) space.old.line.items space.old.packets.items space.new.packets.items (answered result space.new.why) }
+    requires few { length line.now ≤ MOST_LINE_BYTES }
+    ensures { PutsLine (grammar_by by.now) line.now space.old.packets.items space.new.packets.items (answered result space.new.why) }
 {
-    if is_blank(&space.line) {
+    if is_blank(line) {
         return Some(0);
     }
     match by
         .order
-        .seen(alloc, by.checked.tree(), &mut space.room, &space.line)
+        .seen(alloc, by.checked.tree(), &mut space.room, line)
     {
         Some(value) => put_value(by.plan, &value, space),
-        None => put_unseen(alloc, by, space),
+        None => put_unseen(alloc, by, line, space),
     }
 }

@@ -1,4 +1,5 @@
 -- for acn_stream
 pub mod Moving
-mod Pieces
+-- for acn_stream
+pub mod Pieces
 mod Windows

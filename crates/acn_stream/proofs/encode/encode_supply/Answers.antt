@@ -1,7 +1,8 @@
-use Rattle.std.proofs.Common.{◌++◌, ◌∙◌, Ok, Err, arith, refl}
+use Rattle.std.proofs.Common.{[], ◌++◌, ◌∙◌, Ok, Err, length, ap, arith, refl}
 use Rattle.acn_stream.specs.Passing.{grammar_by}
 use Rattle.acn_outside.proofs.Joined.{gains_more}
-use Rattle.acn_stream.proofs.LinesPassing.{collected, cut_short, all_ends, no_output_fault, no_empty_packet}
+use Rattle.acn_stream.proofs.Joining.{gains_nothing}
+use Rattle.acn_stream.proofs.LinesPassing.{nothing_passed, collected, cut_short, all_ends, no_output_fault, no_empty_packet}
 use Rattle.acn_stream.proofs.encode.encode_supply.Goals as goal
 
 pub returns-in-Err-clause-ends : goal.returns-in-Err-clause-ends
@@ -9,6 +10,16 @@ returns-in-Err-clause-ends g c =
     let so = c.loop-space.invariant.so_far in
     let goes = c.take_lines-way.ensures.goes _ _ so.0 (collected _ _ _ _ _ _ _ _ so.2 c.clear.ensures.items) in
     cut_short _ _ _ _ _ _ _ _ _ _ _ _ so.1 (rw c.deref.ensures.value at c.in-Err.ensures.front) goes
+
+pub loop-space-init : goal.loop-space-init
+loop-space-init g c = record {
+  so_far = ([], gains_nothing _, nothing_passed _ _ c.args.supply.now c.requires.begins);
+  room = record { packets = omega arith; lines = omega (arith, c.requires.limit, ap length c.requires.begins) };
+  input = omega arith;
+  output = omega arith;
+  input_stays = refl;
+  output_stays = refl;
+}
 
 pub loop-space-preserved : goal.loop-space-preserved
 loop-space-preserved g c =

@@ -1,23 +1,26 @@
-use Rattle.std.proofs.Common.{◌∙◌, arith, refl}
+use Rattle.std.proofs.Common.{arith}
 use Rattle.acn_stream.proofs.encode.take_lines.Goals as goal
 
+pub returns-in-On-clause-goes : goal.returns-in-On-clause-goes
+returns-in-On-clause-goes g c limit i text e = c.take_others.ensures.goes limit i _ text (rw c.in-On.is at (c.take_line.ensures.goes limit i text e))
+
+pub returns-in-On-clause-falls : goal.returns-in-On-clause-falls
+returns-in-On-clause-falls g c h = omega (arith, c.take_others.ensures.falls h, c.take_line.ensures.falls c.in-On.is)
+
+pub returns-in-On-clause-failed : goal.returns-in-On-clause-failed
+returns-in-On-clause-failed g c h = absurd (c.take_others.ensures.kept h)
+
+pub returns-in-On-clause-stays : goal.returns-in-On-clause-stays
+returns-in-On-clause-stays g c h = (rw c.in-On.is at c.take_line.ensures.stays) (λ e. cc)
+
 pub returns-in-Ended-clause-goes : goal.returns-in-Ended-clause-goes
-returns-in-Ended-clause-goes g c limit i text e = rw c.in-Ended.is at (c.take_line.ensures.goes limit i text (c.loop-count.invariant.goes limit i text e))
+returns-in-Ended-clause-goes g c limit i text e = rw c.in-Ended.is at (c.take_line.ensures.goes limit i text e)
 
 pub returns-in-Failed-clause-goes : goal.returns-in-Failed-clause-goes
-returns-in-Failed-clause-goes g c limit i text e = rw c.in-Failed.is at (c.take_line.ensures.goes limit i text (c.loop-count.invariant.goes limit i text e))
+returns-in-Failed-clause-goes g c limit i text e = rw c.in-Failed.is at (c.take_line.ensures.goes limit i text e)
 
 pub returns-in-Ended-clause-stays : goal.returns-in-Ended-clause-stays
-returns-in-Ended-clause-stays g c h = (rw c.in-Ended.is at c.take_line.ensures.stays) h ∙ c.loop-count.invariant.stays
+returns-in-Ended-clause-stays g c h = (rw c.in-Ended.is at c.take_line.ensures.stays) h
 
 pub returns-in-Failed-clause-stays : goal.returns-in-Failed-clause-stays
-returns-in-Failed-clause-stays g c h = (rw c.in-Failed.is at c.take_line.ensures.stays) h ∙ c.loop-count.invariant.stays
-
-pub loop-count-preserved : goal.loop-count-preserved
-loop-count-preserved g c = record {
-  goes = λ limit i text e. rw c.in-On.is at (c.take_line.ensures.goes limit i text (c.loop-count.invariant.goes limit i text e));
-  room = c.take_line.ensures.room c.in-On.is;
-  falls = omega (arith, c.loop-count.invariant.falls, c.take_line.ensures.falls c.in-On.is);
-  count = omega (arith, c.loop-count.invariant.count, c.take_line.ensures.count);
-  stays = (rw c.in-On.is at c.take_line.ensures.stays) (λ e. cc) ∙ c.loop-count.invariant.stays;
-}
+returns-in-Failed-clause-stays g c h = (rw c.in-Failed.is at c.take_line.ensures.stays) h

@@ -10,6 +10,6 @@ returns-in-Some c =
     let old = c.args.space.now.packets.items in
     let said = answered c.put_value.result c.put_value.new.space.why in
     let puts : PutsValue (root_of c.args.by.now.plan.now.steps) (data_of c.in-Some.value) old c.put_value.new.space.packets.items said = c.put_value.ensures in
-    let gives = rw (c.tree.ensures.same, c.deref-2.ensures.value) at c.in-Some.ensures.gives in
-    let blank = rw c.deref.ensures.value at (sym c.is_blank.ensures ∙ c.if-is_blank.false) in
-    puts_line (grammar_by c.args.by.now) c.args.space.now.line.items (data_of c.in-Some.value) old _ said blank gives (rw c.requires.can.planned at puts)
+    let gives = rw c.tree.ensures.same at c.in-Some.ensures.gives in
+    let blank = sym c.is_blank.ensures ∙ c.if-is_blank.false in
+    puts_line (grammar_by c.args.by.now) c.args.line.now (data_of c.in-Some.value) old _ said blank gives (rw c.requires.can.planned at puts)

@@ -9,5 +9,5 @@ returns-in-Ok c =
     let old = c.args.space.now.packets.items in
     let said = answered c.put_value.result c.put_value.new.space.why in
     let puts : PutsValue (root_of c.args.by.now.plan.now.steps) (data_of c.in-Ok.value) old c.put_value.new.space.packets.items said = c.put_value.ensures in
-    let gives = rw (c.tree.ensures.same, c.deref.ensures.value) at c.in-Ok.ensures.gives in
-    puts_line (grammar_by c.args.by.now) c.args.space.now.line.items (data_of c.in-Ok.value) old _ said c.requires.some gives (rw c.requires.can.planned at puts)
+    let gives = rw c.tree.ensures.same at c.in-Ok.ensures.gives in
+    puts_line (grammar_by c.args.by.now) c.args.line.now (data_of c.in-Ok.value) old _ said c.requires.some gives (rw c.requires.can.planned at puts)
