@@ -153,18 +153,15 @@ fn take_here(
     ensures kept { spec.told result fault.new ≡ Some (Err stream.InputFault) → ⊥ }
 {
     let hand = supply.hand();
-    let line = &hand[..feed];
-    match put_line(alloc, by, line, space) {
+    let put = put_line(alloc, by, &hand[..feed], space);
+    supply.skip(feed + 1);
+    match put {
         Some(count) => {
-            supply.skip(feed + 1);
             tally.lines += 1;
             tally.packets += count;
             Way::On
         }
-        None => {
-            supply.skip(feed + 1);
-            fail_at(tally.lines + 1, &mut space.why, fault)
-        }
+        None => fail_at(tally.lines + 1, &mut space.why, fault),
     }
 }
 

@@ -9,13 +9,13 @@ returns-in-Some-clause-goes c limit i i' text e =
     let same = c.hand-hand.ensures.same in
     let near : length c.args.supply.now.hand ≤ MOST_IN_HAND = rw same at c.hand-hand.ensures.few in
     let ended = ended_here c.args.supply.now c.skip.new.self i' c.args.feed c.requires.feed near c.skip.ensures in
-    line_passed _ limit i _ _ _ _ _ text _ _ _ _ e ended (rw same at c.in-Some.ensures)
+    line_passed _ limit i _ _ _ _ _ text _ _ _ _ e ended (rw (same, c.in-Some.is) at c.put_line-put.ensures)
 
 pub returns-in-Some-clause-room : goal.returns-in-Some-clause-room
 returns-in-Some-clause-room c h =
     let same = c.hand-hand.ensures.same in
     let near : length c.args.supply.now.hand ≤ MOST_IN_HAND = rw same at c.hand-hand.ensures.few in
-    room_passed _ _ _ _ _ _ _ _ _ _ c.requires.room (ended_here c.args.supply.now c.skip.new.self None c.args.feed c.requires.feed near c.skip.ensures) (rw same at c.in-Some.ensures)
+    room_passed _ _ _ _ _ _ _ _ _ _ c.requires.room (ended_here c.args.supply.now c.skip.new.self None c.args.feed c.requires.feed near c.skip.ensures) (rw (same, c.in-Some.is) at c.put_line-put.ensures)
 
 pub returns-in-Some-clause-falls : goal.returns-in-Some-clause-falls
 returns-in-Some-clause-falls c h =
@@ -26,9 +26,9 @@ pub returns-in-None-clause-goes : goal.returns-in-None-clause-goes
 returns-in-None-clause-goes c limit i i' text e =
     let same = c.hand-hand.ensures.same in
     let near : length c.args.supply.now.hand ≤ MOST_IN_HAND = rw same at c.hand-hand.ensures.few in
-    let ended = ended_here c.args.supply.now c.skip-in-None.new.self i' c.args.feed c.requires.feed near c.skip-in-None.ensures in
-    let said = rw same at c.in-None.ensures in
-    rw (c.fail_at.ensures.way, c.fail_at.ensures.fault) (failed_ended _ limit i _ _ _ _ _ text _ _ _ c.put_line.new.space.why e ended said.0 said.2)
+    let ended = ended_here c.args.supply.now c.skip.new.self i' c.args.feed c.requires.feed near c.skip.ensures in
+    let said = rw (same, c.in-None.is) at c.put_line-put.ensures in
+    rw (c.fail_at.ensures.way, c.fail_at.ensures.fault) (failed_ended _ limit i _ _ _ _ _ text _ _ _ c.put_line-put.new.space.why e ended said.0 said.2)
 
 pub returns-in-None-clause-kept : goal.returns-in-None-clause-kept
 returns-in-None-clause-kept c h = no_input_fault _ _ _ _ c.fail_at.ensures.way c.fail_at.ensures.fault h
