@@ -1,7 +1,7 @@
 -- Two runs of the same words over the same files and the same input end alike.
-use Rattle.std.proofs.Common.{◌≡◌, ◌⊎◌, ℕ, ◌+◌, ◌<◌, true, List, [], ◌∷◌, ◌++◌, length, Option, Some, None, inl, inr, refl, sym, ap, subst, ◌∙◌}
+use Rattle.std.proofs.Common.{◌≡◌, ◌⊎◌, ℕ, List, [], ◌∷◌, Option, Some, None, inl, inr, refl, sym, ap, subst, ◌∙◌}
 use Rattle.std.specs.List.{AllByRecursion}
-use Rattle.std.specs.Prelude.{Result, Ok, Err}
+use Rattle.std.specs.Prelude.{Ok}
 use Rattle.acn_files.specs.Contents.{Told}
 use Rattle.acn_front.specs.Laws.{OneWorld, FaultyFilesHaveNoWorld, RefusedTypesHaveNoGrammars, OneGrammar}
 use Rattle.acn_grammar.specs.Code.{Written}
@@ -10,9 +10,9 @@ use Rattle.acn_grammar.specs.View.{grammar_of}
 use Rattle.acn_outside.specs.Moves.{Gains, Takes}
 use Rattle.acn_packet_laws.specs.Laws.{IsAccepted, RefusedIsNotSpelled}
 use Rattle.acn_route.specs.Laws.{OneSpace}
-use Rattle.acn_route.specs.Routing.{packets_of, RouteEnds}
+use Rattle.acn_route.specs.Routing.{packets_of}
 use Rattle.acn_route.specs.declared.count.RouteCount.{RouteCount}
-use Rattle.acn_stream.specs.Encoding.{IsWrittenPacket, Packets, IsEncoded}
+use Rattle.acn_stream.specs.Encoding.{Packets, IsEncoded}
 use Rattle.acn_explain.specs.Texts.{packet_text}
 use Rattle.acn_stream.specs.Recording.{Text, lines_text, texts}
 use Rattle.acn_stream.specs.Decoding.{IsDone}
@@ -23,7 +23,7 @@ use Rattle.acn_words.specs.Requests.{Request, check, bounds, layout, encode, dec
 use Rattle.acn_commands.specs.Asked.{HasGrammars}
 use Rattle.acn_run.specs.Complete.{IsUnrefused, NothingFailed, Holds, IsLinesOf, IsRecordingOf, CanBeRouted, CanBeConverted, DoesTheWhole, IsComplete}
 use Rattle.acn_run.specs.Complete as whole
-use Rattle.acn_run.specs.Exactly.{AreTold, EndsRefused, IsRefused}
+use Rattle.acn_run.specs.Exactly.{AreTold, EndsRefused}
 use Rattle.acn_run.specs.OneAnswer.{Answers}
 use Rattle.acn_commands.specs.Outside.{Outside}
 use Rattle.acn_commands.specs.Refusals.{Refuses}

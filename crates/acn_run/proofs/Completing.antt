@@ -1,6 +1,6 @@
 -- That a run does the whole where nothing is refused and nothing fails, from how it ends and the laws of streams.
-use Rattle.std.proofs.Common.{◌≡◌, ℕ, ◌<◌, zero, suc, true, List, [], ◌∷◌, ◌++◌, length, Option, Some, refl, sym, ap, subst, arith, ◌∙◌, append-nil}
-use Rattle.std.specs.Prelude.{Result, Ok, Err, IsErrOf, IsTrue}
+use Rattle.std.proofs.Common.{◌≡◌, ℕ, ◌<◌, true, List, [], ◌∷◌, ◌++◌, length, Option, Some, refl, sym, ap, subst, arith, ◌∙◌, append-nil}
+use Rattle.std.specs.Prelude.{Result, Ok, Err, IsErrOf}
 use Rattle.acn_explain.specs.Explaining.{ExplainEnds}
 use Rattle.acn_explain.specs.Texts.{packet_text}
 use Rattle.acn_grammar.specs.Grammar.{Grammar, Data}

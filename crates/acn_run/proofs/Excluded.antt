@@ -1,9 +1,9 @@
 -- Sources that are refused have no grammars, so a run doesn't do with them what a command does with grammars.
-use Rattle.std.proofs.Common.{◌≡◌, ℕ, zero, suc, ◌<◌, ◌≤◌, true, false, List, [], ◌∷◌, ◌++◌, length, Option, Some, None, refl, sym, ap, ◌∙◌, subst, arith, inl, inr}
+use Rattle.std.proofs.Common.{◌≡◌, ℕ, zero, suc, ◌≤◌, false, List, [], ◌∷◌, ◌++◌, length, Option, Some, None, refl, sym, ap, ◌∙◌, subst, arith, inl, inr}
 use Rattle.std.specs.Prelude.{Result, Ok, Err, ◌⊎◌, IsTrue, is_some, slice_get}
 use Rattle.acn_extreme_laws.specs.Single.{FirstUnsingle}
 use Rattle.acn_extreme_laws.specs.declared.why.Why.{Why}
-use Rattle.acn_files.specs.Contents.{Told, AreWhole, IsFirstTooLong}
+use Rattle.acn_files.specs.Contents.{Told, AreWhole}
 use Rattle.acn_front.specs.Grammars.{AreGrammarsOf, IsFirstTypeFault}
 use Rattle.acn_front.specs.Laws.{OneWorld, FaultyFilesHaveNoWorld, RefusedTypesHaveNoGrammars, OneGrammar}
 use Rattle.acn_front.specs.declared.grammars.TypeFault.{TypeFault}
@@ -21,7 +21,6 @@ use Rattle.acn_route.specs.declared.count.RouteCount.{RouteCount}
 use Rattle.acn_route.specs.declared.route_fault.RouteFault.{RouteFault}
 use Rattle.acn_route.specs.declared.route_fault.RouteFault.TheVariants as routing
 use Rattle.acn_sources.specs.Laws.{AreAlike}
-use Rattle.acn_sources.specs.Names.{kind_of_name}
 use Rattle.acn_sources.specs.declared.kind.FileKind.{FileKind}
 use Rattle.acn_sources.specs.declared.sources.File.{File}
 use Rattle.acn_stream.specs.declared.stream_fault.StreamFault.{StreamFault}
@@ -34,7 +33,7 @@ use Rattle.acn_run.specs.Exactly.{AreTold, EndsRefused, IsRefused}
 use Rattle.acn_commands.specs.Outside.{Outside}
 use Rattle.acn_commands.specs.Refusals as refusals
 use Rattle.acn_commands.specs.Refusals.{Refuses, IsFirstUnknown, HasTypeFault}
-use Rattle.acn_commands.specs.Serves.{code_of, IsText, Converts, Routes, StreamEnds, Serves, printed, converted, routed, refused, unconverted, unrouted, unreadable, broken_off, route_broken, unwritten, cut, route_cut, stopped, halted, route_halted}
+use Rattle.acn_commands.specs.Serves.{code_of, IsText, Converts, Routes, StreamEnds, Serves, printed, converted, routed, unconverted, unrouted, broken_off, route_broken, unwritten, cut, route_cut}
 use Rattle.acn_run.specs.Run.{Ends, no_form, served}
 use Rattle.acn_commands.specs.declared.status.Status.{Status}
 use Rattle.acn_commands.specs.declared.status.Status.TheVariants.{Done, Usage, NoGrammar, BadInput, FileFailed, InputFailed, OutputFailed, NoMemory}

@@ -1,5 +1,5 @@
 -- That a run of which a line is refused ends there, from how it ends and the law of such lines.
-use Rattle.std.proofs.Common.{◌≡◌, ℕ, ◌+◌, ◌<◌, true, List, [], ◌∷◌, length, Option, Some, refl, sym, ap, subst, ◌∙◌}
+use Rattle.std.proofs.Common.{◌≡◌, ℕ, ◌+◌, ◌<◌, List, [], ◌∷◌, length, Some, refl, sym, ap, subst, ◌∙◌}
 use Rattle.std.specs.Prelude.{Result, Ok, Err, IsErrOf, IsTrue}
 use Rattle.acn_grammar.specs.Interval.{span}
 use Rattle.acn_grammar.specs.View.{grammar_of}
@@ -14,9 +14,8 @@ use Rattle.acn_tree.specs.declared.tree.Tree.{Tree}
 use Rattle.acn_words.specs.Requests.{Request, check, bounds, layout, encode, decode, compare, extremes, route, explain, work, request_in}
 use Rattle.acn_commands.specs.Asked.{HasGrammars}
 use Rattle.acn_run.specs.Complete.{IsUnrefused, NothingFailed}
-use Rattle.acn_commands.specs.Lines.{stream_line}
-use Rattle.acn_commands.specs.Outside.{Outside, Says}
-use Rattle.acn_commands.specs.Serves.{code_of, is_of_input, Converts, IsText, Routes, StreamEnds, Serves, printed, converted, routed, refused, unconverted, unrouted, unreadable, broken_off, route_broken, unwritten, cut, route_cut, stopped, halted, route_halted}
+use Rattle.acn_commands.specs.Outside.{Outside}
+use Rattle.acn_commands.specs.Serves.{code_of, IsText, Routes, StreamEnds, Serves, printed, converted, routed, refused, unconverted, unrouted, unreadable, broken_off, route_broken, unwritten, cut, route_cut, stopped, halted, route_halted}
 use Rattle.acn_run.specs.Run.{Ends, no_form, served}
 use Rattle.acn_run.specs.Stuck.{reads_lines, IsRefusedInput, EndsAtALine, at_line, line_out_of_memory, IsRefusedRun}
 use Rattle.acn_commands.specs.declared.status.Status.{Status}

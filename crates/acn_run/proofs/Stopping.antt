@@ -1,9 +1,8 @@
 -- That a run whose input is stuck ends there, from how it ends and the law of such recordings.
-use Rattle.std.proofs.Common.{◌≡◌, ℕ, ◌+◌, ◌<◌, true, List, [], ◌∷◌, length, Option, Some, refl, sym, ap, subst, ◌∙◌}
+use Rattle.std.proofs.Common.{◌≡◌, ℕ, ◌+◌, ◌<◌, true, List, [], ◌∷◌, length, Some, refl, sym, ap, subst, ◌∙◌}
 use Rattle.std.specs.Prelude.{Result, Ok, Err, IsErrOf, IsTrue}
 use Rattle.acn_explain.specs.Explaining.{ExplainEnds}
 use Rattle.acn_explain.specs.Texts.{packet_text}
-use Rattle.acn_grammar.specs.Faults.{fault_of}
 use Rattle.acn_grammar.specs.Grammar.{Grammar}
 use Rattle.acn_grammar.specs.Interval.{span}
 use Rattle.acn_grammar.specs.View.{grammar_of}
@@ -22,7 +21,7 @@ use Rattle.acn_commands.specs.Asked.{HasGrammars}
 use Rattle.acn_run.specs.Complete.{IsUnrefused, NothingFailed}
 use Rattle.acn_commands.specs.Lines.{stream_line}
 use Rattle.acn_commands.specs.Outside.{Outside, Says}
-use Rattle.acn_commands.specs.Serves.{code_of, is_of_input, Converts, IsText, Routes, StreamEnds, Serves, printed, converted, routed, refused, unconverted, unrouted, unreadable, broken_off, route_broken, unwritten, cut, route_cut, stopped, halted, route_halted}
+use Rattle.acn_commands.specs.Serves.{code_of, is_of_input, IsText, Routes, StreamEnds, Serves, printed, converted, routed, refused, unconverted, unrouted, unreadable, broken_off, route_broken, unwritten, cut, route_cut, stopped, halted, route_halted}
 use Rattle.acn_run.specs.Run.{Ends, no_form, served}
 use Rattle.acn_run.specs.Stuck.{reads_recording, IsStuckInput, EndsStuck, at_packet, out_of_memory, IsStuckRun}
 use Rattle.acn_commands.specs.declared.status.Status.{Status}

@@ -13,7 +13,7 @@ module _ (b a : Outside) where
     -- 1: the words have none of the forms of a command
     no_form : request_in words ≡ None → IsUntouched b a → Says usage_line b.err a.err → Ends words Usage
     -- the request of the words was served
-    served : (request : Request) (status : Status) → request_in words ≡ Some request → Serves request status → Ends words status
+    served : (request : Request) (status : Status) → request_in words ≡ Some request → Serves b a request status → Ends words status
 
   -- by the number of the status
   pub record EndsWith (words : List (List ℕ)) (code : ℕ) : Type 0 where
