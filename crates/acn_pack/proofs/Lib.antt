@@ -1,5 +1,6 @@
 mod Cases
 mod Chosen
+mod Contents
 mod Fields
 mod Levels
 mod Paths

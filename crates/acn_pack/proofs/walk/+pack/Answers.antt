@@ -4,12 +4,11 @@ use Rattle.std.proofs.lemmas.Bool.{and_parts}
 use Rattle.acn_grammar.specs.Asks.{field_path}
 use Rattle.acn_grammar.specs.Grammar.{Grammar, Fields, num, octets, bits, text, seq, list, choice, contained, record_of, list_of, alt}
 use Rattle.acn_grammar.specs.Leaves.{sizes_fine, list_rule_fine}
-use Rattle.acn_grammar.specs.Length.{bit_length, ending, number_of, presence_bits}
+use Rattle.acn_grammar.specs.Length.{ending, number_of, presence_bits}
 use Rattle.acn_grammar.specs.View.{data_of, elements_view, places_view, with_field}
 use Rattle.acn_grammar.specs.declared.value.Value.{Value}
 use Rattle.acn_grammar.proofs.TextRules.{size_few}
-use Rattle.acn_num.specs.Bits.{octets as octets_for}
-use Rattle.acn_events.specs.Event.{Event, aligns, begins, closes, codes, enters, fills, sizes}
+use Rattle.acn_events.specs.Event.{Event, aligns, begins, codes, fills, sizes}
 use Rattle.acn_events.specs.Events.{events, form_events, field_events, index_events, case_events, run_events, size_wants, end_events, inserted_events, own_events, presence_events}
 use Rattle.acn_plan.specs.declared.step.Step.{Step}
 use Rattle.acn_plan.specs.Back.{StepAt, root_of, node_at, form_at, fields_at, cases_at, case_items, field_by}
@@ -22,12 +21,13 @@ use Rattle.acn_pack.specs.Parts.{place_events, item_events, case_tests, left_of,
 use Rattle.acn_pack.specs.Sounds.{IsSound, FormIsSound, FieldsAreSound}
 use Rattle.acn_pack.proofs.Cases.{nth_events, no_events, cases_sound, nth_sound, is_itemed}
 use Rattle.acn_pack.proofs.Chosen.{chosen_case, no_chosen}
+use Rattle.acn_pack.proofs.Contents.{enter_fails, node_fails, align_fails, closed}
 use Rattle.acn_pack.proofs.Levels.{child_inside, form_by, inside, node_of_number, same_step, step_there}
 use Rattle.acn_pack.proofs.Fields.{below, no_element}
 use Rattle.acn_pack.proofs.Paths.{back}
 use Rattle.acn_pack.proofs.Sounding.{depth_is, body_sound, form_as, leaf_is_fine, num_is_fine, text_is_fine, list_is_fine, element_sound, content_sound, fields_sound, deeper, head_sound, rest_sound, own_is_number}
 use Rattle.acn_pack.proofs.Walking.{node_begins, component_on, component_stops, component_ends, inserted_on, inserted_stops, field_on, field_ends, field_stops, element_events, element_on, element_stops, list_begins, case_whole, case_begins}
-use Rattle.acn_pack.proofs.Ways.{begin, then_one, then_some, left_as, packs_as, ended, nothing, last, last_one, failed, failed_to, failed_one, failed_some, ran_on, stopped_as, stop_some, stop_on, close_ran, close_halted}
+use Rattle.acn_pack.proofs.Ways.{begin, then_one, then_some, left_as, packs_as, ended, nothing, last, failed, failed_to, failed_one, failed_some, ran_on, stopped_as, stop_some, stop_on}
 use Rattle.acn_pack.proofs.walk.+pack.Goals as goal
 
 pub pack_step-returns-in_err-align-clause-packs : goal.pack_step-returns-in_err-align-clause-packs
@@ -760,56 +760,23 @@ pack_contained-pack_child-requires g t c κs within =
 
 pub pack_contained-returns-in_err-enter-clause-packs : goal.pack_contained-returns-in_err-enter-clause-packs
 pack_contained-returns-in_err-enter-clause-packs g t c =
-    let root = root_of c.args.steps.now in
-    let n = node_at c.args.steps.now c.args.this in
-    let p = c.args.trace.now.path in
-    let s = c.args.sizing.now in
-    let d = data_of c.args.v.now in
-    let whole = form_events root (contained s n) p d in
-    let end = aligns 8 ∷ closes p s (octets_for (bit_length n 0 d)) ∷ [] in
-    failed_one whole (events root n (p ++ 0 ∷ []) d ++ end) (λ path. enters s.rule) p c.args.w.now c.args.w.now c.enter.new.self c.enter.new.why c.in_err-enter.field-0.0 c.from_residual.result c.from_residual.ensures.1 (begin whole c.args.w.now) c.in_err-enter.ensures.halted
+    enter_fails (root_of c.args.steps.now) (node_at c.args.steps.now c.args.this) c.args.trace.now.path c.args.sizing.now (data_of c.args.v.now) c.args.w.now c.enter.new.self c.enter.new.why c.in_err-enter.field-0.0 c.from_residual.result c.from_residual.ensures.1 c.in_err-enter.ensures.halted
 
 pub pack_contained-returns-in_err-pack_child-clause-packs : goal.pack_contained-returns-in_err-pack_child-clause-packs
 pack_contained-returns-in_err-pack_child-clause-packs g t c =
-    let root = root_of c.args.steps.now in
-    let n = node_at c.args.steps.now c.args.this in
-    let p = c.args.trace.now.path in
-    let s = c.args.sizing.now in
-    let d = data_of c.args.v.now in
-    let whole = form_events root (contained s n) p d in
-    let inner = events root n (p ++ 0 ∷ []) d in
-    let end = aligns 8 ∷ closes p s (octets_for (bit_length n 0 d)) ∷ [] in
-    failed_some whole inner end c.pack_child.new.trace.path c.args.w.now c.enter.new.self c.pack_child.new.w c.pack_child.new.trace.why c.in_err-pack_child.field-0.0 c.from_residual-in_err-pack_child.result c.from_residual-in_err-pack_child.ensures.1
-    (then_one whole (inner ++ end) (λ path. enters s.rule) p c.args.w.now c.args.w.now c.enter.new.self (begin whole c.args.w.now) c.in_ok-enter.ensures.ran) c.in_err-pack_child.ensures.packs
+    node_fails (root_of c.args.steps.now) (node_at c.args.steps.now c.args.this) c.args.trace.now.path c.args.sizing.now (data_of c.args.v.now) c.args.w.now c.enter.new.self c.in_ok-enter.ensures.ran c.pack_child.new.w
+    c.pack_child.new.trace.path c.pack_child.new.trace.why c.in_err-pack_child.field-0.0 c.from_residual-in_err-pack_child.result c.from_residual-in_err-pack_child.ensures.1 c.in_err-pack_child.ensures.packs
 
 pub pack_contained-returns-in_err-align-clause-packs : goal.pack_contained-returns-in_err-align-clause-packs
 pack_contained-returns-in_err-align-clause-packs g t c =
-    let root = root_of c.args.steps.now in
-    let n = node_at c.args.steps.now c.args.this in
-    let p = c.args.trace.now.path in
-    let s = c.args.sizing.now in
-    let d = data_of c.args.v.now in
-    let whole = form_events root (contained s n) p d in
-    let inner = events root n (p ++ 0 ∷ []) d in
-    let last' = closes p s (octets_for (bit_length n 0 d)) ∷ [] in
-    failed_one whole last' (λ path. aligns 8) c.pack_child.new.trace.path c.args.w.now c.pack_child.new.w c.align.new.self c.align.new.why c.in_err-align.field-0.0 c.from_residual-in_err-align.result c.from_residual-in_err-align.ensures.1
-    (then_some whole inner (aligns 8 ∷ last') c.args.w.now c.enter.new.self c.pack_child.new.w (then_one whole (inner ++ aligns 8 ∷ last') (λ path. enters s.rule) p c.args.w.now c.args.w.now c.enter.new.self (begin whole c.args.w.now) c.in_ok-enter.ensures.ran) c.in_ok-pack_child.ensures.packs)
-    c.in_err-align.ensures.halted
+    align_fails (root_of c.args.steps.now) (node_at c.args.steps.now c.args.this) c.args.trace.now.path c.args.sizing.now (data_of c.args.v.now) c.args.w.now c.enter.new.self c.in_ok-enter.ensures.ran c.pack_child.new.w c.in_ok-pack_child.ensures.packs c.align.new.self
+    c.pack_child.new.trace.path c.align.new.why c.in_err-align.field-0.0 c.from_residual-in_err-align.result c.from_residual-in_err-align.ensures.1 c.in_err-align.ensures.halted
 
 pub pack_contained-returns-clause-packs : goal.pack_contained-returns-clause-packs
 pack_contained-returns-clause-packs g t c =
-    let root = root_of c.args.steps.now in
-    let n = node_at c.args.steps.now c.args.this in
-    let p = c.args.trace.now.path in
-    let s = c.args.sizing.now in
-    let d = data_of c.args.v.now in
-    let whole = form_events root (contained s n) p d in
-    let inner = events root n (p ++ 0 ∷ []) d in
-    let octets' = octets_for (bit_length n 0 d) in
-    let last' = closes p s octets' ∷ [] in
-    let within = then_some whole inner (aligns 8 ∷ last') c.args.w.now c.enter.new.self c.pack_child.new.w (then_one whole (inner ++ aligns 8 ∷ last') (λ path. enters s.rule) p c.args.w.now c.args.w.now c.enter.new.self (begin whole c.args.w.now) c.in_ok-enter.ensures.ran) c.in_ok-pack_child.ensures.packs in
-    subst (λ (q : List ℕ). Packs whole c.args.w.now c.close.new.self q c.close.new.why c.close.result) (sym c.in_ok-pack_child.ensures.path)
-    (last_one whole (λ path. closes path s octets') c.args.w.now c.align.new.self c.close.new.self p c.close.new.why c.close.result (then_one whole last' (λ path. aligns 8) p c.args.w.now c.pack_child.new.w c.align.new.self within c.in_ok-align.ensures.ran) (close_ran (λ k path. closes path s k) c.align.new.self c.close.new.self c.close.result c.close.ensures.ran octets') (close_halted (λ k path. closes path s k) c.align.new.self c.close.new.self c.close.new.why c.close.result c.close.ensures.halted octets'))
+    subst (λ (q : List ℕ). Packs (form_events (root_of c.args.steps.now) (contained c.args.sizing.now (node_at c.args.steps.now c.args.this)) c.args.trace.now.path (data_of c.args.v.now)) c.args.w.now c.close.new.self q c.close.new.why c.close.result) (sym c.in_ok-pack_child.ensures.path)
+    (closed (root_of c.args.steps.now) (node_at c.args.steps.now c.args.this) c.args.trace.now.path c.args.sizing.now (data_of c.args.v.now) c.args.w.now c.enter.new.self c.in_ok-enter.ensures.ran c.pack_child.new.w c.in_ok-pack_child.ensures.packs c.align.new.self
+    c.close.new.self c.close.new.why c.close.result c.in_ok-align.ensures.ran c.close.ensures.ran c.close.ensures.halted)
 
 -- The search doesn't get so far down in what is required of the writer's size.
 pub pack_contained-close-requires : goal.pack_contained-close-requires
