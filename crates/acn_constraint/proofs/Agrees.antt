@@ -12,7 +12,8 @@ use Rattle.acn_constraint.specs.Sets.{end_of, range_in, Reading, numbers, sizes,
 use Rattle.acn_constraint.specs.Permits.{permits, any_permits, meet_permits, all_permit, part_permits, element_permits}
 use Rattle.acn_constraint.specs.Asks.{asks_end, asks_set, asks_meets, asks_meet, asks_parts, asks_part, asks_element, asks}
 use Rattle.acn_constraint.specs.Constraints.{left_by}
-use Rattle.acn_constraint.proofs.Hulls.{SameEnds, over, under, between_has, over_least, under_greatest}
+use Rattle.acn_constraint.specs.Hull.{SameEnds}
+use Rattle.acn_constraint.proofs.Hulls.{over, under, between_has, over_least, under_greatest}
 use Rattle.acn_constraint.proofs.Permitted.{Holds, set_holds}
 
 and_same : {a b c d : Bool} → a ≡ b → c ≡ d → (a && c) ≡ (b && d)

@@ -1,9 +1,8 @@
--- Constraints in series leave what stood without what each of them takes.
-use Rattle.std.proofs.Common.{◌≡◌, ℕ, ◌+◌, ◌<◌, ◌≤◌, Bool, true, false, not, ◌&&◌, ◌||◌, List, [], ◌∷◌, ◌++◌, length, get_or, drop, drop_of_length-le, Bor, refl, sym, ap, subst, ◌∙◌, ℤ, pos}
+-- Each of the constraints in series leaves of what stands what it leaves of what stood before it.
+use Rattle.std.proofs.Common.{◌≡◌, ℕ, ◌+◌, ◌<◌, ◌≤◌, Bool, true, false, ◌&&◌, List, [], ◌∷◌, Option, None, length, get_or, drop, drop_of_length-le, Bor, refl, sym, ap, subst, ◌∙◌, pos}
 use Rattle.std.proofs.lemmas.List.{drop_more}
 use Rattle.std.specs.Prelude.{◌-ℤ◌, Result, Ok, Err, IfOk}
-use Rattle.acn_num.specs.Ranges.{Ranges, has, AreRanges, except, bottom}
-use Rattle.acn_num.specs.Unions.{one_has, AreAllRanges}
+use Rattle.acn_num.specs.Ranges.{Ranges, has, bottom}
 use Rattle.acn_num.proofs.Order.{same_set}
 use Rattle.acn_asn_syntax.specs.Mirror.{Constraint}
 use Rattle.acn_asn_syntax.specs.View.{constraint_view}
@@ -13,126 +12,78 @@ use Rattle.acn_index.specs.World.{World}
 use Rattle.acn_constraint.specs.Sets.{Reading}
 use Rattle.acn_constraint.specs.Asks.{asks}
 use Rattle.acn_constraint.specs.Constraints.{left_by, met}
-use Rattle.acn_constraint.specs.Each.{IsWithoutAll}
-use Rattle.acn_constraint.specs.Hull.{hull}
-use Rattle.acn_constraint.specs.Series.{without, taken_by, IsSettled}
-use Rattle.acn_constraint.proofs.Hulls.{SameEnds, hull_of}
-use Rattle.acn_constraint.proofs.Permitted.{less_ranges}
-use Rattle.acn_constraint.proofs.Shared.{except_has}
+use Rattle.acn_constraint.specs.Hull.{SameEnds, IsHull}
+use Rattle.acn_constraint.specs.Series.{without, within, numbers_left, AreOrdered, IsWhole, IsReady, IsKept, IsGathered, IsNarrowed}
+use Rattle.acn_constraint.specs.declared.standing.Standing.{Standing}
 use Rattle.acn_constraint.proofs.Agrees.{constraint_permits, left_holds, left_same}
+use Rattle.acn_constraint.proofs.Stands.{left_ranges, left_within}
 
-without_ranges : (s : Ranges) (taken : List Ranges) → AreRanges s → AreAllRanges taken → AreRanges (without s taken)
-without_ranges s [] h k = h
-without_ranges s (t ∷ rest) h k = without_ranges (except s t) rest (less_ranges s t h k.0) k.1
+-- n: it stands; o: it is left of those round what stands; l: it is left of what stands
+one_step : (n o l p : Bool) → (n ≡ true → o ≡ l) → l ≡ (n && p) → (n && o) ≡ l
+one_step true o l p same left = same refl
+one_step false o l p same left = sym left
 
-not_either : (s t u : Bool) → ((s && not t) && not u) ≡ (s && not (t || u))
-not_either true true u = refl
-not_either true false u = refl
-not_either false t u = refl
-
-and_true : (s : Bool) → s ≡ (s && not false)
-and_true true = refl
-and_true false = refl
-
-without_has : (s : Ranges) (taken : List Ranges) (x : ℤ) → AreRanges s → AreAllRanges taken → has (without s taken) x ≡ (has s x && not (one_has taken x))
-without_has s [] x h k = and_true (has s x)
-without_has s (t ∷ rest) x h k =
-    without_has (except s t) rest x (less_ranges s t h k.0) k.1
-    ∙ (ap (λ b. b && not (one_has rest x)) (except_has s t x h k.0) ∙ not_either (has s x) (has t x) (one_has rest x))
-
--- all of these, taken away at once
-pub without_all_is : (s : Ranges) (taken : List Ranges) (t : Ranges) → AreAllRanges taken → IsWithoutAll s taken t → t ≡ without s taken
-without_all_is s taken t k h =
-    same_set (bottom -ℤ pos 1) t (without s taken) h.ranges (without_ranges s taken h.first k)
-    (λ x. h.numbers x ∙ sym (without_has s taken x h.first k))
-
-without_append : (s : Ranges) (taken : List Ranges) (t : Ranges) → without s (taken ++ t ∷ []) ≡ except (without s taken) t
-without_append s [] t = refl
-without_append s (u ∷ taken) t = without_append (except s u) taken t
-
-pub all_append : (a b : List Ranges) → AreAllRanges a → AreAllRanges b → AreAllRanges (a ++ b)
-all_append [] b h k = k
-all_append (s ∷ a) b h k = (h.0, all_append a b h.1 k)
-
-pub taken_ranges : (w : World) (r : Reading) (c : ℕ × Constraint) (before : Ranges) → AreRanges before → AreRanges (taken_by w r c before)
-taken_ranges w r c before h =
-    let around = hull_of before h in
-    less_ranges (hull before) (left_by w r c (hull before)) around.ordered (left_holds w r c (hull before) around.ordered).0
-
--- n: what stands has the number; s: what stood had it; a: it is between the ends; t: it is taken; o: it is left of those between the ends;
--- l: it is left of what stands
-one_step : (n s a t o l p : Bool) → (n ≡ true → s ≡ true) → (s ≡ true → a ≡ true) → t ≡ (a && not o) → (n ≡ true → o ≡ l) → l ≡ (n && p) → (n && not t) ≡ l
-one_step false s a t o l p inside around taken same left = sym left
-one_step true s a t o l p inside around taken same left =
-    ap (λ b. not b) (taken ∙ ap (λ b. b && not o) (around (inside refl))) ∙ (twice o ∙ same refl)
+-- one constraint more, over the numbers round what stands
+one_turn : (w : World) (r : Reading) (c : ℕ × Constraint) (before ready s : Standing) (stood left : Ranges) → IsReady c.1 before ready → IsHull (within ready.inside ready.numbers) stood → left ≡ left_by w r c stood → IsKept ready stood left s → IsNarrowed w r c before s
+one_turn w r c before ready s stood left settled around is kept = record {
+  ordered = λ o. kept.ordered (settled.ordered o) around.ordered;
+  same = λ o. alike (settled.ordered o) ∙ ap (λ z. left_by w r c z) (settled.same o);
+}
   where
-    twice : (b : Bool) → not (not b) ≡ b
-    twice true = refl
-    twice false = refl
+    ends : asks c.1 ≡ true → SameEnds stood (numbers_left ready)
+    ends e = subst (λ (ts : List Ranges). SameEnds stood (without (within ready.inside ready.numbers) ts)) (sym (settled.none e)) around.ends
 
-stood : (s t : Bool) → (s && t) ≡ true → s ≡ true
-stood true t e = refl
-stood false t e = e
+    alike : AreOrdered ready → numbers_left s ≡ left_by w r c (numbers_left ready)
+    alike o =
+        let now = left_ranges ready o in
+        let there = left_holds w r c (numbers_left ready) now in
+        same_set (bottom -ℤ pos 1) (numbers_left s) (left_by w r c (numbers_left ready)) (left_ranges s (kept.ordered o around.ordered)) there.0
+        (λ x. kept.same o around x
+        ∙ one_step (has (numbers_left ready) x) (has left x) (has (left_by w r c (numbers_left ready)) x) (constraint_permits w r c (numbers_left ready) x)
+        (λ e. ap (λ (z : Ranges). has z x) is ∙ left_same w r c stood (numbers_left ready) x around.ordered now (around.inside x (left_within ready x o e)) e ends)
+        (there.1 x))
 
-same_where : (c : Constraint) (s : Ranges) (taken : List Ranges) → AreRanges s → (asks c ≡ true → taken ≡ []) → asks c ≡ true → SameEnds (hull s) (without s taken)
-same_where c s taken h none e = subst (λ (ts : List Ranges). SameEnds (hull s) (without s ts)) (sym (none e)) (hull_of s h).ends
+-- what is answered for it
+pub turn_answered : {E : Type 0} (w : World) (r : Reading) (c : ℕ × Constraint) (before ready : Standing) (stood left : Ranges) (answer : Result Standing E) → IsReady c.1 before ready → IsHull (within ready.inside ready.numbers) stood → left ≡ left_by w r c stood → IfOk answer (λ s. IsKept ready stood left s) → IfOk answer (λ s. IsNarrowed w r c before s)
+turn_answered w r c before ready stood left (Err e) settled around is kept = kept
+turn_answered w r c before ready stood left (Ok s) settled around is kept = one_turn w r c before ready s stood left settled around is kept
 
--- one constraint more
-pub one_more : (w : World) (r : Reading) (c : ℕ × Constraint) (s : Ranges) (taken : List Ranges) → AreRanges s → AreAllRanges taken → (asks c.1 ≡ true → taken ≡ []) → without s (taken ++ taken_by w r c s ∷ []) ≡ left_by w r c (without s taken)
-one_more w r c s taken h k none =
-    let around = hull_of s h in
-    let now = without_ranges s taken h k in
-    let left = left_holds w r c (without s taken) now in
-    let here = left_holds w r c (hull s) around.ordered in
-    let mine = taken_ranges w r c s h in
-    without_append s taken (taken_by w r c s)
-    ∙ same_set (bottom -ℤ pos 1) (except (without s taken) (taken_by w r c s)) (left_by w r c (without s taken))
-    (less_ranges (without s taken) (taken_by w r c s) now mine) left.0
-    (λ x. except_has (without s taken) (taken_by w r c s) x now mine
-    ∙ one_step (has (without s taken) x) (has s x) (has (hull s) x) (has (taken_by w r c s) x) (has (left_by w r c (hull s)) x) (has (left_by w r c (without s taken)) x) (constraint_permits w r c (without s taken) x)
-    (λ e. stood (has s x) (not (one_has taken x)) (sym (without_has s taken x h k) ∙ e))
-    (around.inside x)
-    (except_has (hull s) (left_by w r c (hull s)) x around.ordered here.0)
-    (λ e. left_same w r c (hull s) (without s taken) x around.ordered now (around.inside x (stood (has s x) (not (one_has taken x)) (sym (without_has s taken x h k) ∙ e))) e (same_where c.1 s taken h none))
-    (left.1 x))
+-- one constraint more, over one range of which all stands
+pub whole_turn : (w : World) (r : Reading) (c : ℕ × Constraint) (before s : Standing) (left : Ranges) → before.inside ≡ None → before.taken.items ≡ [] → left ≡ left_by w r c before.numbers → IsWhole left s → IsNarrowed w r c before s
+whole_turn w r c before s left inside taken is whole = record {
+  ordered = λ o. whole.ordered;
+  same = λ o. whole.same ∙ (is ∙ ap (λ (z : Ranges). left_by w r c z) (sym all));
+}
+  where
+    all : numbers_left before ≡ before.numbers
+    all = ap (λ (z : Option Ranges). without (within z before.numbers) before.taken.items) inside ∙ ap (λ (z : List Ranges). without before.numbers z) taken
 
 -- ---- the walk over constraints
 
 -- the constraints that are left leave of what stands now what all leave of what stood
-pub record InSeries (w : World) (r : Reading) (rest all : List (ℕ × Constraint)) (before s : Ranges) (taken : List Ranges) : Type 0 where
-  pub first : AreRanges s
-  pub ranges : AreAllRanges taken
-  pub same : met w r rest (without s taken) ≡ met w r all before
+pub record InSeries (w : World) (r : Reading) (rest all : List (ℕ × Constraint)) (before : Ranges) (s : Standing) : Type 0 where
+  pub ordered : AreOrdered s
+  pub same : met w r rest (numbers_left s) ≡ met w r all before
 
-pub one_turn : (w : World) (r : Reading) (c : ℕ × Constraint) (rest all : List (ℕ × Constraint)) (before s next : Ranges) (taken later : List Ranges) (t : Ranges) → InSeries w r (c ∷ rest) all before s taken → IsSettled c.1 s taken next later → t ≡ taken_by w r c next → InSeries w r rest all before next (later ++ t ∷ [])
-one_turn w r c rest all before s next taken later t is settled e =
-    let o = settled.ordered is.first is.ranges in
-    subst (λ u. InSeries w r rest all before next (later ++ u ∷ [])) (sym e) (record {
-      first = o.0;
-      ranges = all_append later (taken_by w r c next ∷ []) o.1 (taken_ranges w r c next o.0, tt);
-      same = ap (λ u. met w r rest u) (one_more w r c next later o.0 o.1 settled.none ∙ ap (λ u. left_by w r c u) (settled.same is.first is.ranges)) ∙ is.same;
-    })
+pub at_first : (w : World) (r : Reading) (all : List (ℕ × Constraint)) (before : Ranges) (s : Standing) → IsWhole before s → InSeries w r all all before s
+at_first w r all before s whole = record { ordered = whole.ordered; same = ap (λ z. met w r all z) whole.same }
 
-pub next_turn : (w : World) (r : Reading) (cs : List (ℕ × Bor Written)) (i : ℕ) (x : ℕ × Bor Written) (all : List (ℕ × Constraint)) (before s next : Ranges) (taken later pushed : List Ranges) (t : Ranges) → i < length cs → x ≡ get_or cs i x → InSeries w r (constraints_view (drop i cs)) all before s taken → IsSettled (constraint_view x.1.now) s taken next later → t ≡ taken_by w r (x.0, constraint_view x.1.now) next → pushed ≡ later ++ t ∷ [] → InSeries w r (constraints_view (drop (i + 1) cs)) all before next pushed
-next_turn w r cs i x all before s next taken later pushed t lt at is settled e p =
+next_one : (w : World) (r : Reading) (c : ℕ × Constraint) (rest all : List (ℕ × Constraint)) (before : Ranges) (s next : Standing) → InSeries w r (c ∷ rest) all before s → IsNarrowed w r c s next → InSeries w r rest all before next
+next_one w r c rest all before s next is narrowed = record {
+  ordered = narrowed.ordered is.ordered;
+  same = ap (λ u. met w r rest u) (narrowed.same is.ordered) ∙ is.same;
+}
+
+pub next_turn : (w : World) (r : Reading) (cs : List (ℕ × Bor Written)) (i : ℕ) (x : ℕ × Bor Written) (all : List (ℕ × Constraint)) (before : Ranges) (s next : Standing) → i < length cs → x ≡ get_or cs i x → InSeries w r (constraints_view (drop i cs)) all before s → IsNarrowed w r (x.0, constraint_view x.1.now) s next → InSeries w r (constraints_view (drop (i + 1) cs)) all before next
+next_turn w r cs i x all before s next lt at is narrowed =
     let ahead : drop i cs ≡ x ∷ drop (i + 1) cs = drop_more cs i x lt ∙ ap (λ y. y ∷ drop (i + 1) cs) (sym at) in
-    subst (λ ts. InSeries w r (constraints_view (drop (i + 1) cs)) all before next ts) (sym p)
-    (one_turn w r (x.0, constraint_view x.1.now) (constraints_view (drop (i + 1) cs)) all before s next taken later t (subst (λ ys. InSeries w r (constraints_view ys) all before s taken) ahead is) settled e)
+    next_one w r (x.0, constraint_view x.1.now) (constraints_view (drop (i + 1) cs)) all before s next (subst (λ ys. InSeries w r (constraints_view ys) all before s) ahead is) narrowed
 
-at_end : {E : Type 0} (w : World) (r : Reading) (all : List (ℕ × Constraint)) (before s : Ranges) (taken : List Ranges) (answer : Result Ranges E) → InSeries w r [] all before s taken → IfOk answer (λ t. IsWithoutAll s taken t) → IfOk answer (λ t. t ≡ met w r all before)
-at_end w r all before s taken (Err e) is h = h
-at_end w r all before s taken (Ok t) is h = without_all_is s taken t is.ranges h ∙ is.same
+at_end : {E : Type 0} (w : World) (r : Reading) (all : List (ℕ × Constraint)) (before : Ranges) (s : Standing) (answer : Result Ranges E) → InSeries w r [] all before s → IfOk answer (λ t. IsGathered s t) → IfOk answer (λ t. t ≡ met w r all before)
+at_end w r all before s (Err e) is h = h
+at_end w r all before s (Ok t) is h = h is.ordered ∙ is.same
 
 -- what is answered at the end
-pub no_more : {E : Type 0} (w : World) (r : Reading) (cs : List (ℕ × Bor Written)) (i : ℕ) (all : List (ℕ × Constraint)) (before s : Ranges) (taken others : List Ranges) (answer : Result Ranges E) → length cs ≤ i → InSeries w r (constraints_view (drop i cs)) all before s taken → others ≡ taken → IfOk answer (λ t. IsWithoutAll s others t) → IfOk answer (λ t. t ≡ met w r all before)
-no_more w r cs i all before s taken others answer le is e h =
-    at_end w r all before s taken answer (subst (λ ys. InSeries w r (constraints_view ys) all before s taken) (drop_of_length-le cs le) is)
-    (subst (λ ts. IfOk answer (λ t. IsWithoutAll s ts t)) e h)
-
--- what is taken away before a constraint that asks for the ends
-taken_away : (c : Constraint) (s t : Ranges) (taken : List Ranges) → IsWithoutAll s taken t → IsSettled c s taken t []
-taken_away c s t taken h = record { ordered = λ i k. (h.ranges, tt); same = λ i k. without_all_is s taken t k h; none = λ e. refl }
-
-pub all_taken : (c : Constraint) (s t : Ranges) (taken others later : List Ranges) → others ≡ taken → later ≡ [] → IsWithoutAll s others t → IsSettled c s taken t later
-all_taken c s t taken others later e none h =
-    subst (λ ts. IsSettled c s taken t ts) (sym none) (taken_away c s t taken (subst (λ ts. IsWithoutAll s ts t) e h))
+pub no_more : {E : Type 0} (w : World) (r : Reading) (cs : List (ℕ × Bor Written)) (i : ℕ) (all : List (ℕ × Constraint)) (before : Ranges) (s : Standing) (answer : Result Ranges E) → length cs ≤ i → InSeries w r (constraints_view (drop i cs)) all before s → IfOk answer (λ t. IsGathered s t) → IfOk answer (λ t. t ≡ met w r all before)
+no_more w r cs i all before s answer le is h =
+    at_end w r all before s answer (subst (λ ys. InSeries w r (constraints_view ys) all before s) (drop_of_length-le cs le) is) h

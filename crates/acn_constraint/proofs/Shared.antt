@@ -18,7 +18,7 @@ use Rattle.acn_index.specs.World.{World}
 use Rattle.acn_constraint.specs.Sets.{Reading, meet_in, parts_in, part_in}
 use Rattle.acn_constraint.specs.Permits.{all_permit, part_permits}
 use Rattle.acn_constraint.specs.Each.{everything, each_outside, IsWithoutAll}
-use Rattle.acn_constraint.proofs.Permitted.{less_ranges, part_holds, parts_hold}
+use Rattle.acn_constraint.proofs.Permitted.{part_holds, parts_hold}
 
 pub except_has : (s t : Ranges) (x : ℤ) → AreRanges s → AreRanges t → has (except s t) x ≡ (has s x && not (has t x))
 unfolding except

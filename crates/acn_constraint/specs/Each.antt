@@ -1,5 +1,5 @@
 -- The sets of the elements that a union joins, each by itself, and the numbers outside those that a meet shares.
-use Rattle.std.specs.Prelude.{◌≡◌, ℕ, Bool, not, ◌&&◌, ℤ, List, [], ◌∷◌}
+use Rattle.std.specs.Prelude.{◌≡◌, ℕ, not, ◌&&◌, ℤ, List, [], ◌∷◌}
 use Rattle.acn_num.specs.Ranges.{Ranges, has, AreRanges, except, bottom, top}
 use Rattle.acn_num.specs.Unions.{one_has}
 use Rattle.acn_asn_syntax.specs.Mirror.{Meets, no_meets, and_meet, Parts, no_parts, and_part}

@@ -1,4 +1,5 @@
 pub mod Asks
+pub mod Borders
 pub mod Constraints
 pub mod Each
 pub mod Hull

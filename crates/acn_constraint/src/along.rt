@@ -9,14 +9,11 @@ ghost use Rattle.acn_world.specs.Chained.{chain_view, constraints_view};
 ghost use Rattle.acn_world.specs.Viewed.{world_view};
 ghost use Rattle.acn_constraint.specs.Constraints as spec;
 ghost use Rattle.acn_constraint.specs.Readings.{reading_of};
-ghost use Rattle.acn_constraint.specs.Series as series;
-ghost use Rattle.acn_constraint.specs.Series.{IsSettled};
 
-use crate::asks::asks_for_ends;
-use crate::evaluate::{Place, Reading, set_in, without_all};
+use crate::evaluate::{Place, Reading, set_in};
 use crate::low::{Names, set_low};
 use crate::sized::says_size;
-use crate::span::around;
+use crate::standing::{all_of, gathered, narrowed};
 use acn_asn_syntax::{AsnBase, Constraint, Set};
 use acn_num::{NoMemory, RangeSet, Row};
 use acn_set_elements::NumberNames;
@@ -126,8 +123,8 @@ fn left_by_size(
     }
 }
 
-// What a constraint leaves of what stood before it.
-fn left_by(
+/// What a constraint leaves of what stood before it.
+pub fn left_by(
     alloc: Global,
     constraint: &Constraint,
     place: Place<'_>,
@@ -142,41 +139,6 @@ fn left_by(
     }
 }
 
-// What a constraint takes of the numbers between the ends of what stood before it. It is asked of
-// all of these, so what it takes has as few ranges as are written, however many stood.
-fn taken_by(
-    alloc: Global,
-    constraint: &Constraint,
-    place: Place<'_>,
-    before: &RangeSet,
-) -> Result<RangeSet, NoMemory>
-    ensures { IfOk result (λ s. s ≡ series.taken_by (world_view place.entry.world.now) (reading_of place.entry.reading) (place.entry.owner, constraint_view constraint.now) before.now) }
-{
-    let stood = around(alloc, before)?;
-    let left = left_by(alloc, constraint, place, &stood)?;
-    stood.except(alloc, &left)
-}
-
-// Takes away what is to be taken, where the next constraint asks for the ends of what stands.
-fn settled(
-    alloc: Global,
-    constraint: &Constraint,
-    left: RangeSet,
-    taken: &mut Vec<RangeSet>,
-) -> Result<RangeSet, NoMemory>
-    ensures { IfOk result (λ s. IsSettled (constraint_view constraint.now) left taken.old.items s taken.new.items) }
-{
-    if taken.is_empty() {
-        return Ok(left);
-    }
-    if !asks_for_ends(constraint) {
-        return Ok(left);
-    }
-    let settled = without_all(alloc, &left, taken.as_slice())?;
-    taken.clear();
-    Ok(settled)
-}
-
 /// What the constraints leave of what stood before them. What each takes is gathered and taken away
 /// at once, at the end and before a constraint that asks for the ends of what stands.
 pub fn met(
@@ -188,9 +150,7 @@ pub fn met(
 ) -> Result<RangeSet, NoMemory>
     ensures { IfOk result (λ s. s ≡ spec.met (world_view world.now) (reading_of reading.entry) (constraints_view constraints.now) before) }
 {
-    let _before = before.ranges();
-    let mut left = before;
-    let mut taken = Vec::new(alloc);
+    let mut standing = all_of(alloc, before);
     for constraint in constraints {
         let owner = constraint.0;
         let place = Place {
@@ -198,11 +158,9 @@ pub fn met(
             owner,
             reading,
         };
-        left = settled(alloc, constraint.1, left, &mut taken)?;
-        let next = taken_by(alloc, constraint.1, place, &left)?;
-        taken.push(next)?;
+        standing = narrowed(alloc, constraint.1, place, standing)?;
     }
-    without_all(alloc, &left, taken.as_slice())
+    gathered(alloc, standing)
 }
 
 // The first number of a constraint that is too low.

@@ -4,6 +4,7 @@
 mod along;
 mod answer;
 mod asks;
+mod borders;
 mod ends;
 mod evaluate;
 mod fault;
@@ -12,6 +13,7 @@ mod letters;
 mod low;
 mod sized;
 mod span;
+mod standing;
 
 pub use answer::{alphabet_of, range_of, size_of, text_of};
 pub use ends::{OpenSet, TextSets};

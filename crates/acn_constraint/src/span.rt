@@ -1,6 +1,6 @@
 ghost use Rattle.std.specs.Prelude.{◌≡◌, ◌≤ℤ◌, IfOk};
 ghost use Rattle.acn_num.specs.Ranges.{some_range, bottom, top};
-ghost use Rattle.acn_constraint.specs.Hull.{hull};
+ghost use Rattle.acn_constraint.specs.Hull.{IsHull};
 ghost use Rattle.acn_constraint.specs.Sets as sets;
 
 use acn_num::{BOTTOM, NoMemory, RangeSet, TOP};
@@ -66,7 +66,8 @@ pub fn between(
 
 /// The numbers from the least to the greatest of a set.
 pub fn around(alloc: Global, set: &RangeSet) -> Result<RangeSet, NoMemory>
-    ensures { IfOk result (λ s. s ≡ hull set.now) }
+    ensures { IfOk result (λ s. IsHull set.now s) }
 {
+    let _set = set.ranges();
     between(alloc, &set.least(), false, &set.greatest(), false)
 }

@@ -6,4 +6,4 @@ use Rattle.acn_constraint.proofs.Serial.{InSeries}
 use Rattle.acn_constraint.proofs.along.met.Given as goal
 
 abbrev pub invariant-loop-constraint : goal.invariant-loop-constraint
-invariant-loop-constraint l = InSeries (world_view l.world) (reading_of l.reading) (constraints_view (drop l.constraint-index l.constraints)) (constraints_view l.constraints) l.initial.left l.left l.taken.items
+invariant-loop-constraint l = InSeries (world_view l.world) (reading_of l.reading) (constraints_view (drop l.constraint-index l.constraints)) (constraints_view l.constraints) l.fn.before l.standing
