@@ -6,7 +6,7 @@ ghost use Rattle.acn_grammar.specs.Leaves as leaves;
 ghost use Rattle.acn_codings.specs.Tables as spec;
 
 use acn_acn_syntax::{MapLine, Signed};
-use acn_leaf::{is_number, one_to_one};
+use acn_leaf::{is_number, one_to_one_in};
 use acn_num::{NoMemory, RangeSet, greater, is_at_most, less};
 use acn_set_elements::signed;
 use std::alloc::Global;
@@ -103,18 +103,18 @@ fn all_images(alloc: Global, lines: &[(i128, i128, i128)]) -> Result<RangeSet, N
 }
 
 // How many lines at the front of a table are one to one. Where not all are, it is looked for by halves.
-fn fine_front(lines: &[(i128, i128, i128)]) -> usize
+fn fine_front(alloc: Global, lines: &[(i128, i128, i128)]) -> usize
     ensures within { result ≤ length lines.now }
     ensures fine { (list_all leaves.line_fine (take result lines.now) && leaves.all_differ leaves.share (take result lines.now)) ≡ true }
 {
-    if one_to_one(lines) {
+    if one_to_one_in(alloc, lines) {
         return lines.len();
     }
     let mut fine = 0;
     let mut end = lines.len();
     while fine + 1 < end {
         let middle = fine + (end - fine) / 2;
-        if one_to_one(&lines[..middle]) {
+        if one_to_one_in(alloc, &lines[..middle]) {
             fine = middle;
         } else {
             end = middle;
@@ -246,7 +246,7 @@ pub fn table_fault(alloc: Global, lines: &[MapLine]) -> Result<Option<i128>, NoM
     ensures { IfOk result (λ k. k ≡ spec.table_fault lines.now) }
 {
     let lines = lines_of(alloc, lines)?;
-    let (front, behind) = lines.split_at(fine_front(&lines));
+    let (front, behind) = lines.split_at(fine_front(alloc, &lines));
     fault_behind(alloc, front, behind)
 }
 

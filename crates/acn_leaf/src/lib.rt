@@ -18,4 +18,4 @@ pub use names::names_differ;
 pub use number_rules::{begins_number, can_be_little, flag_patterns_fine, is_number, is_range};
 pub use numbers::numbers_differ;
 pub use size_rules::{is_least, is_terminator, list_fine, sizing_fine, text_fine};
-pub use table_rules::one_to_one;
+pub use table_rules::one_to_one_in;

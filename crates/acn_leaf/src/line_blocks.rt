@@ -1,9 +1,9 @@
 //! Whether the lines of a table have no key and no image in common (this profile's own).
 //!
-//! The keys of a line are a range, and so are its images. The ranges of a block of lines are listed on the stack and sorted
-//! there, which takes no memory: those that meet are neighbours then. The range of each line behind the block is looked for
-//! among them by halves.
-ghost use Rattle.std.specs.Prelude.{◌≡◌, ◌≤◌, ◌++◌, ◌&&◌, length, map, not, true, int_lt};
+//! The keys of a line are a range, and so are its images. They are listed and sorted: those that meet are neighbours then. The
+//! list of many lines takes memory. That of few stands on the stack; so does, where memory can't be had, the list of a block
+//! of many lines: the range of each line behind the block is looked for in it by halves.
+ghost use Rattle.std.specs.Prelude.{◌≡◌, ◌≤◌, ◌++◌, ◌&&◌, IfOk, length, map, not, true, int_lt};
 ghost use Rattle.std.specs.List.{list_all, list_any};
 ghost use Rattle.acn_grammar.specs.Leaves as leaves;
 ghost use Rattle.acn_leaf.specs.Neighbours.{neighbours_differ, is_next};
@@ -12,7 +12,9 @@ ghost use Rattle.acn_leaf.specs.declared.line_blocks.Side.TheVariants.{Keys};
 ghost use Rattle.acn_leaf.specs.declared.line_blocks.TheConstants.{BLOCK};
 
 use crate::table_rules::image;
+use acn_num::NoMemory;
 use arrayvec::ArrayVec;
+use std::alloc::Global;
 
 /// So many lines make a block: the list of their ranges takes 64 KiB of the stack.
 const BLOCK: usize = 2048;
@@ -154,7 +156,7 @@ fn lines_rise(side: Side, lines: &[(i128, i128, i128)]) -> bool
     true
 }
 
-// Whether no two lines have a key, or an image, in common. Mostly the lines of a table stand in order.
+// Whether no two lines have a key, or an image, in common, which takes no memory. Mostly the lines of a table stand in order.
 fn side_differs(side: Side, lines: &[(i128, i128, i128)]) -> bool
     requires { list_all leaves.line_fine lines.now ≡ true }
     ensures { result ≡ leaves.all_differ spec.meet (map (spec.range_of side) lines.now) }
@@ -173,6 +175,45 @@ fn side_differs(side: Side, lines: &[(i128, i128, i128)]) -> bool
     true
 }
 
+// The keys, or the images, of all lines.
+fn all_ranges(
+    alloc: Global,
+    side: Side,
+    lines: &[(i128, i128, i128)],
+) -> Result<Vec<(i128, i128)>, NoMemory>
+    requires { list_all leaves.line_fine lines.now ≡ true }
+    ensures { IfOk result (λ ranges. ranges.items ≡ map (spec.range_of side) lines.now) }
+{
+    let mut ranges = Vec::with_capacity(alloc, lines.len())?;
+    for line in lines {
+        ranges.push(range_of(side, line))?;
+    }
+    Ok(ranges)
+}
+
+// Whether no two lines have a key, or an image, in common, all sorted at once where memory for that can be had.
+fn many_differ(alloc: Global, side: Side, lines: &[(i128, i128, i128)]) -> bool
+    requires { list_all leaves.line_fine lines.now ≡ true }
+    ensures { result ≡ leaves.all_differ spec.meet (map (spec.range_of side) lines.now) }
+{
+    match all_ranges(alloc, side, lines) {
+        Ok(mut ranges) => ranges_differ(side, ranges.as_mut_slice(), &[]),
+        Err(NoMemory) => side_differs(side, lines),
+    }
+}
+
+// Whether no two lines have a key, or an image, in common.
+fn side_differs_in(alloc: Global, side: Side, lines: &[(i128, i128, i128)]) -> bool
+    requires { list_all leaves.line_fine lines.now ≡ true }
+    ensures { result ≡ leaves.all_differ spec.meet (map (spec.range_of side) lines.now) }
+{
+    if lines.len() <= BLOCK || lines_rise(side, lines) {
+        side_differs(side, lines)
+    } else {
+        many_differ(alloc, side, lines)
+    }
+}
+
 /// Whether the keys of each line end before those of the next begin.
 pub fn keys_rise(lines: &[(i128, i128, i128)]) -> bool
     requires { list_all leaves.line_fine lines.now ≡ true }
@@ -181,10 +222,18 @@ pub fn keys_rise(lines: &[(i128, i128, i128)]) -> bool
     lines_rise(Side::Keys, lines)
 }
 
-/// Whether no two lines have a key or an image in common.
+/// Whether no two lines have a key or an image in common. It takes no memory.
 pub fn lines_differ(lines: &[(i128, i128, i128)]) -> bool
     requires { list_all leaves.line_fine lines.now ≡ true }
     ensures { result ≡ leaves.all_differ leaves.share lines.now }
 {
     side_differs(Side::Keys, lines) && side_differs(Side::Images, lines)
+}
+
+/// Whether no two lines have a key or an image in common. It takes memory where they are many, as far as that can be had.
+pub fn lines_differ_in(alloc: Global, lines: &[(i128, i128, i128)]) -> bool
+    requires { list_all leaves.line_fine lines.now ≡ true }
+    ensures { result ≡ leaves.all_differ leaves.share lines.now }
+{
+    side_differs_in(alloc, Side::Keys, lines) && side_differs_in(alloc, Side::Images, lines)
 }

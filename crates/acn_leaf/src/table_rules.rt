@@ -6,11 +6,12 @@ ghost use Rattle.acn_grammar.specs.Images as images;
 ghost use Rattle.acn_grammar.specs.Leaves as leaves;
 ghost use Rattle.acn_leaf.specs.Taken.{left_of};
 
-use crate::line_blocks::{keys_rise, lines_differ};
+use crate::line_blocks::{keys_rise, lines_differ, lines_differ_in};
 use crate::near::near;
 use crate::number_rules::is_number;
 use crate::size_rules::apart;
 use acn_num::{RangeSet, greater, is_at_most, less};
+use std::alloc::Global;
 
 // The number as far from `to` as the key is from the first one.
 fn shifted(to: &i128, first: &i128, key: &i128) -> i128
@@ -110,11 +111,18 @@ fn maps_each(set: &RangeSet, lines: &[(i128, i128, i128)]) -> bool
 }
 
 /// Whether the lines are one to one: keys and images of each are numbers in order, and no two have a key or an image in
-/// common.
+/// common. It takes no memory.
 pub fn one_to_one(lines: &[(i128, i128, i128)]) -> bool
     ensures { result ≡ (list_all leaves.line_fine lines.now && leaves.all_differ leaves.share lines.now) }
 {
     lines_fine(lines) && lines_differ(lines)
+}
+
+/// Whether the lines are one to one. It takes memory where they are many, as far as that can be had.
+pub fn one_to_one_in(alloc: Global, lines: &[(i128, i128, i128)]) -> bool
+    ensures { result ≡ (list_all leaves.line_fine lines.now && leaves.all_differ leaves.share lines.now) }
+{
+    lines_fine(lines) && lines_differ_in(alloc, lines)
 }
 
 /// Whether the lines are one to one, within the numbers, and map every number of the set.
