@@ -1,4 +1,4 @@
-ghost use Rattle.std.specs.Prelude.{◌≡◌, ◌++◌, map, filter_map, option_to_list, IfOk, OnOk, Some};
+ghost use Rattle.std.specs.Prelude.{◌≡◌, ◌++◌, map, filter_map, option_map, option_to_list, IfOk, OnOk, Some};
 ghost use Rattle.std.specs.List.{zip};
 ghost use Rattle.acn_world.specs.Chained.{chain_view, entry_view};
 ghost use Rattle.acn_index.specs.Chains as chains;
@@ -6,17 +6,16 @@ ghost use Rattle.acn_index.specs.World as world_of;
 ghost use Rattle.acn_world.specs.Viewed.{world_view};
 ghost use Rattle.acn_slots.specs.Slots as slots;
 ghost use Rattle.acn_sites.specs.Sites as spec;
-ghost use Rattle.acn_slots.specs.View.{frame_view, scope_view, bound_view, origin_view};
+ghost use Rattle.acn_slots.specs.View.{frame_view, scope_view, bound_in, bound_view, origin_view};
 ghost use Rattle.acn_sites.specs.View.{site_view};
 
 use acn_acn_syntax::{AcnPath, FieldKind, Param};
 use acn_asn_syntax::Rest;
 use acn_num::{Name, NoMemory, Row};
-use acn_slots::{
-    Frame, Lead, Origin, PlainTypes, Scope, Slot, Use, copied, copied_slot, leads, no_use,
-};
+use acn_slots::{Frame, Lead, Origin, PlainTypes, Scope, Slot, Use, copied, leads, no_use, shared};
 use acn_world::{Chain, EntryAt, TypeId, World};
 use std::alloc::Global;
+use std::rc::Rc;
 
 /// What a node is in the node above it.
 #[derive(Clone, Copy)]
@@ -98,7 +97,7 @@ pub fn no_scope<'w>(alloc: Global) -> Scope<'w>
 {
     Scope {
         frames: Row::new(alloc),
-        bound: Row::new(alloc),
+        bound: None,
     }
 }
 
@@ -155,19 +154,17 @@ pub fn copied_frames<'w>(
     Ok(())
 }
 
-// The same parameters again.
-fn copied_bound<'w>(
+// The same parameters, kept once for all scopes that will have them.
+fn kept_once<'w>(
     alloc: Global,
-    bound: &[(&'w Name, Slot)],
-) -> Result<Row<(&'w Name, Slot)>, NoMemory>
-    ensures { IfOk result (λ all. map bound_view all ≡ map bound_view bound.now) }
+    bound: Row<(&'w Name, Slot)>,
+) -> Result<Option<Rc<Row<(&'w Name, Slot)>, Global>>, NoMemory>
+    ensures { IfOk result (λ all. bound_in (option_map (λ b. b.value) all) ≡ map bound_view bound.entry) }
 {
-    let mut all = Row::new(alloc);
-    for (name, slot) in bound {
-        let slot = copied_slot(alloc, slot)?;
-        all.push((*name, slot))?;
+    if bound.items().is_empty() {
+        return Ok(None);
     }
-    Ok(all)
+    Ok(Some(Rc::new(alloc, bound)?))
 }
 
 /// The same scope again.
@@ -176,7 +173,7 @@ pub fn copied_scope<'w>(alloc: Global, scope: &Scope<'w>) -> Result<Scope<'w>, N
 {
     let mut frames = Row::new(alloc);
     copied_frames(alloc, scope.frames.items(), &mut frames)?;
-    let bound = copied_bound(alloc, scope.bound.items())?;
+    let bound = shared(&scope.bound)?;
     Ok(Scope { frames, bound })
 }
 
@@ -201,7 +198,7 @@ impl<'w> Site<'w> {
         )?;
         Ok(Scope {
             frames: Row::new(alloc),
-            bound,
+            bound: kept_once(alloc, bound)?,
         })
     }
 

@@ -1,5 +1,5 @@
 -- What the program's own types stand for.
-use Rattle.std.specs.Prelude.{ℕ, List, map, Option, option_map}
+use Rattle.std.specs.Prelude.{ℕ, List, [], map, Option, Some, None, option_map}
 use Rattle.std.specs.Borrow.{Bor}
 use Rattle.acn_num.specs.Names.{Name}
 use Rattle.acn_asn_syntax.specs.View.{component_view}
@@ -40,8 +40,12 @@ step_view s = record { optional = s.optional; slot = s.slot; inside = option_map
 abbrev pub bound_view : Bor Name × Slot → Name × Slot
 bound_view b = (b.0.now, b.1)
 
+abbrev pub bound_in : Option (List (Bor Name × Slot)) → List (Name × Slot)
+bound_in None = []
+bound_in (Some bound) = map bound_view bound
+
 abbrev pub scope_view : Scope → slots.Scope
-scope_view s = record { frames = map frame_view s.frames; bound = map bound_view s.bound }
+scope_view s = record { frames = map frame_view s.frames; bound = bound_in (option_map (λ b. b.value) s.bound) }
 
 abbrev pub origin_view : Origin → slots.Origin
 origin_view origin.Use = slots.at_use

@@ -20,7 +20,8 @@ pub use frame::{
 };
 pub use listed::Listed;
 pub use origin::Origin;
+pub use places::shared;
 pub use plain::PlainTypes;
 pub use rows::{copied, extended};
-pub use scope::{Scope, copied_slot, leads};
+pub use scope::{Scope, leads};
 pub use slots::{Lead, Slot, Sort};

@@ -59,12 +59,12 @@ pub fn places_of(
     })
 }
 
-/// The same places, kept once for both.
-pub fn shared(places: &Option<Rc<Places, Global>>) -> Result<Option<Rc<Places, Global>>, NoMemory>
-    ensures { IfOk result (λ same. option_map (λ p. p.value) same ≡ option_map (λ p. p.value) places.now) }
+/// The same again, kept once for both.
+pub fn shared<T: Drop>(kept: &Option<Rc<T, Global>>) -> Result<Option<Rc<T, Global>>, NoMemory>
+    ensures { IfOk result (λ same. option_map (λ p. p.value) same ≡ option_map (λ p. p.value) kept.now) }
 {
-    match places {
+    match kept {
         None => Ok(None),
-        Some(places) => Ok(Some(places.clone()?)),
+        Some(kept) => Ok(Some(kept.clone()?)),
     }
 }

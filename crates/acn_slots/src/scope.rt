@@ -1,7 +1,7 @@
 ghost use Rattle.std.specs.Prelude.{◌≡◌, ◌<◌, ◌^◌, map, option_map, find, IfOk, Some};
 ghost use Rattle.acn_world.specs.Viewed.{world_view};
 ghost use Rattle.acn_slots.specs.Slots as spec;
-ghost use Rattle.acn_slots.specs.View.{frame_view, step_view, scope_view, bound_view};
+ghost use Rattle.acn_slots.specs.View.{frame_view, step_view, scope_view, bound_in, bound_view};
 
 use crate::frame::{Frame, Step};
 use crate::plain::PlainTypes;
@@ -10,18 +10,19 @@ use crate::slots::{Lead, Slot};
 use acn_num::{Name, NoMemory, Row};
 use acn_world::World;
 use std::alloc::Global;
+use std::rc::Rc;
 
 /// What a path at a place can begin with.
 #[derive(Drop)]
 pub struct Scope<'w> {
     /// The SEQUENCEs around, the innermost first.
     pub frames: Row<Frame<'w>>,
-    /// The parameters, with the slots to which they are bound.
-    pub bound: Row<(&'w Name, Slot)>,
+    /// The parameters, with the slots to which they are bound, kept once for all scopes with these; none where there are none.
+    pub bound: Option<Rc<Row<(&'w Name, Slot)>, Global>>,
 }
 
-/// The same slot again.
-pub fn copied_slot(alloc: Global, slot: &Slot) -> Result<Slot, NoMemory>
+// The same slot again.
+fn copied_slot(alloc: Global, slot: &Slot) -> Result<Slot, NoMemory>
     ensures { IfOk result (λ s. s ≡ slot.now) }
 {
     Ok(Slot {
@@ -99,6 +100,18 @@ fn lead_along<'w>(
     Ok(lead_to(slot, absent))
 }
 
+// The slot to which the parameter of this name is bound.
+fn slot_of<'a>(bound: &'a [(&'_ Name, Slot)], name: &[u8]) -> Option<&'a Slot>
+    ensures { option_map (λ s. s.now) result ≡ spec.bound_slot (map bound_view bound.now) name.now }
+{
+    for (parameter, slot) in bound {
+        if parameter.bytes() == name {
+            return Some(slot);
+        }
+    }
+    None
+}
+
 impl<'w> Scope<'w> {
     // The innermost SEQUENCE that has a field of this name.
     fn frame_with(&self, name: &[u8]) -> Option<&Frame<'w>>
@@ -114,19 +127,17 @@ impl<'w> Scope<'w> {
 
     // The slot to which a parameter of this name is bound.
     fn bound_slot(&self, name: &[u8]) -> Option<&Slot>
-        ensures { option_map (λ s. s.now) result ≡ spec.bound_slot (map bound_view self.now.bound) name.now }
+        ensures { option_map (λ s. s.now) result ≡ spec.bound_slot (bound_in (option_map (λ b. b.value) self.now.bound)) name.now }
     {
-        for (parameter, slot) in self.bound.items() {
-            if parameter.bytes() == name {
-                return Some(slot);
-            }
+        match &self.bound {
+            None => None,
+            Some(bound) => slot_of(bound.items(), name),
         }
-        None
     }
 
     // Where a parameter leads, which is one name alone.
     fn by_parameter(&self, alloc: Global, name: &[u8], more: &[Name]) -> Result<Lead, NoMemory>
-        ensures { IfOk result (λ lead. lead ≡ spec.by_parameter (map bound_view self.now.bound) name.now more.now) }
+        ensures { IfOk result (λ lead. lead ≡ spec.by_parameter (bound_in (option_map (λ b. b.value) self.now.bound)) name.now more.now) }
     {
         if !more.is_empty() {
             return Ok(Lead::Nowhere);
