@@ -22,7 +22,7 @@ use Rattle.acn_grammar.specs.declared.node.Table.{Table}
 use Rattle.acn_grammar.proofs.FineLeaves.{rules_of, implied}
 use Rattle.acn_grammar.proofs.Within.{ends-has}
 use Rattle.acn_grammar.proofs.LeafLengths.{some_ends, int_ends, is_plain, counted_kind}
-use Rattle.acn_ints.specs.Limits.{IsNear, IsEnd, AreNear, IsNearTable, ArePairsNear, PlainEnded, OrderFits, DigitsFit, SignedDigitsFit, EndFits, PatternsFit, CodingFits, LeafFits}
+use Rattle.acn_ints.specs.Limits.{IsNear, IsEnd, AreNear, IsNearTable, IsApartTable, ArePairsNear, PlainEnded, OrderFits, DigitsFit, SignedDigitsFit, EndFits, PatternsFit, CodingFits, LeafFits}
 use Rattle.std.proofs.lemmas.Bool.{and_parts, not-true, eqb-true}
 use Rattle.acn_grammar.proofs.WholeTests.{le_fact, lt_fact, eq_fact, either}
 
@@ -252,6 +252,13 @@ table_near coding set (Some table) h =
     let a = and_parts (has_size coding) (list_all line_fine table.lines && (all_differ share table.lines && nat_eq (count (images_by (Some table) set)) (count set))) h in
     lines_near table.lines (and_parts (list_all line_fine table.lines) (all_differ share table.lines && nat_eq (count (images_by (Some table) set)) (count set)) a.1).0
 
+table_apart : (coding : NumCoding) (set : List (ℤ × ℤ)) (table : Option Table) → table_fine coding set table ≡ true → IsApartTable table
+table_apart coding set None h = tt
+table_apart coding set (Some table) h =
+    let a = and_parts (has_size coding) (list_all line_fine table.lines && (all_differ share table.lines && nat_eq (count (images_by (Some table) set)) (count set))) h in
+    let b = and_parts (list_all line_fine table.lines) (all_differ share table.lines && nat_eq (count (images_by (Some table) set)) (count set)) a.1 in
+    (and_parts (all_differ share table.lines) (nat_eq (count (images_by (Some table) set)) (count set)) b.1).0
+
 -- A leaf's coding.
 
 coding_fits : (coding : NumCoding) (little : Bool) (kind : NumKind) (items : Items) (table : Option Table) (set : List (ℤ × ℤ)) → takes kind coding ≡ true → coding_fine coding ≡ true → implies little (can_be_little coding) ≡ true → set_fine kind coding items table set ≡ true → table_fine coding set table ≡ true
@@ -316,5 +323,6 @@ leaf_fits leaf h few =
     record {
       coding = coding_fits leaf.coding leaf.little leaf.kind leaf.items leaf.table leaf.set r.kind r.coding r.little r.set r.table r.values r.writes few;
       table = table_near leaf.coding leaf.set leaf.table r.table;
+      apart = table_apart leaf.coding leaf.set leaf.table r.table;
       plain = plain_ended leaf.coding leaf.kind leaf.items leaf.table leaf.set r.kind r.set;
     }

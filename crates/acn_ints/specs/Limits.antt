@@ -5,6 +5,7 @@ use Rattle.acn_grammar.specs.declared.node.NumCoding.{NumCoding}
 use Rattle.acn_grammar.specs.declared.node.NumCoding.TheVariants.{Range, CountedFrom, CountedSigned, PosInt, Twos, Bcd, BcdEnded, Ascii, AsciiEnded, Flag, Fixed}
 use Rattle.acn_grammar.specs.declared.node.Table.{Table}
 use Rattle.acn_grammar.specs.declared.limits.TheConstants.{MOST_INTEGER_BITS, MOST_PATTERN_BITS}
+use Rattle.acn_grammar.specs.Leaves.{all_differ, share}
 use Rattle.acn_bits.specs.declared.word.TheConstants.{WORD_BITS}
 
 -- between -2^70 and 2^70, where sums of a few fit 128 bits
@@ -27,6 +28,11 @@ ArePairsNear ranges = (i : ℕ) (d : ℤ × ℤ) → i < length ranges → IsNea
 abbrev pub IsNearTable : Option Table → Type 0
 IsNearTable None = Unit {0}
 IsNearTable (Some table) = AreNear table.lines
+
+-- no two lines of a table have a key or an image in common
+abbrev pub IsApartTable : Option Table → Type 0
+IsApartTable None = Unit {0}
+IsApartTable (Some table) = all_differ share table.lines ≡ true
 
 -- 1 to so many bits, whole octets where their order is turned round
 abbrev pub OrderFits : (little : Bool) → ℕ → Type 0
@@ -74,6 +80,7 @@ PlainEnded _ values = Unit {0}
 pub record LeafFits (leaf : NumLeaf) : Type 0 where
   pub coding : CodingFits leaf.coding leaf.little
   pub table : IsNearTable leaf.table
+  pub apart : IsApartTable leaf.table
   pub plain : PlainEnded leaf.coding leaf.items.values
 
 -- The numbers that a coding can write.

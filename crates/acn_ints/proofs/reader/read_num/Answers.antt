@@ -7,3 +7,6 @@ read_coding-requires c = leaf_fits c.args.leaf.now c.requires (subst (λ (items 
 
 pub number_of-requires-clause-table : goal.number_of-requires-clause-table
 number_of-requires-clause-table c = let f = leaf_fits c.args.leaf.now c.requires (subst (λ (items : List (List ℕ × ℤ)). length items < 2 ^ 64) c.items.ensures c.item_count-items.ensures.small) in f.table
+
+pub number_of-requires-clause-apart : goal.number_of-requires-clause-apart
+number_of-requires-clause-apart c = let f = leaf_fits c.args.leaf.now c.requires (subst (λ (items : List (List ℕ × ℤ)). length items < 2 ^ 64) c.items.ensures c.item_count-items.ensures.small) in f.apart
