@@ -5,6 +5,7 @@ mod Ends
 pub mod Fine
 mod Listing
 mod Marks
+mod Numbered
 mod Places
 mod SizedReads
 mod Spelled

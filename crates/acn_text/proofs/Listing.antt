@@ -1,14 +1,14 @@
 -- Bits that are listed one by one.
-use Rattle.std.proofs.Common.{◌≡◌, ℕ, zero, suc, ◌+◌, ◌-◌, ◌<◌, ◌≤◌, Bool, List, [], ◌∷◌, ◌++◌, length, take, refl, sym, ap, ◌∙◌, arith, append_assoc, append-nil, get_or}
+use Rattle.std.proofs.Common.{◌≡◌, ℕ, zero, suc, ◌+◌, ◌<◌, ◌≤◌, Bool, List, [], ◌∷◌, ◌++◌, length, take, refl, sym, ap, ◌∙◌, arith, append_assoc, append-nil, get_or}
 use Rattle.std.proofs.lemmas.List.{take_more, take_all}
-use Rattle.acn_num.specs.Bits.{bit, low_bits}
+use Rattle.acn_num.specs.Bits.{low_bits}
 use Rattle.acn_grammar.specs.Spell.{character_number}
 use Rattle.acn_grammar.specs.declared.node.TextLeaf.{TextLeaf}
 use Rattle.acn_text.specs.Steps.{IsFitting, NumbersFit, character_bits}
 
 -- Characters up to a place.
 
-character_bits-append : (leaf : TextLeaf) (cs ds : List ℕ) → character_bits leaf (cs ++ ds) ≡ character_bits leaf cs ++ character_bits leaf ds
+pub character_bits-append : (leaf : TextLeaf) (cs ds : List ℕ) → character_bits leaf (cs ++ ds) ≡ character_bits leaf cs ++ character_bits leaf ds
 character_bits-append leaf [] ds = refl
 character_bits-append leaf (c ∷ cs) ds = ap (λ (t : List Bool). low_bits leaf.width (character_number leaf c) ++ t) (character_bits-append leaf cs ds) ∙ sym (append_assoc (low_bits leaf.width (character_number leaf c)) (character_bits leaf cs) (character_bits leaf ds))
 

@@ -21,17 +21,6 @@ two_writes old mid new a b n m x e y =
     let end : place_of mid + m ≡ place_of old + (n + m) = omega (arith, at) in
     subst (λ (k : ℕ). Writes old new (place_of old) (a ++ b) k) end (writes_twice old mid new (place_of old) (place_of old + n) (place_of mid + m) a b x (ap (λ (k : ℕ). place_of old + k) e) y')
 
-pub write_next : {N : ℕ} (leaf : TextLeaf) (cs : List ℕ) (i number : ℕ) (old mid new : WriteCursor N) → i < length cs → length (character_bits leaf (take i cs)) ≡ leaf.width * i → Writes old mid (place_of old) (character_bits leaf (take i cs)) (place_of old + leaf.width * i)
-    → number ≡ character_number leaf (get_or cs i 0) → Writes mid new (place_of mid) (low_bits leaf.width number) (place_of mid + leaf.width) → Writes old new (place_of old) (character_bits leaf (take (i + 1) cs)) (place_of old + leaf.width * (i + 1))
-write_next leaf cs i number old mid new h long x is y =
-    let both = two_writes old mid new (character_bits leaf (take i cs)) (low_bits leaf.width number) (leaf.width * i) leaf.width x (sym long) y in
-    let bits : character_bits leaf (take i cs) ++ low_bits leaf.width number ≡ character_bits leaf (take (i + 1) cs) = ap (λ (k : ℕ). character_bits leaf (take i cs) ++ low_bits leaf.width k) is ∙ sym (one_more leaf cs i h) in
-    let end : leaf.width * i + leaf.width ≡ leaf.width * (i + 1) = times leaf.width i in
-    subst (λ (t : List Bool). Writes old new (place_of old) t (place_of old + leaf.width * (i + 1))) bits (subst (λ (k : ℕ). Writes old new (place_of old) (character_bits leaf (take i cs) ++ low_bits leaf.width number) (place_of old + k)) end both)
-  where
-    times : (w i : ℕ) → w * i + w ≡ w * (i + 1)
-    times w i = omega arith
-
 -- what was written is the text's code
 pub text_puts : {N : ℕ} (leaf : TextLeaf) (cs : List ℕ) (old new : WriteCursor N) (n : ℕ) → TextRules leaf → MeetsText leaf cs → n ≡ text_length leaf.ended leaf (length cs) → Writes old new (place_of old) (text_bits leaf.ended leaf cs) (place_of old + n) → Puts (TextCode leaf (given_size leaf.sized.rule (length cs)) cs) old new
 text_puts leaf cs old new n f m e w = record {

@@ -6,12 +6,15 @@ ghost use Rattle.acn_grammar.specs.Length.{text_length, rule_width};
 ghost use Rattle.acn_grammar.specs.Meets.{text_breach};
 ghost use Rattle.acn_text.specs.Texts.{TextCode, given_size};
 ghost use Rattle.acn_text.specs.Steps.{SizeFits, NumbersFit, size_bits, character_bits};
-ghost use Rattle.acn_bits.specs.declared.word.TheConstants.{WORD_BITS};
+ghost use Rattle.acn_text.specs.declared.writer.TheConstants.{CHARACTERS_AT_ONCE};
 
 use crate::alphabet::number_of;
 use acn_bits::WriteCursor;
 use acn_grammar::{Pattern, SizeRule, TextLeaf};
 use acn_ints::pattern_number;
+
+/// So many characters are written at once: each has at most eight bits, so their bits fit a word.
+const CHARACTERS_AT_ONCE: usize = 8;
 
 /// Writes the size in front, which has no bits where a slot says it.
 fn put_size<const N: usize>(cur: &mut WriteCursor<'_, N>, rule: &SizeRule, n: u64)
@@ -26,18 +29,36 @@ fn put_size<const N: usize>(cur: &mut WriteCursor<'_, N>, rule: &SizeRule, n: u6
     }
 }
 
+/// The number that the bits of characters spell, of as many as a word has room for.
+fn number_of_all(leaf: &TextLeaf, characters: &[u8]) -> u64
+    requires fine { IsTrue (text_fine leaf.now) }
+    requires width { leaf.now.width ≤ 8 }
+    requires few { length characters.now ≤ CHARACTERS_AT_ONCE }
+    requires fit { NumbersFit leaf.now characters.now }
+    ensures { result ≡ number (character_bits leaf.now characters.now) }
+{
+    let mut all = 0u64;
+    for c in characters {
+        all = (all << leaf.width) | number_of(leaf, *c);
+    }
+    all
+}
+
 /// Writes characters.
 fn put_characters<const N: usize>(cur: &mut WriteCursor<'_, N>, leaf: &TextLeaf, text: &[u8])
     requires fine { IsTrue (text_fine leaf.now) }
-    requires width { leaf.now.width ≤ WORD_BITS }
+    requires width { leaf.now.width ≤ 8 }
     requires fit { NumbersFit leaf.now text.now }
     requires room { place_of cur.old + leaf.now.width * length text.now ≤ 8 * N }
     ensures { Writes cur.old cur.new (place_of cur.old) (character_bits leaf.now text.now) (place_of cur.old + leaf.now.width * length text.now) }
 {
-    // No bits: it shows that the place lies in the buffer.
-    cur.put(0, 0);
-    for c in text {
-        cur.put(leaf.width, number_of(leaf, *c));
+    let front = text.len() % CHARACTERS_AT_ONCE;
+    let word = number_of_all(leaf, &text[..front]);
+    cur.put(leaf.width * front as u32, word);
+    for i in 0..text.len() / CHARACTERS_AT_ONCE {
+        let at = front + CHARACTERS_AT_ONCE * i;
+        let word = number_of_all(leaf, &text[at..at + CHARACTERS_AT_ONCE]);
+        cur.put(leaf.width * CHARACTERS_AT_ONCE as u32, word);
     }
 }
 

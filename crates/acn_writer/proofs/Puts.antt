@@ -1,8 +1,10 @@
 -- Bits that are put in parts.
-use Rattle.std.proofs.Common.{◌≡◌, ℕ, zero, suc, ◌+◌, ◌*◌, ◌^◌, ◌<◌, ◌≤◌, Bool, false, List, [], ◌∷◌, ◌++◌, length, take, drop, get_or, replicate, refl, sym, ap, ◌∙◌, subst, arith, append-nil}
-use Rattle.std.proofs.lemmas.List.{length-replicate}
+use Rattle.std.proofs.Common.{◌≡◌, ℕ, zero, suc, ◌+◌, ◌*◌, ◌%◌, ◌^◌, ◌<◌, ◌≤◌, Bool, false, List, [], ◌∷◌, ◌++◌, length, take, drop, get_or, replicate, refl, sym, ap, ◌∙◌, subst, arith, bit_or}
+use Rattle.std.proofs.lemmas.List.{length-replicate, take_more}
+use Rattle.std.proofs.lemmas.Nat.{shl_whole, or_shifted}
 use Rattle.acn_num.specs.Bits.{bits, low_bits, number}
 use Rattle.acn_num.proofs.BitLists.{length-bits, low_bits-number, number_below, bits-append}
+use Rattle.acn_bits.proofs.Loads.{number-bits_push}
 use Rattle.acn_bits.proofs.Parts.{low_bits-zero}
 use Rattle.acn_bits.specs.Writing.{Writes, place_of}
 use Rattle.acn_bits.specs.declared.write_cursor.WriteCursor.{WriteCursor}
@@ -36,22 +38,22 @@ zeros_next old mid new k m n e x y =
 
 -- Lists of bits.
 
-take_none : (n : ℕ) (xs : List Bool) → xs ≡ [] → take n xs ≡ []
+take_none : {A : Type 0} (n : ℕ) (xs : List A) → xs ≡ [] → take n xs ≡ []
 take_none zero xs e = refl
 take_none (suc n) [] e = refl
 take_none (suc n) (x ∷ xs) e = cc
 
-take_join : (k n : ℕ) (xs : List Bool) → take k xs ++ take n (drop k xs) ≡ take (k + n) xs
+take_join : {A : Type 0} (k n : ℕ) (xs : List A) → take k xs ++ take n (drop k xs) ≡ take (k + n) xs
 take_join zero n xs = (let e : n ≡ 0 + n = omega arith in ap (λ (j : ℕ). take j xs) e)
 take_join (suc k) n [] = take_none n [] refl ∙ sym (take_none (suc k + n) [] refl)
 take_join (suc k) n (x ∷ xs) = (let e : suc (k + n) ≡ suc k + n = omega arith in ap (λ z. x ∷ z) (take_join k n xs) ∙ ap (λ (j : ℕ). take j (x ∷ xs)) e)
 
-pub take_long : (n : ℕ) (xs : List Bool) → n ≤ length xs → length (take n xs) ≡ n
+pub take_long : {A : Type 0} (n : ℕ) (xs : List A) → n ≤ length xs → length (take n xs) ≡ n
 take_long zero xs h = refl
 take_long (suc n) [] h = absurd (omega arith)
 take_long (suc n) (x ∷ xs) h = ap suc (take_long n xs (omega arith))
 
-pub part_long : (k n : ℕ) (xs : List Bool) → k + n ≤ length xs → length (take n (drop k xs)) ≡ n
+pub part_long : {A : Type 0} (k n : ℕ) (xs : List A) → k + n ≤ length xs → length (take n (drop k xs)) ≡ n
 part_long zero n xs h = take_long n xs (omega (arith, h))
 part_long (suc k) n [] h = absurd (omega (arith, h))
 part_long (suc k) n (x ∷ xs) h = part_long k n xs (omega (arith, h))
@@ -75,26 +77,35 @@ bits_start list bs old new k n v is long e value w =
 
 -- Octets.
 
-take_octet : (i : ℕ) (xs : List ℕ) → i < length xs → take (i + 1) xs ≡ take i xs ++ get_or xs i 0 ∷ []
-take_octet i [] h = absurd (omega arith)
-take_octet zero (x ∷ xs) h = refl
-take_octet (suc i) (x ∷ xs) h = (let e : suc (i + 1) ≡ suc i + 1 = omega arith in sym (ap (λ (j : ℕ). take j (x ∷ xs)) e) ∙ ap (λ z. x ∷ z) (take_octet i xs (omega arith)))
-
 front_long : (i : ℕ) (xs : List ℕ) → i ≤ length xs → length (bits (take i xs)) ≡ 8 * i
-front_long i xs h = length-bits (take i xs) ∙ ap (λ (k : ℕ). 8 * k) (long i xs h)
-  where
-    long : (i : ℕ) (xs : List ℕ) → i ≤ length xs → length (take i xs) ≡ i
-    long zero xs h = refl
-    long (suc i) [] h = absurd (omega arith)
-    long (suc i) (x ∷ xs) h = ap suc (long i xs (omega arith))
+front_long i xs h = length-bits (take i xs) ∙ ap (λ (k : ℕ). 8 * k) (take_long i xs h)
 
-pub octets_next : {N : ℕ} (octets : List ℕ) (old mid new : WriteCursor N) (i v : ℕ) → i < length octets → v ≡ get_or octets i 0 → Writes old mid (place_of old) (bits (take i octets)) (place_of old + 8 * i)
-    → Writes mid new (place_of mid) (low_bits 8 v) (place_of mid + 8) → Writes old new (place_of old) (bits (take (i + 1) octets)) (place_of old + 8 * (i + 1))
-octets_next octets old mid new i v h is x y =
-    let o = get_or octets i 0 in
-    let y' : Writes mid new (place_of mid) (low_bits 8 o) (place_of mid + 8) = subst (λ (k : ℕ). Writes mid new (place_of mid) (low_bits 8 k) (place_of mid + 8)) is y in
-    let z = two_writes old mid new (bits (take i octets)) (low_bits 8 o) (8 * i) 8 x (sym (front_long i octets (omega (arith, h)))) y' in
-    let one : bits (o ∷ []) ≡ low_bits 8 o = append-nil (low_bits 8 o) in
-    let all : bits (take i octets) ++ low_bits 8 o ≡ bits (take (i + 1) octets) = ap (λ (t : List Bool). bits (take i octets) ++ t) (sym one) ∙ (sym (bits-append (take i octets) (o ∷ [])) ∙ ap bits (sym (take_octet i octets h))) in
-    let end : 8 * i + 8 ≡ 8 * (i + 1) = omega arith in
-    subst (λ (k : ℕ). Writes old new (place_of old) (bits (take (i + 1) octets)) (place_of old + k)) end (subst (λ (t : List Bool). Writes old new (place_of old) t (place_of old + (8 * i + 8))) all z)
+-- one octet more in a word
+pub octet_pushed : (octets : List ℕ) (i b all : ℕ) → i < length octets → length octets ≤ 8 → b < 256 → b ≡ get_or octets i 0 → all ≡ number (bits (take i octets)) → bit_or (all * 2 ^ 8 % 2 ^ 64) b ≡ number (bits (take (i + 1) octets))
+octet_pushed octets i b all inside few byte is so_far =
+    let width : length (bits (take i octets)) ≡ 8 * i = front_long i octets (omega (arith, inside)) in
+    let below : all < 2 ^ (8 * i) = subst (λ (k : ℕ). all < 2 ^ k) width (subst (λ (k : ℕ). k < 2 ^ length (bits (take i octets))) (sym so_far) (number_below (bits (take i octets)))) in
+    let whole = shl_whole all (8 * i) 8 64 below (omega (arith, inside, few)) in
+    let or = or_shifted all 8 b byte in
+    let next : take (i + 1) octets ≡ take i octets ++ b ∷ [] = take_more octets i 0 inside ∙ ap (λ (k : ℕ). take i octets ++ k ∷ []) (sym is) in
+    ap (λ (k : ℕ). bit_or k b) whole ∙ (or ∙ (ap (λ (k : ℕ). k * 2 ^ 8 + b) so_far ∙ (sym (number-bits_push (take i octets) b byte) ∙ sym (ap (λ (t : List ℕ). number (bits t)) next))))
+
+-- the number of some octets spells their bits
+pub spelled_octets : (octets : List ℕ) (n v : ℕ) → length octets ≡ n → v ≡ number (bits octets) → (v < 2 ^ (8 * n)) × (low_bits (8 * n) v ≡ bits octets)
+spelled_octets octets n v long e = spelled_back (bits octets) (8 * n) v (length-bits octets ∙ ap (λ (k : ℕ). 8 * k) long) e
+
+pub octets_start : {N : ℕ} (octets : List ℕ) (old new : WriteCursor N) (k n v : ℕ) → k ≤ length octets → k ≡ n → v ≡ number (bits (take k octets)) → Writes old new (place_of old) (low_bits (8 * k) v) (place_of old + 8 * k)
+    → Writes old new (place_of old) (bits (take n octets)) (place_of old + 8 * n)
+octets_start octets old new k n v h same e w =
+    subst (λ (j : ℕ). Writes old new (place_of old) (bits (take j octets)) (place_of old + 8 * j)) same (subst (λ (t : List Bool). Writes old new (place_of old) t (place_of old + 8 * k)) (spelled_octets (take k octets) k v (take_long k octets h) e).1 w)
+
+pub octets_next : {N : ℕ} (octets part : List ℕ) (old mid new : WriteCursor N) (k m n v : ℕ) → part ≡ take m (drop k octets) → k + m ≤ length octets → k + m ≡ n → v ≡ number (bits part) → Writes old mid (place_of old) (bits (take k octets)) (place_of old + 8 * k)
+    → Writes mid new (place_of mid) (low_bits (8 * m) v) (place_of mid + 8 * m) → Writes old new (place_of old) (bits (take n octets)) (place_of old + 8 * n)
+octets_next octets part old mid new k m n v is within e value x y =
+    let long : length part ≡ m = ap length is ∙ part_long k m octets within in
+    let y' : Writes mid new (place_of mid) (bits part) (place_of mid + 8 * m) = subst (λ (t : List Bool). Writes mid new (place_of mid) t (place_of mid + 8 * m)) (spelled_octets part m v long value).1 y in
+    let z = two_writes old mid new (bits (take k octets)) (bits part) (8 * k) (8 * m) x (sym (front_long k octets (omega (arith, within)))) y' in
+    let all : bits (take k octets) ++ bits part ≡ bits (take n octets) =
+    sym (bits-append (take k octets) part) ∙ (ap (λ (t : List ℕ). bits (take k octets ++ t)) is ∙ (ap bits (take_join k m octets) ∙ ap (λ (j : ℕ). bits (take j octets)) e)) in
+    let end : 8 * k + 8 * m ≡ 8 * n = omega (arith, e) in
+    subst (λ (j : ℕ). Writes old new (place_of old) (bits (take n octets)) (place_of old + j)) end (subst (λ (t : List Bool). Writes old new (place_of old) t (place_of old + (8 * k + 8 * m))) all z)

@@ -1,13 +1,17 @@
 //! Bits that are put where there is room.
 
 ghost use Rattle.std.specs.Prelude.{◌≡◌, ◌+◌, ◌-◌, ◌*◌, ◌^◌, ◌<◌, ◌≤◌, false, true, length, replicate};
-ghost use Rattle.acn_num.specs.Bits.{bits, low_bits};
+ghost use Rattle.acn_num.specs.Bits.{bits, low_bits, number};
 ghost use Rattle.acn_bits.specs.Writing.{Writes, place_of};
 ghost use Rattle.acn_bits.specs.declared.word.TheConstants.{WORD_BITS};
 ghost use Rattle.acn_grammar.specs.Length.{padding as padding_of};
+ghost use Rattle.acn_writer.specs.declared.cursor.TheConstants.{OCTETS_AT_ONCE};
 
 use acn_bits::{WORD_BITS, WriteCursor};
 use acn_ints::pattern_number;
+
+/// So many octets are written at once: those of a word.
+const OCTETS_AT_ONCE: usize = 8;
 
 /// Whether so many bits are left.
 pub fn has_room<const N: usize>(cursor: &WriteCursor<'_, N>, n: u64) -> bool
@@ -76,15 +80,28 @@ pub fn put_bits<const N: usize>(cursor: &mut WriteCursor<'_, N>, list: &[bool])
     }
 }
 
+/// The number that the bits of octets spell, of as many as a word has.
+fn octets_number(octets: &[u8]) -> u64
+    requires { length octets.now ≤ OCTETS_AT_ONCE }
+    ensures { result ≡ number (bits octets.now) }
+{
+    let mut all = 0u64;
+    for octet in octets {
+        all = (all << 8) | u64::from(*octet);
+    }
+    all
+}
+
 /// Writes octets.
 pub fn put_octets<const N: usize>(cursor: &mut WriteCursor<'_, N>, octets: &[u8])
     requires { place_of cursor.old + 8 * length octets.now ≤ 8 * N }
     ensures { Writes cursor.old cursor.new (place_of cursor.old) (bits octets.now) (place_of cursor.old + 8 * length octets.now) }
 {
-    // No bits: it shows that the place lies in the buffer.
-    cursor.put(0, 0);
-    for octet in octets {
-        cursor.put(8, u64::from(*octet));
+    let front = octets.len() % OCTETS_AT_ONCE;
+    cursor.put(8 * front as u32, octets_number(&octets[..front]));
+    for i in 0..octets.len() / OCTETS_AT_ONCE {
+        let at = front + OCTETS_AT_ONCE * i;
+        cursor.put(WORD_BITS, octets_number(&octets[at..at + OCTETS_AT_ONCE]));
     }
 }
 

@@ -1,6 +1,7 @@
 //! Whether a text meets its leaf, and how long it is then.
 
-ghost use Rattle.std.specs.Prelude.{◌≡◌, ◌≤◌, ◌<◌, ◌^◌, [], true, false, IsTrue, length, not, pos, position};
+ghost use Rattle.std.specs.Prelude.{◌≡◌, ◌≤◌, ◌<◌, ◌^◌, ◌&&◌, [], ℕ, None, true, false, IfSome, IsTrue, length, nat_le, not, pos, position};
+ghost use Rattle.std.specs.List.{list_all};
 ghost use Rattle.acn_num.specs.Ranges.{has};
 ghost use Rattle.acn_grammar.specs.Leaves.{text_fine};
 ghost use Rattle.acn_grammar.specs.Length.{text_length};
@@ -15,6 +16,60 @@ fn first_wrong(alphabet: &RangeSet, text: &[u8]) -> Option<usize>
     ensures { result ≡ position (λ c. not (has alphabet.now (pos c))) text.now }
 {
     text.iter().position(|c| !alphabet.holds(i128::from(*c)))
+}
+
+// The ends of a range as octets, where they are octets.
+fn octet_ends(range: &(i128, i128)) -> Option<(u8, u8)>
+    ensures { IfSome result (λ ends. (range.now.0 ≡ pos ends.0) × (range.now.1 ≡ pos ends.1)) }
+{
+    match u8::try_from(range.0) {
+        Ok(low) => match u8::try_from(range.1) {
+            Ok(high) => Some((low, high)),
+            Err(_) => None,
+        },
+        Err(_) => None,
+    }
+}
+
+// The octets between which all characters are of the alphabet: the ends of its first range.
+fn first_ends(alphabet: &RangeSet) -> Option<(u8, u8)>
+    ensures { IfSome result (λ ends. (c : ℕ) → (nat_le ends.0 c && nat_le c ends.1) ≡ true → has alphabet.now (pos c) ≡ true) }
+{
+    match alphabet.ranges().first() {
+        Some(range) => octet_ends(range),
+        None => None,
+    }
+}
+
+// Whether all characters of a text lie between two.
+fn lie_between(text: &[u8], low: u8, high: u8) -> bool
+    ensures { result ≡ list_all (λ c. nat_le low c && nat_le c high) text.now }
+{
+    text.iter().all(|c| low <= *c && *c <= high)
+}
+
+// Whether all characters of a text are of the first range of the alphabet.
+fn lie_in_first(alphabet: &RangeSet, text: &[u8]) -> bool
+    ensures { result ≡ true → position (λ c. not (has alphabet.now (pos c))) text.now ≡ None }
+{
+    match first_ends(alphabet) {
+        Some((low, high)) => lie_between(text, low, high),
+        None => false,
+    }
+}
+
+// Whether all characters of a text are of the alphabet.
+fn are_permitted(alphabet: &RangeSet, text: &[u8]) -> bool
+    ensures yes { result ≡ true → position (λ c. not (has alphabet.now (pos c))) text.now ≡ None }
+    ensures no { result ≡ false → position (λ c. not (has alphabet.now (pos c))) text.now ≡ None → ⊥ }
+{
+    if lie_in_first(alphabet, text) {
+        return true;
+    }
+    match first_wrong(alphabet, text) {
+        Some(_) => false,
+        None => true,
+    }
 }
 
 // Whether the terminator doesn't occur in the text followed by it.
@@ -39,10 +94,7 @@ pub fn meets(leaf: &TextLeaf, text: &[u8]) -> bool
     if !leaf.sized.sizes.holds_natural(text.len() as u64) {
         return false;
     }
-    match first_wrong(&leaf.alphabet, text) {
-        Some(_) => false,
-        None => ends_once(&leaf.ended, text),
-    }
+    are_permitted(&leaf.alphabet, text) && ends_once(&leaf.ended, text)
 }
 
 /// How many bits a text that meets its leaf has.
