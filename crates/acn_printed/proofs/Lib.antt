@@ -4,5 +4,6 @@ pub mod Digits
 mod Leaves
 -- for acn_lines
 pub mod Pieces
+mod Runs
 mod Strings
 mod Tables

@@ -1,13 +1,91 @@
 //! What is left of a line, and what is passed over.
 
-ghost use Rattle.std.specs.Prelude.{◌≡◌, ◌++◌, ◌∷◌, IfSome, IsTrue, IsFalse};
+ghost use Rattle.std.specs.Prelude.{◌≡◌, ◌<◌, ◌≤◌, ◌-◌, ◌++◌, ◌∷◌, ℕ, IfSome, IsTrue, IsFalse, take, drop, length, slice_index};
+ghost use Rattle.std.specs.Int.{w32, w64, from_le_bytes};
 ghost use Rattle.json.specs.Print.{quoted};
 ghost use Rattle.serde_json.specs.Written.{comma_if};
 
 use acn_json::all_plain;
 use memchr::memchr;
 
+// The first four octets as a word.
+#[inline(always)]
+fn first_four(octets: &[u8]) -> u32
+    requires { 4 ≤ length octets.now }
+    ensures { result ≡ from_le_bytes w32 (take 4 octets.now) }
+{
+    match octets.first_chunk::<4>() {
+        Some(four) => u32::from_le_bytes(*four),
+        None => unreachable!(),
+    }
+}
+
+// The last four octets as a word.
+#[inline(always)]
+fn last_four(octets: &[u8]) -> u32
+    requires { 4 ≤ length octets.now }
+    ensures { result ≡ from_le_bytes w32 (drop (length octets.now - 4) octets.now) }
+{
+    match octets.last_chunk::<4>() {
+        Some(four) => u32::from_le_bytes(*four),
+        None => unreachable!(),
+    }
+}
+
+// The first eight octets as a word.
+#[inline(always)]
+fn first_eight(octets: &[u8]) -> u64
+    requires { 8 ≤ length octets.now }
+    ensures { result ≡ from_le_bytes w64 (take 8 octets.now) }
+{
+    match octets.first_chunk::<8>() {
+        Some(eight) => u64::from_le_bytes(*eight),
+        None => unreachable!(),
+    }
+}
+
+// The last eight octets as a word.
+#[inline(always)]
+fn last_eight(octets: &[u8]) -> u64
+    requires { 8 ≤ length octets.now }
+    ensures { result ≡ from_le_bytes w64 (drop (length octets.now - 8) octets.now) }
+{
+    match octets.last_chunk::<8>() {
+        Some(eight) => u64::from_le_bytes(*eight),
+        None => unreachable!(),
+    }
+}
+
+// Octets are small numbers.
+#[inline(always)]
+fn octets_are_small(octets: &[u8])
+    ensures { (i : ℕ) → slice_index octets.now i < 256 }
+{
+    let _octets = octets;
+}
+
+// Whether two runs of one length are the same. Most keys are as long as two words or less, which
+// may overlap: these are compared without a call.
+#[inline(always)]
+fn is_same_run(left: &[u8], right: &[u8]) -> bool
+    requires { length left.now ≡ length right.now }
+    ensures { IsTrue result → left.now ≡ right.now }
+{
+    octets_are_small(left);
+    octets_are_small(right);
+    let size = right.len();
+    if size < 4 || 16 < size {
+        return left == right;
+    }
+    if size < 8 {
+        first_four(left) == first_four(right) && last_four(left) == last_four(right)
+    } else {
+        first_eight(left) == first_eight(right) && last_eight(left) == last_eight(right)
+    }
+}
+
 /// What stands behind these octets.
+#[inline(always)]
 pub fn behind<'a>(text: &'a [u8], octets: &[u8]) -> Option<&'a [u8]>
     ensures { IfSome result (λ rest. text.now ≡ octets.now ++ rest.now) }
 {
@@ -15,7 +93,11 @@ pub fn behind<'a>(text: &'a [u8], octets: &[u8]) -> Option<&'a [u8]>
         return None;
     }
     let (front, rest) = text.split_at(octets.len());
-    if front == octets { Some(rest) } else { None }
+    if is_same_run(front, octets) {
+        Some(rest)
+    } else {
+        None
+    }
 }
 
 /// What is left of a line.
