@@ -9,6 +9,7 @@ mod printed;
 mod put;
 mod read;
 mod room;
+mod spare;
 mod take;
 mod tokens;
 mod turns;

@@ -14,6 +14,7 @@ use crate::order::{Order, TreeOrder, order_of};
 use crate::printed::printed_value;
 use crate::put::put_node;
 use crate::room::Room;
+use crate::spare::Spare;
 use crate::take::take_line;
 use acn_grammar::Value;
 use acn_json::{JsonFault, from_line};
@@ -86,7 +87,7 @@ impl Lines {
         ensures gives { IfSome result (λ v. Ok (data_of v) ≡ line_gives (grammar_of tree.now.root) line.now) }
         ensures shaped { IfSome result (λ v. IsTrue (fits (grammar_of tree.now.root) (data_of v))) }
     {
-        if let Some(value) = self.printed(alloc, tree, line) {
+        if let Some(value) = self.printed(tree, &mut room.spare, line) {
             return Some(value);
         }
         let value = take_line(alloc, tree, &self.order.nodes, room, line)?;
@@ -94,13 +95,13 @@ impl Lines {
     }
 
     // The value of a line that was printed.
-    fn printed(&self, alloc: Global, tree: &Tree, line: &[u8]) -> Option<Value>
+    fn printed(&self, tree: &Tree, spare: &mut Spare, line: &[u8]) -> Option<Value>
         requires { IsOrder (grammar_of tree.now.root) self.now.order }
         ensures gives { IfSome result (λ v. Ok (data_of v) ≡ line_gives (grammar_of tree.now.root) line.now) }
         ensures shaped { IfSome result (λ v. IsTrue (fits (grammar_of tree.now.root) (data_of v))) }
     {
         if self.order.text_names {
-            printed_value(alloc, tree, &self.order.nodes, line)
+            printed_value(tree, &self.order.nodes, spare, line)
         } else {
             None
         }

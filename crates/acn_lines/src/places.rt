@@ -1,6 +1,6 @@
 //! The places of a record that is filled member by member.
 
-ghost use Rattle.std.specs.Prelude.{◌≡◌, ◌<◌, ◌||◌, IfSome, IfOk, length, drop};
+ghost use Rattle.std.specs.Prelude.{◌≡◌, ◌<◌, ◌||◌, [], IfSome, IfOk, length, drop};
 ghost use Rattle.acn_grammar.specs.Shaped.{may_be_absent as may_lack};
 ghost use Rattle.acn_grammar.specs.View.{fields_view, places_view, alternatives_view};
 ghost use Rattle.acn_lines.specs.Filled.{alternative_name};
@@ -11,14 +11,15 @@ use acn_grammar::{Alternative, Field, Presence, Value};
 use acn_json::{is_same, may_be_absent};
 use acn_num::NoMemory;
 use acn_printed::number_by_halves;
-use std::alloc::Global;
 
-/// A place for each component, with no value in it.
-pub fn no_values(alloc: Global, fields: &[Field]) -> Result<Vec<Option<Value>>, NoMemory>
+/// A place for each component, with no value in it, in a room that has none yet.
+pub fn no_values(room: Vec<Option<Value>>, fields: &[Field]) -> Result<Vec<Option<Value>>, NoMemory>
+    requires { room.items ≡ [] }
     ensures empty { IfOk result (λ places. places_view places.items ≡ taken.no_values (fields_view fields.now)) }
     ensures count { IfOk result (λ places. length places.items ≡ taken.component_count (fields_view fields.now)) }
 {
-    let mut places = Vec::with_capacity(alloc, fields.len())?;
+    let mut places = room;
+    places.reserve(fields.len())?;
     for field in fields {
         match field {
             Field::Component { .. } => places.push(None)?,

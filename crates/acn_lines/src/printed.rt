@@ -9,14 +9,14 @@ ghost use Rattle.acn_lines.specs.Order.{IsNodeOrder};
 
 use crate::order::Order;
 use crate::read::{may_be_printed, read_node};
+use crate::spare::Spare;
 use acn_grammar::Value;
 use acn_json::lines_give_the_value;
 use acn_printed::Rest;
 use acn_tree::Tree;
-use std::alloc::Global;
 
 /// The value of a line, if it was printed for one: members in the order of `put`, and nothing that isn't needed.
-pub fn printed_value(alloc: Global, tree: &Tree, order: &Order, line: &[u8]) -> Option<Value>
+pub fn printed_value(tree: &Tree, order: &Order, spare: &mut Spare, line: &[u8]) -> Option<Value>
     requires order { IsNodeOrder (grammar_of tree.now.root) order.now }
     requires names { HasTextNames (grammar_of tree.now.root) }
     ensures gives { IfSome result (λ v. Ok (data_of v) ≡ line_gives (grammar_of tree.now.root) line.now) }
@@ -28,7 +28,7 @@ pub fn printed_value(alloc: Global, tree: &Tree, order: &Order, line: &[u8]) -> 
         return None;
     }
     let mut rest = Rest { text: line };
-    let value = read_node(alloc, root, order, &mut rest)?;
+    let value = read_node(root, order, spare, &mut rest)?;
     if rest.text.is_empty() {
         Some(value)
     } else {

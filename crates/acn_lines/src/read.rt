@@ -1,11 +1,12 @@
 //! The value of a line, read along the tree as the line of a value is printed, where the line is one: the texts are those of src/put.rt.
 
-ghost use Rattle.std.specs.Prelude.{◌≡◌, ◌++◌, List, ℕ, None, IfSome, OnSome, length, false};
+ghost use Rattle.std.specs.Prelude.{◌≡◌, ◌++◌, List, ℕ, ℤ, None, IfSome, OnSome, IsTrue, length, false};
 ghost use Rattle.serde_json.specs.Written.{members_text};
 ghost use Rattle.acn_grammar.specs.Grammar as grammar;
 ghost use Rattle.acn_grammar.specs.Grammar.{Data};
 ghost use Rattle.acn_grammar.specs.View.{grammar_of, data_of, field_of, fields_view, elements_view, places_view, alternatives_view};
 ghost use Rattle.acn_grammar.specs.declared.node.ChoiceRule.{ChoiceRule};
+ghost use Rattle.acn_grammar.specs.declared.node.NumKind.TheVariants as kind;
 ghost use Rattle.acn_grammar.specs.declared.node.Sizing.{Sizing};
 ghost use Rattle.acn_lines.specs.Filled as filled;
 ghost use Rattle.acn_lines.specs.Order as spec;
@@ -15,48 +16,58 @@ ghost use Rattle.acn_printed.specs.Read.{IsRead, IsNumberRead};
 
 use crate::order::Order;
 use crate::places::{alternative_called, is_whole, no_values};
+use crate::spare::Spare;
 use crate::take::alternative_of;
 use crate::turns::Turn;
-use acn_grammar::{Alternative, Body, Field, Node, NumLeaf, Presence, Value};
+use acn_grammar::{Alternative, Body, Field, Node, NumKind, NumLeaf, Presence, Value};
 use acn_num::Row;
-use acn_printed::{Rest, read_bits, read_characters, read_number, read_octets};
-use std::alloc::Global;
+use acn_printed::{Rest, read_bits, read_characters, read_integer, read_number, read_octets};
 
 /// Reads the value of a node, if its text comes next.
 #[cycle(read)]
-pub fn read_node(alloc: Global, node: &Node, order: &Order, rest: &mut Rest<'_>) -> Option<Value>
+pub fn read_node(
+    node: &Node,
+    order: &Order,
+    spare: &mut Spare,
+    rest: &mut Rest<'_>,
+) -> Option<Value>
     requires { spec.IsNodeOrder (grammar_of node.now) order.now }
     ensures { IfSome result (λ v. IsRead (grammar_of node.now) (data_of v) rest.old.text.now rest.new.text.now) }
 {
     match &node.body {
         Body::Num(leaf) => read_number(leaf, order.names.items(), rest),
         Body::Octets(_) => {
-            let octets = read_octets(alloc, rest)?;
+            let octets = read_octets(spare.string(), rest)?;
             Some(Value::Octets(octets))
         }
         Body::Bits(_) => {
-            let bits = read_bits(alloc, rest)?;
+            let bits = read_bits(spare.alloc, rest)?;
             Some(Value::Bits(bits))
         }
         Body::Text(_) => {
-            let characters = read_characters(alloc, rest)?;
+            let characters = read_characters(spare.string(), rest)?;
             Some(Value::Text(characters))
         }
-        Body::Seq(seq) => read_record(alloc, seq.fields.items(), order, rest),
-        Body::List(_, element) => read_list(alloc, element.get(), order, rest),
+        Body::Seq(seq) => read_record(seq.fields.items(), order, spare, rest),
+        Body::List(_, element) => read_list(element.get(), order, spare, rest),
         Body::Choice(choice) => read_alternative(
-            alloc,
             choice.alternatives.items(),
             order.inside.items(),
             order.names.items(),
+            spare,
             rest,
         ),
-        Body::Contained(_, content) => read_node(alloc, content.get(), order, rest),
+        Body::Contained(_, content) => read_node(content.get(), order, spare, rest),
     }
 }
 
 #[cycle(read)]
-fn read_record(alloc: Global, fields: &[Field], order: &Order, rest: &mut Rest<'_>) -> Option<Value>
+fn read_record(
+    fields: &[Field],
+    order: &Order,
+    spare: &mut Spare,
+    rest: &mut Rest<'_>,
+) -> Option<Value>
     requires turns { spec.AreTurns (fields_view fields.now) (out-Order order.now).turns }
     requires inside { spec.AreFieldOrders (fields_view fields.now) (out-Order order.now).inside }
     ensures { IfSome result (λ v. (align : ℕ) (home : List ℕ) → IsRead (grammar.node align (grammar.seq (fields_view fields.now) home)) (data_of v) rest.old.text.now rest.new.text.now) }
@@ -64,15 +75,16 @@ fn read_record(alloc: Global, fields: &[Field], order: &Order, rest: &mut Rest<'
     if !rest.pass(b'{') {
         return None;
     }
-    let Ok(mut places) = no_values(alloc, fields) else {
+    let room = spare.record();
+    let Ok(mut places) = no_values(room, fields) else {
         return None;
     };
     read_members(
-        alloc,
         fields,
         order.inside.items(),
         order.turns.items(),
         &mut places,
+        spare,
         rest,
     )?;
     if is_whole(fields, &places) {
@@ -85,11 +97,11 @@ fn read_record(alloc: Global, fields: &[Field], order: &Order, rest: &mut Rest<'
 // Reads members, turn by turn, and the brace behind them.
 #[cycle(read)]
 fn read_members(
-    alloc: Global,
     fields: &[Field],
     inside: &[Order],
     turns: &[Turn],
     places: &mut Vec<Option<Value>>,
+    spare: &mut Spare,
     rest: &mut Rest<'_>,
 ) -> Option<()>
     requires turns { spec.AreTurns (fields_view fields.now) turns.now }
@@ -101,7 +113,7 @@ fn read_members(
 {
     let mut later = false;
     for turn in turns {
-        let more = read_turn(alloc, fields, inside, turn, later, places, rest)?;
+        let more = read_turn(fields, inside, turn, later, places, spare, rest)?;
         later = more;
     }
     if rest.pass(b'}') { Some(()) } else { None }
@@ -110,12 +122,12 @@ fn read_members(
 // Reads the member of a turn, if it comes next, and answers whether a comma is wanted behind it.
 #[cycle(read)]
 fn read_turn(
-    alloc: Global,
     fields: &[Field],
     inside: &[Order],
     turn: &Turn,
     later: bool,
     places: &mut Vec<Option<Value>>,
+    spare: &mut Spare,
     rest: &mut Rest<'_>,
 ) -> Option<bool>
     requires keyed { spec.HasKey (spec.field_at (fields_view fields.now) turn.now.field) turn.now.key }
@@ -128,7 +140,13 @@ fn read_turn(
     ensures count { IfSome result (λ more. length places.new.items ≡ length places.old.items) }
 {
     if rest.pass_key(later, turn.key.items()) {
-        let value = read_field(alloc, &fields[turn.field], &inside[turn.field], rest)?;
+        let field = &fields[turn.field];
+        if is_integer(field) {
+            let number = read_integer(rest)?;
+            places[turn.place] = Some(number);
+            return Some(true);
+        }
+        let value = read_field(field, &inside[turn.field], spare, rest)?;
         places[turn.place] = Some(value);
         Some(true)
     } else {
@@ -153,23 +171,42 @@ fn leaf_of(node: &Node) -> Option<&NumLeaf>
     }
 }
 
+// Whether a component is an INTEGER.
+#[inline]
+fn is_integer(field: &Field) -> bool
+    ensures { IsTrue result → (d : Data) (old new : List ℕ) → ((items : List (List ℕ × ℤ)) → IsNumberRead kind.Integer items d old new) → filled.IsFieldRead (field_of field.now) d old new }
+{
+    match field {
+        Field::Component { node, .. } => match leaf_of(node) {
+            Some(leaf) => match leaf.kind {
+                NumKind::Integer => true,
+                NumKind::Boolean => false,
+                NumKind::Enumerated => false,
+                NumKind::Null => false,
+            },
+            None => false,
+        },
+        Field::Inserted { .. } => false,
+    }
+}
+
 // Reads the value of a component. A number is read here, without a turn of the cycle.
 #[cycle(read)]
-fn read_field(alloc: Global, field: &Field, order: &Order, rest: &mut Rest<'_>) -> Option<Value>
+fn read_field(field: &Field, order: &Order, spare: &mut Spare, rest: &mut Rest<'_>) -> Option<Value>
     requires { spec.IsFieldOrder (field_of field.now) order.now }
     ensures { IfSome result (λ v. filled.IsFieldRead (field_of field.now) (data_of v) rest.old.text.now rest.new.text.now) }
 {
     match field {
         Field::Component { node, .. } => match leaf_of(node) {
             Some(leaf) => read_number(leaf, order.names.items(), rest),
-            None => read_node(alloc, node, order, rest),
+            None => read_node(node, order, spare, rest),
         },
         Field::Inserted { .. } => None,
     }
 }
 
 #[cycle(read)]
-fn read_list(alloc: Global, element: &Node, order: &Order, rest: &mut Rest<'_>) -> Option<Value>
+fn read_list(element: &Node, order: &Order, spare: &mut Spare, rest: &mut Rest<'_>) -> Option<Value>
     requires { spec.IsNodeOrder (grammar_of element.now) order.now }
     ensures { IfSome result (λ v. (align : ℕ) (sizing : Sizing) → IsRead (grammar.node align (grammar.list sizing (grammar_of element.now))) (data_of v) rest.old.text.now rest.new.text.now) }
 {
@@ -177,27 +214,27 @@ fn read_list(alloc: Global, element: &Node, order: &Order, rest: &mut Rest<'_>) 
         return None;
     }
     if rest.pass(b']') {
-        return Some(Value::List(Row::new(alloc)));
+        return Some(Value::List(Row::new(spare.alloc)));
     }
-    let elements = read_elements(alloc, element, order, rest)?;
+    let elements = read_elements(element, order, spare, rest)?;
     Some(Value::List(elements))
 }
 
 // Reads elements, of which there is one at least, and the bracket behind them.
 #[cycle(read)]
 fn read_elements(
-    alloc: Global,
     element: &Node,
     order: &Order,
+    spare: &mut Spare,
     rest: &mut Rest<'_>,
 ) -> Option<Row<Value>>
     requires { spec.IsNodeOrder (grammar_of element.now) order.now }
     ensures { IfSome result (λ vs. filled.AreRead (grammar_of element.now) (elements_view vs) rest.old.text.now rest.new.text.now) }
 {
-    let mut elements = Row::new(alloc);
+    let mut elements = spare.list();
     // each element has an octet
     for _ in 0..rest.text.len() {
-        let value = read_node(alloc, element, order, rest)?;
+        let value = read_node(element, order, spare, rest)?;
         if elements.push(value).is_err() {
             return None;
         }
@@ -213,10 +250,10 @@ fn read_elements(
 
 #[cycle(read)]
 fn read_alternative(
-    alloc: Global,
     alternatives: &[Alternative],
     inside: &[Order],
     names: &[u32],
+    spare: &mut Spare,
     rest: &mut Rest<'_>,
 ) -> Option<Value>
     requires { spec.AreAlternativeOrders (alternatives_view alternatives.now) inside.now }
@@ -230,11 +267,11 @@ fn read_alternative(
     if !rest.pass(b':') {
         return None;
     }
-    let value = read_node(alloc, &alternatives[at].node, &inside[at], rest)?;
+    let value = read_node(&alternatives[at].node, &inside[at], spare, rest)?;
     if !rest.pass(b'}') {
         return None;
     }
-    alternative_of(alloc, at, value)
+    alternative_of(spare.alloc, at, value)
 }
 
 fn has_to_come(field: Option<&Field>) -> bool {

@@ -67,7 +67,7 @@ fn take_record(
     ensures { IfSome result (λ v. (align : ℕ) (home : List ℕ) → taken.IsTaken (grammar.node align (grammar.seq (fields_view fields.now) home)) (data_of v) reader.old reader.new) }
 {
     open_object(reader)?;
-    let Ok(mut places) = no_values(alloc, fields) else {
+    let Ok(mut places) = no_values(Vec::new(alloc), fields) else {
         return None;
     };
     take_members(

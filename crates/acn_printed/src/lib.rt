@@ -8,7 +8,7 @@ mod text_names;
 mod texts;
 
 pub use names::{HasName, in_order_of_names, number_by_halves};
-pub use numbers::read_number;
+pub use numbers::{read_integer, read_number};
 pub use rest::{Rest, behind};
 pub use text_names::has_text_names;
 pub use texts::{read_bits, read_characters, read_octets};

@@ -18,6 +18,7 @@ use acn_num::Name;
 const MOST_BEFORE_A_DIGIT: u64 = 100_000_000_000_000_000;
 
 // A whole number without a sign, and what stands behind its digits. Of a number with more than 18 digits the front is read.
+#[inline(always)]
 fn digits(text: &[u8]) -> Option<(u64, &[u8])>
     ensures read { IfSome result (λ read. text.now ≡ decimal read.0 ++ read.1.now) }
     ensures few { IfSome result (λ read. read.0 < 1000000000000000000) }
@@ -46,6 +47,7 @@ fn digits(text: &[u8]) -> Option<(u64, &[u8])>
 }
 
 // A whole number from 0.
+#[inline(always)]
 fn read_natural(rest: &mut Rest<'_>) -> Option<i128>
     ensures text { IfSome result (λ x. rest.old.text.now ≡ signed_decimal x ++ rest.new.text.now) }
     ensures said { IfSome result (λ x. IsTrue (is_number x)) }
@@ -56,6 +58,7 @@ fn read_natural(rest: &mut Rest<'_>) -> Option<i128>
 }
 
 // A whole number below 0, behind its sign.
+#[inline(always)]
 fn read_negative(rest: &mut Rest<'_>) -> Option<i128>
     ensures text { IfSome result (λ x. 45 ∷ rest.old.text.now ≡ signed_decimal x ++ rest.new.text.now) }
     ensures said { IfSome result (λ x. IsTrue (is_number x)) }
@@ -68,6 +71,7 @@ fn read_negative(rest: &mut Rest<'_>) -> Option<i128>
     Some(-i128::from(size))
 }
 
+#[inline(always)]
 fn read_whole(rest: &mut Rest<'_>) -> Option<i128>
     ensures text { IfSome result (λ x. rest.old.text.now ≡ signed_decimal x ++ rest.new.text.now) }
     ensures said { IfSome result (λ x. IsTrue (is_number x)) }
@@ -79,7 +83,9 @@ fn read_whole(rest: &mut Rest<'_>) -> Option<i128>
     }
 }
 
-fn read_integer(rest: &mut Rest<'_>) -> Option<Value>
+/// Reads the value of an INTEGER, if it comes next.
+#[inline(always)]
+pub fn read_integer(rest: &mut Rest<'_>) -> Option<Value>
     ensures { (items : List (List ℕ × ℤ)) → IfSome result (λ v. IsNumberRead kind.Integer items (data_of v) rest.old.text.now rest.new.text.now) }
 {
     let x = read_whole(rest)?;

@@ -53,15 +53,28 @@ fn octet_of(high: u8, low: u8) -> Option<u8>
     Some(16 * first + second)
 }
 
-// The octets of hexadecimal digits.
-fn octets_of(alloc: Global, digits: &[u8]) -> Option<Row<u8>>
+// These octets in a room, whatever stands in it.
+#[inline]
+fn filled(room: Vec<u8>, octets: &[u8]) -> Option<Vec<u8>>
+    ensures { IfSome result (λ all. all.items ≡ octets.now) }
+{
+    let mut all = room;
+    all.clear();
+    match all.extend_from_slice(octets) {
+        Ok(()) => Some(all),
+        Err(_) => None,
+    }
+}
+
+// The octets of hexadecimal digits, in a room whatever stands in it.
+fn octets_of(room: Vec<u8>, digits: &[u8]) -> Option<Row<u8>>
     ensures { IfSome result (λ octets. escape (encode_lower octets) ≡ digits.now) }
 {
     let count = digits.len() / 2;
     if 2 * count != digits.len() {
         return None;
     }
-    let mut octets = vec![in alloc; 0; count].ok()?;
+    let mut octets = filled(room, &digits[..count])?;
     let mut at = 0;
     while at < count {
         octets[at] = octet_of(digits[2 * at], digits[2 * at + 1])?;
@@ -77,13 +90,13 @@ fn bytes_are_octets(bytes: &[u8])
     let _bytes = bytes;
 }
 
-/// Reads an octet string, if one comes next.
-pub fn read_octets(alloc: Global, rest: &mut Rest<'_>) -> Option<Row<u8>>
+/// Reads an octet string, if one comes next, into a room whatever stands in it.
+pub fn read_octets(room: Vec<u8>, rest: &mut Rest<'_>) -> Option<Row<u8>>
     ensures text { IfSome result (λ octets. rest.old.text.now ≡ quoted (encode_lower octets) ++ rest.new.text.now) }
     ensures octets { IfSome result (λ octets. are_octets octets ≡ true) }
 {
     let digits = rest.string()?;
-    let octets = octets_of(alloc, digits)?;
+    let octets = octets_of(room, digits)?;
     bytes_are_octets(octets.items());
     Some(octets)
 }
@@ -128,8 +141,9 @@ fn are_plain_characters(text: &[u8]) -> bool
         .all(|c| *c < 128 && (31 < *c && (*c != b'"' && *c != b'\\')))
 }
 
-/// Reads a text, if one comes next whose characters stand for themselves.
-pub fn read_characters(alloc: Global, rest: &mut Rest<'_>) -> Option<Row<u8>>
+/// Reads a text, if one comes next whose characters stand for themselves, into a room whatever
+/// stands in it.
+pub fn read_characters(room: Vec<u8>, rest: &mut Rest<'_>) -> Option<Row<u8>>
     ensures text { IfSome result (λ cs. rest.old.text.now ≡ quoted cs ++ rest.new.text.now) }
     ensures octets { IfSome result (λ cs. are_octets cs ≡ true) }
     ensures said { IfSome result (λ cs. IsTrue (list_all (λ c. nat_lt c 128) cs)) }
@@ -139,6 +153,6 @@ pub fn read_characters(alloc: Global, rest: &mut Rest<'_>) -> Option<Row<u8>>
         return None;
     }
     bytes_are_octets(text);
-    let characters = Vec::from_slice(alloc, text).ok()?;
+    let characters = filled(room, text)?;
     Some(Row::from_vec(characters))
 }

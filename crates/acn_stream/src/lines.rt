@@ -166,7 +166,11 @@ pub fn put_line(alloc: Global, by: &Encoder<'_>, line: &[u8], space: &mut Worksp
         .order
         .seen(alloc, by.checked.tree(), &mut space.room, line)
     {
-        Some(value) => put_value(by.plan, &value, space),
+        Some(value) => {
+            let answer = put_value(by.plan, &value, space);
+            space.room.keep(value);
+            answer
+        }
         None => put_unseen(alloc, by, line, space),
     }
 }

@@ -111,6 +111,28 @@ read_turn-index_mut-requires t c =
     let count = c.requires.count in
     grind (arith, common_steps)
 
+pub read_turn-index_mut-requires-then-pass_key : goal.read_turn-index_mut-requires-then-pass_key
+read_turn-index_mut-requires-then-pass_key t c =
+    let there = keyed-within (fields_view c.args.fields.now) c.args.turn.now.field c.args.turn.now.key c.requires.keyed in
+    let placed = c.requires.placed in
+    let count = c.requires.count in
+    grind (arith, common_steps)
+
+pub read_turn-returns-then-is_integer-clause-read : goal.read_turn-returns-then-is_integer-clause-read
+read_turn-returns-then-is_integer-clause-read t c =
+    let fs = c.args.fields.now in
+    let turn = c.args.turn.now in
+    let v = c.in_ok-number.number in
+    let within = field-within fs turn.field turn.key c.requires.keyed in
+    let there = keyed-within (fields_view fs) turn.field turn.key c.requires.keyed in
+    let placed = c.requires.placed in
+    let count = c.requires.count in
+    let room : turn.place < length c.args.places.now.items = omega (arith, there, placed, count) in
+    let keys = c.pass_key.ensures.passed c.if-pass_key.true ∙ ap (λ k. comma_if c.args.later ++ (k ++ c.pass_key.new.self.text.now)) c.items.ensures in
+    let read = c.is_integer.ensures c.if-is_integer.true (data_of v) c.pass_key.new.self.text.now c.read_integer.new.rest.text.now c.in_ok-number.ensures in
+    turn-read (fields_view fs) turn (field_of c.index-fields-turn.result) v c.args.later c.args.places.now.items _ _ _ _
+    (field-here fs turn.field c.index-fields-turn.result within c.index-fields-turn.is) c.requires.keyed placed room refl keys read c.requires.filled
+
 pub read_turn-returns-in_ok-value-clause-read : goal.read_turn-returns-in_ok-value-clause-read
 read_turn-returns-in_ok-value-clause-read t c =
     let fs = c.args.fields.now in
@@ -135,7 +157,7 @@ read_field-returns-in-Some t c =
 -- Lists.
 
 pub read_elements-loop-init : goal.read_elements-loop-init
-read_elements-loop-init t c = elements_begin (grammar_of c.args.element.now) _ _ c.new-elements.ensures
+read_elements-loop-init t c = elements_begin (grammar_of c.args.element.now) _ _ c.list-elements.ensures
 
 pub read_elements-loop-preserved : goal.read_elements-loop-preserved
 read_elements-loop-preserved t c =

@@ -7,7 +7,7 @@ pub loop-at-init : goal.loop-at-init
 loop-at-init c = record {
   long = grind (arith, common_steps);
   within = omega arith;
-  same = no-digits c.args.digits.now c.in_ok-octets.octets.items;
+  same = no-digits c.args.digits.now c.args.digits.now;
 }
 
 pub loop-at-preserved : goal.loop-at-preserved
