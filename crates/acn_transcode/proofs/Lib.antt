@@ -1,10 +1,13 @@
 mod BinaryTexts
 mod DigitPairs
 mod DigitTexts
+mod Gaps
 mod HexTexts
 mod Keeping
 mod LaidTexts
 mod LetterTexts
 mod NumberTexts
+mod SevenTexts
+mod ShortTexts
 mod SizesRead
 mod Walks

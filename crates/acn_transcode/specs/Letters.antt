@@ -15,6 +15,13 @@ pub record AreLetters (letters : Letters) (leaf : TextLeaf) : Type 0 where
   pub near : letters.ahead ≤ 127
   pub each : (c n : ℕ) → letters.low ≤ c → c ≤ letters.high → c ≡ n + letters.ahead → IsCharacter leaf c n
 
+-- the characters of seven bits, each under its own number
+pub record AreSevens (letters : Letters) (leaf : TextLeaf) : Type 0 where
+  pub width : leaf.width ≡ 7
+  pub low : letters.low ≡ 0
+  pub high : letters.high ≡ 127
+  pub ahead : letters.ahead ≡ 0
+
 -- these bits spell so many characters
 pub record AreCharacters (leaf : TextLeaf) (n : ℕ) (cs : List ℕ) (bs : List Bool) : Type 0 where
   pub size : length cs ≡ n

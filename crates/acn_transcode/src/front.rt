@@ -17,13 +17,13 @@ ghost use Rattle.acn_reads.specs.declared.answers.TheConstants.{MOST_BYTES};
 
 use crate::draft::Draft;
 use crate::members::put_members;
+use crate::paddings::pad;
 use crate::walk::{lay_sequence, put_body};
 use acn_bits::ReadCursor;
 use acn_grammar::{Body, Node, Seq};
 use acn_json::{put, put_octet};
 use acn_lines::Order;
 use acn_packet_laws::accepted_is_sound;
-use acn_reads::pad;
 
 // Puts the object that a packet is. Its members go to the text as they are put in their turn.
 #[tactic(auto, using(crate::proofs::Keeping::kept_same))]

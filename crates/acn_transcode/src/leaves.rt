@@ -1,6 +1,8 @@
 //! Number leaves.
 
-ghost use Rattle.std.specs.Prelude.{◌≡◌, ◌++◌, ◌+◌, ◌^◌, ◌<◌, ◌≤◌, ◌≤ℤ◌, ◌<ℤ◌, ℤ, pos, nat_abs, true, IsTrue, IfSome, OnOk, OnErr};
+ghost use Rattle.std.specs.Prelude.{◌≡◌, ◌++◌, ◌+◌, ◌^◌, ◌<◌, ◌≤◌, ◌≤ℤ◌, ◌<ℤ◌, ℤ, pos, nat_abs, take, true, IsTrue, IfSome, OnOk, OnErr};
+ghost use Rattle.json.specs.Token as token;
+ghost use Rattle.json.specs.Print.{token_text};
 ghost use Rattle.std.specs.Ordering.{int_eq};
 ghost use Rattle.std.specs.Fmt.{decimal, signed_decimal};
 ghost use Rattle.serde_json.specs.Written.{compact_text};
@@ -17,8 +19,10 @@ ghost use Rattle.acn_json.specs.Lines.{num_json};
 ghost use Rattle.acn_lines.specs.Order.{IsLeafOrder};
 ghost use Rattle.acn_reads.specs.Steps.{noted_by};
 ghost use Rattle.acn_transcode.specs.Puts.{Puts};
+ghost use Rattle.acn_transcode.specs.Short.{IsShort};
 
 use crate::draft::Draft;
+use crate::short::Short;
 use acn_bits::ReadCursor;
 use acn_cut::{Cut, read_cut};
 use acn_grammar::{NumKind, NumLeaf};
@@ -61,88 +65,153 @@ fn digit_of(x: u64) -> u8
     b'0' + x as u8
 }
 
+// The text of a number of one digit.
 #[inline(always)]
-fn put_two_digits(x: u64, text: &mut Vec<u8>) -> Result<(), NoMemory>
-    requires least { 10 ≤ x }
-    requires most { x < 100 }
-    ensures added { OnOk result (text.new.items ≡ text.old.items ++ decimal x) }
-    ensures kept { OnErr result (Kept text.old.items text.new.items) }
-{
-    put(&[digit_of(x / 10), digit_of(x % 10)], text)
-}
-
-#[inline(always)]
-fn put_three_digits(x: u64, text: &mut Vec<u8>) -> Result<(), NoMemory>
-    requires least { 100 ≤ x }
-    requires most { x < 1000 }
-    ensures added { OnOk result (text.new.items ≡ text.old.items ++ decimal x) }
-    ensures kept { OnErr result (Kept text.old.items text.new.items) }
-{
-    put(
-        &[digit_of(x / 100), digit_of(x / 10 % 10), digit_of(x % 10)],
-        text,
-    )
-}
-
-#[inline(always)]
-fn put_four_digits(x: u64, text: &mut Vec<u8>) -> Result<(), NoMemory>
-    requires least { 1000 ≤ x }
-    requires most { x < 10000 }
-    ensures added { OnOk result (text.new.items ≡ text.old.items ++ decimal x) }
-    ensures kept { OnErr result (Kept text.old.items text.new.items) }
-{
-    put(
-        &[
-            digit_of(x / 1_000),
-            digit_of(x / 100 % 10),
-            digit_of(x / 10 % 10),
-            digit_of(x % 10),
-        ],
-        text,
-    )
-}
-
-#[inline(always)]
-fn put_one_digit(x: u64, text: &mut Vec<u8>) -> Result<(), NoMemory>
+fn one_digit(x: u64) -> Short
     requires { x < 10 }
-    ensures added { OnOk result (text.new.items ≡ text.old.items ++ decimal x) }
-    ensures kept { OnErr result (Kept text.old.items text.new.items) }
+    ensures { IsShort result (decimal x) }
 {
-    put_octet(digit_of(x), text)
-}
-
-// Puts a natural number. Those of few digits are put without a loop.
-#[inline(always)]
-fn put_natural(x: u64, text: &mut Vec<u8>) -> Result<(), NoMemory>
-    ensures added { OnOk result (text.new.items ≡ text.old.items ++ decimal x) }
-    ensures kept { OnErr result (Kept text.old.items text.new.items) }
-{
-    if x < 10 {
-        put_one_digit(x, text)
-    } else if x < 100 {
-        put_two_digits(x, text)
-    } else if x < 1_000 {
-        put_three_digits(x, text)
-    } else if x < 10_000 {
-        put_four_digits(x, text)
-    } else {
-        let mut buffer = Buffer::new();
-        put(buffer.format(x).as_bytes(), text)
+    Short {
+        octets: [digit_of(x), 0, 0, 0, 0, 0, 0, 0],
+        count: 1,
     }
 }
 
-// Puts a whole number. Most are natural numbers of 64 bits.
+// The text of a number of two digits.
+#[inline(always)]
+fn two_digits(x: u64) -> Short
+    requires least { 10 ≤ x }
+    requires most { x < 100 }
+    ensures { IsShort result (decimal x) }
+{
+    Short {
+        octets: [digit_of(x / 10), digit_of(x % 10), 0, 0, 0, 0, 0, 0],
+        count: 2,
+    }
+}
+
+// The text of a number of three digits.
+#[inline(always)]
+fn three_digits(x: u64) -> Short
+    requires least { 100 ≤ x }
+    requires most { x < 1000 }
+    ensures { IsShort result (decimal x) }
+{
+    let hundreds = digit_of(x / 100);
+    let tens = digit_of(x / 10 % 10);
+    let ones = digit_of(x % 10);
+    Short {
+        octets: [hundreds, tens, ones, 0, 0, 0, 0, 0],
+        count: 3,
+    }
+}
+
+// The text of a number of four digits.
+#[inline(always)]
+fn four_digits(x: u64) -> Short
+    requires least { 1000 ≤ x }
+    requires most { x < 10000 }
+    ensures { IsShort result (decimal x) }
+{
+    let thousands = digit_of(x / 1_000);
+    let hundreds = digit_of(x / 100 % 10);
+    let tens = digit_of(x / 10 % 10);
+    let ones = digit_of(x % 10);
+    Short {
+        octets: [thousands, hundreds, tens, ones, 0, 0, 0, 0],
+        count: 4,
+    }
+}
+
+// The text of a natural number of at most four digits.
+#[inline(always)]
+fn few_digits(x: u64) -> Short
+    requires { x < 10000 }
+    ensures { IsShort result (decimal x) }
+{
+    if x < 10 {
+        one_digit(x)
+    } else if x < 100 {
+        two_digits(x)
+    } else if x < 1_000 {
+        three_digits(x)
+    } else {
+        four_digits(x)
+    }
+}
+
+// The text of a number that has at most four digits and no sign.
+#[inline(always)]
+fn short_number(x: &i128) -> Option<Short>
+    ensures { IfSome result (λ short. IsShort short (signed_decimal x.now)) }
+{
+    match u64::try_from(*x) {
+        Ok(natural) => {
+            if natural < 10_000 {
+                Some(few_digits(natural))
+            } else {
+                None
+            }
+        }
+        Err(_) => None,
+    }
+}
+
+// The text of a BOOLEAN.
+#[inline(always)]
+fn short_truth(truth: bool) -> Short
+    ensures { IsShort result (token_text (token.boolean truth)) }
+{
+    if truth {
+        Short {
+            octets: *b"true\0\0\0\0",
+            count: 4,
+        }
+    } else {
+        Short {
+            octets: *b"false\0\0\0",
+            count: 5,
+        }
+    }
+}
+
+// The text of the value of a leaf's number, where it is short for sure.
+#[inline(always)]
+fn short_value(leaf: &NumLeaf, x: &i128) -> Option<Short>
+    requires fine { IsTrue (num_fine leaf.now) }
+    requires permitted { In leaf.now.set x.now }
+    ensures { IfSome result (λ short. (d : Data) × NumberOf leaf.now.kind d x.now × IsShort short (compact_text (num_json leaf.now.kind leaf.now.items.items d))) }
+{
+    match leaf.kind {
+        NumKind::Integer => short_number(x),
+        NumKind::Boolean => Some(short_truth(is_one(x))),
+        NumKind::Enumerated => None,
+        NumKind::Null => Some(Short {
+            octets: *b"null\0\0\0\0",
+            count: 4,
+        }),
+    }
+}
+
+// Puts a short text: all its octets at once, of which those that aren't meant are taken back.
+#[inline(always)]
+fn put_short(short: &Short, text: &mut Vec<u8>) -> Result<(), NoMemory>
+    requires few { short.now.count ≤ 8 }
+    ensures added { OnOk result (text.new.items ≡ text.old.items ++ take short.now.count short.now.octets) }
+    ensures kept { OnErr result (Kept text.old.items text.new.items) }
+{
+    put(&short.octets, text)?;
+    text.truncate(text.len() - (8 - short.count));
+    Ok(())
+}
+
+// Puts a whole number.
 fn put_number(x: &i128, text: &mut Vec<u8>) -> Result<(), NoMemory>
     ensures added { OnOk result (text.new.items ≡ text.old.items ++ signed_decimal x.now) }
     ensures kept { OnErr result (Kept text.old.items text.new.items) }
 {
-    match u64::try_from(*x) {
-        Ok(natural) => put_natural(natural, text),
-        Err(_) => {
-            let mut buffer = Buffer::new();
-            put(buffer.format(*x).as_bytes(), text)
-        }
-    }
+    let mut buffer = Buffer::new();
+    put(buffer.format(*x).as_bytes(), text)
 }
 
 // A small number, which isn't below zero.
@@ -161,8 +230,9 @@ fn is_one(x: &i128) -> bool
     *x == 1
 }
 
-/// Puts the value of a leaf's number.
-pub fn put_value(leaf: &NumLeaf, x: &i128, text: &mut Vec<u8>) -> Result<(), NoMemory>
+// Puts the value of a leaf's number, whose text may have any length.
+#[inline(never)]
+fn put_any_value(leaf: &NumLeaf, x: &i128, text: &mut Vec<u8>) -> Result<(), NoMemory>
     requires fine { IsTrue (num_fine leaf.now) }
     requires named { FormItemsNamed (num leaf.now) }
     requires permitted { In leaf.now.set x.now }
@@ -180,6 +250,21 @@ pub fn put_value(leaf: &NumLeaf, x: &i128, text: &mut Vec<u8>) -> Result<(), NoM
         }
         NumKind::Enumerated => { put_quoted(item_name(leaf.items.items.items(), natural(x)), text) }
         NumKind::Null => put_null(text),
+    }
+}
+
+/// Puts the value of a leaf's number.
+#[inline(always)]
+pub fn put_value(leaf: &NumLeaf, x: &i128, text: &mut Vec<u8>) -> Result<(), NoMemory>
+    requires fine { IsTrue (num_fine leaf.now) }
+    requires named { FormItemsNamed (num leaf.now) }
+    requires permitted { In leaf.now.set x.now }
+    ensures added { OnOk result ((d : Data) × NumberOf leaf.now.kind d x.now × (text.new.items ≡ text.old.items ++ compact_text (num_json leaf.now.kind leaf.now.items.items d))) }
+    ensures kept { OnErr result (Kept text.old.items text.new.items) }
+{
+    match short_value(leaf, x) {
+        Some(short) => put_short(&short, text),
+        None => put_any_value(leaf, x, text),
     }
 }
 

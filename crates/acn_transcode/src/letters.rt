@@ -9,6 +9,7 @@ ghost use Rattle.acn_num.specs.declared.limits.TheConstants.{MOST_SIZE};
 ghost use Rattle.acn_transcode.specs.Letters.{AreLetters, AreCharacters, PutsCharacters};
 ghost use Rattle.acn_transcode.specs.declared.letters.TheConstants.{IN_WORD};
 
+use crate::sevens::{are_sevens, put_sevens};
 use crate::words::take_word;
 use acn_bits::ReadCursor;
 use acn_grammar::TextLeaf;
@@ -19,7 +20,7 @@ use acn_num::NoMemory;
 pub const IN_WORD: u64 = 8;
 
 /// The greatest character of an IA5String.
-const GREATEST: u64 = 127;
+pub const GREATEST: u64 = 127;
 
 /// The characters of an alphabet of one range: the least and the greatest, and how far each is
 /// ahead of its number.
@@ -155,9 +156,9 @@ fn part(word: u64, left: u64, width: u32) -> u64
     (word >> left) % (1u64 << width)
 }
 
-// Puts the characters whose numbers a word spells.
+/// Puts the characters whose numbers a word spells.
 #[inline(always)]
-fn put_parts(word: u64, leaf: &TextLeaf, letters: &Letters, n: u64, text: &mut Vec<u8>) -> bool
+pub fn put_parts(word: u64, leaf: &TextLeaf, letters: &Letters, n: u64, text: &mut Vec<u8>) -> bool
     requires letters { AreLetters letters.now leaf.now }
     requires few { n ≤ IN_WORD }
     ensures { result ≡ true → (bs : List Bool) → length bs ≡ leaf.now.width * n → word ≡ number bs → (cs : List ℕ) × AreCharacters leaf.now n cs bs × (text.new.items ≡ text.old.items ++ escape cs) }
@@ -172,9 +173,9 @@ fn put_parts(word: u64, leaf: &TextLeaf, letters: &Letters, n: u64, text: &mut V
     true
 }
 
-// Puts the next characters, at most as many as a word has.
+/// Puts the next characters, at most as many as a word has.
 #[inline(always)]
-fn put_some(
+pub fn put_some(
     cur: &mut ReadCursor<'_>,
     leaf: &TextLeaf,
     letters: &Letters,
@@ -212,8 +213,8 @@ fn put_full(
     true
 }
 
-// Puts so many characters, which are there.
-fn put_letters(
+// Puts so many characters, which are there, word by word.
+fn put_any_letters(
     cur: &mut ReadCursor<'_>,
     leaf: &TextLeaf,
     letters: &Letters,
@@ -228,6 +229,25 @@ fn put_letters(
         return false;
     }
     put_some(cur, leaf, letters, n % IN_WORD, text)
+}
+
+// Puts so many characters, which are there.
+fn put_letters(
+    cur: &mut ReadCursor<'_>,
+    leaf: &TextLeaf,
+    letters: &Letters,
+    n: u64,
+    text: &mut Vec<u8>,
+) -> bool
+    requires letters { AreLetters letters.now leaf.now }
+    requires there { leaf.now.width * n ≤ length cur.old.rest }
+    ensures { result ≡ true → PutsCharacters leaf.now n text.old.items text.new.items cur.old cur.new }
+{
+    if are_sevens(leaf, letters) {
+        put_sevens(cur, leaf, letters, n, text)
+    } else {
+        put_any_letters(cur, leaf, letters, n, text)
+    }
 }
 
 /// Puts the string of so many characters, which are passed.

@@ -22,6 +22,7 @@ ghost use Rattle.acn_transcode.specs.Puts.{Puts, Lays};
 use crate::draft::{Draft, Part, Span};
 use crate::leaves::{note, note_number, number, put_leaf};
 use crate::members::put_members;
+use crate::paddings::pad;
 use crate::sizes::size;
 use crate::slots::forget;
 use crate::strings::{put_bits, put_octets, put_text};
@@ -29,7 +30,7 @@ use acn_bits::ReadCursor;
 use acn_grammar::{Alternative, Body, Choice, Field, Node, Pattern, Presence, Seq, Sizing};
 use acn_json::{put_comma, put_key, put_octet};
 use acn_lines::Order;
-use acn_reads::{count_of, is_ended, is_there, most_of, pad, pass_end, pattern_of, pick, stands};
+use acn_reads::{count_of, is_ended, is_there, most_of, pass_end, pattern_of, pick, stands};
 use std::mem::swap;
 
 // Puts the value of a node, which is passed.

@@ -3,7 +3,7 @@ use Rattle.std.proofs.lemmas.Result.{on_ok_weaker}
 use Rattle.json.specs.Print.{quoted}
 use Rattle.acn_json.specs.Lines.{item_name}
 use Rattle.acn_transcode.proofs.NumberTexts.{integer_said, truth_said, item_small, item_said, null_said}
-use Rattle.acn_transcode.proofs.leaves.put_value.Goals as goal
+use Rattle.acn_transcode.proofs.leaves.put_any_value.Goals as goal
 
 pub returns-in-Integer-clause-added : goal.returns-in-Integer-clause-added
 returns-in-Integer-clause-added c = on_ok_weaker c.put_number.result (λ e. integer_said c.args.leaf.now c.args.x.now _ _ c.in-Integer.is e) c.put_number.ensures.added

@@ -1,6 +1,6 @@
 use Rattle.std.proofs.Common.{◌*◌, ◌/◌, ◌%◌, arith}
 use Rattle.acn_transcode.proofs.LetterTexts.{more_letters, letters_left}
-use Rattle.acn_transcode.proofs.letters.put_letters.Goals as goal
+use Rattle.acn_transcode.proofs.letters.put_any_letters.Goals as goal
 
 pub put_some-requires-clause-there : goal.put_some-requires-clause-there
 put_some-requires-clause-there c =
