@@ -9,7 +9,7 @@ use acn_num::{MOST_FILE_BYTES, NoMemory};
 use std::alloc::{AllocError, Global};
 
 // So many bytes are read at once.
-const PIECE: usize = 65_536;
+const PIECE: usize = 16_384;
 
 /// Why a file wasn't read whole.
 #[derive(Clone, Copy)]

@@ -2,13 +2,13 @@
 //!
 //! The names of two blocks at a time are listed on the stack and sorted there, which takes no memory: the same ones are
 //! neighbours then. Each pair of blocks is looked at.
-ghost use Rattle.std.specs.Prelude.{◌≡◌, ◌≤◌, ◌++◌, ◌&&◌, length, map};
+ghost use Rattle.std.specs.Prelude.{◌≡◌, ◌≤◌, ◌+◌, ◌++◌, ◌&&◌, length, map};
 ghost use Rattle.acn_grammar.specs.Asks.{same_name};
 ghost use Rattle.acn_grammar.specs.Leaves.{all_differ};
 ghost use Rattle.acn_grammar.specs.Tree as tree;
 ghost use Rattle.acn_grammar.specs.View.{field_of, fields_view, alternatives_view};
 ghost use Rattle.acn_grammar.specs.Walk.{conditions_of};
-ghost use Rattle.acn_well_formed.specs.declared.names.TheConstants.{BLOCK};
+ghost use Rattle.acn_well_formed.specs.declared.names.TheConstants.{BLOCK, TWO_BLOCKS};
 ghost use Rattle.acn_well_formed.specs.Kept as kept;
 
 use acn_grammar::{Alternative, Field};
@@ -21,6 +21,9 @@ const BLOCK: usize = 1024;
 /// The names of two blocks are sorted at once: their list takes 32 KiB of the stack.
 const TWO_BLOCKS: usize = 2048;
 
+/// So few names are sorted in a list of their own, which takes 512 octets of the stack.
+const FEW: usize = 32;
+
 fn field_name(field: &Field) -> &[u8]
     ensures { result.now ≡ kept.name_in (field_of field.now) }
 {
@@ -30,14 +33,15 @@ fn field_name(field: &Field) -> &[u8]
     }
 }
 
-// Whether no two fields of both lists together have one name, by their order.
+// Whether no two fields of both lists together, of which there are `MOST` at most, have one name, by
+// their order.
 #[inline(never)]
-fn both_fields_differ<'a>(front: &'a [Field], behind: &'a [Field]) -> bool
-    requires front { length front.now ≤ BLOCK }
-    requires behind { length behind.now ≤ BLOCK }
+fn listed_fields_differ<'a, const MOST: usize>(front: &'a [Field], behind: &'a [Field]) -> bool
+    requires room { length front.now + length behind.now ≤ MOST }
+    requires most { MOST ≤ TWO_BLOCKS }
     ensures { result ≡ all_differ same_name (tree.field_names (fields_view front.now) ++ tree.field_names (fields_view behind.now)) }
 {
-    let mut names: ArrayVec<&[u8], TWO_BLOCKS> = ArrayVec::new();
+    let mut names: ArrayVec<&[u8], MOST> = ArrayVec::new();
     for field in front {
         names.push(field_name(field));
     }
@@ -45,6 +49,19 @@ fn both_fields_differ<'a>(front: &'a [Field], behind: &'a [Field]) -> bool
         names.push(field_name(field));
     }
     names_differ(names.as_mut_slice())
+}
+
+// Whether no two fields of both lists together have one name.
+fn both_fields_differ(front: &[Field], behind: &[Field]) -> bool
+    requires front { length front.now ≤ BLOCK }
+    requires behind { length behind.now ≤ BLOCK }
+    ensures { result ≡ all_differ same_name (tree.field_names (fields_view front.now) ++ tree.field_names (fields_view behind.now)) }
+{
+    if front.len() + behind.len() <= FEW {
+        listed_fields_differ::<FEW>(front, behind)
+    } else {
+        listed_fields_differ::<TWO_BLOCKS>(front, behind)
+    }
 }
 
 // Whether the names of a block of fields differ from each other and from those behind it.
@@ -81,14 +98,18 @@ pub fn field_names_differ(fields: &[Field]) -> bool
     true
 }
 
-// Whether no two alternatives of both lists together have one name, by their order.
+// Whether no two alternatives of both lists together, of which there are `MOST` at most, have one
+// name, by their order.
 #[inline(never)]
-fn both_alternatives_differ<'a>(front: &'a [Alternative], behind: &'a [Alternative]) -> bool
-    requires front { length front.now ≤ BLOCK }
-    requires behind { length behind.now ≤ BLOCK }
+fn listed_alternatives_differ<'a, const MOST: usize>(
+    front: &'a [Alternative],
+    behind: &'a [Alternative],
+) -> bool
+    requires room { length front.now + length behind.now ≤ MOST }
+    requires most { MOST ≤ TWO_BLOCKS }
     ensures { result ≡ all_differ same_name (map (λ c. c.0) (conditions_of (alternatives_view front.now)) ++ map (λ c. c.0) (conditions_of (alternatives_view behind.now))) }
 {
-    let mut names: ArrayVec<&[u8], TWO_BLOCKS> = ArrayVec::new();
+    let mut names: ArrayVec<&[u8], MOST> = ArrayVec::new();
     for alternative in front {
         names.push(alternative.name.bytes());
     }
@@ -96,6 +117,19 @@ fn both_alternatives_differ<'a>(front: &'a [Alternative], behind: &'a [Alternati
         names.push(alternative.name.bytes());
     }
     names_differ(names.as_mut_slice())
+}
+
+// Whether no two alternatives of both lists together have one name.
+fn both_alternatives_differ(front: &[Alternative], behind: &[Alternative]) -> bool
+    requires front { length front.now ≤ BLOCK }
+    requires behind { length behind.now ≤ BLOCK }
+    ensures { result ≡ all_differ same_name (map (λ c. c.0) (conditions_of (alternatives_view front.now)) ++ map (λ c. c.0) (conditions_of (alternatives_view behind.now))) }
+{
+    if front.len() + behind.len() <= FEW {
+        listed_alternatives_differ::<FEW>(front, behind)
+    } else {
+        listed_alternatives_differ::<TWO_BLOCKS>(front, behind)
+    }
 }
 
 // Whether the names of a block of alternatives differ from each other and from those behind it.
