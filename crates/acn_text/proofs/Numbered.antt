@@ -1,5 +1,5 @@
 -- Characters whose bits are written as one number.
-use Rattle.std.proofs.Common.{◌≡◌, ℕ, zero, suc, ◌+◌, ◌*◌, ◌%◌, ◌^◌, ◌<◌, ◌≤◌, Bool, List, [], ◌∷◌, ◌++◌, length, take, drop, get_or, refl, sym, ap, ◌∙◌, subst, arith, bit_or}
+use Rattle.std.proofs.Common.{◌≡◌, ℕ, zero, suc, ◌+◌, ◌-◌, ◌*◌, ◌%◌, ◌^◌, ◌<◌, ◌≤◌, Bool, List, [], ◌∷◌, ◌++◌, length, take, drop, get_or, refl, sym, ap, ◌∙◌, subst, arith, bit_or, length-append, append_assoc, take-append-drop}
 use Rattle.std.proofs.lemmas.List.{length-take-le, length-drop}
 use Rattle.std.proofs.lemmas.Nat.{mul-le, shl_whole, or_shifted}
 use Rattle.acn_num.specs.Bits.{low_bits, number}
@@ -77,11 +77,6 @@ spelled_back leaf f cs n v l fit e =
     let long : length bs ≡ leaf.width * n = character_bits_long leaf f cs fit ∙ ap (λ (k : ℕ). leaf.width * k) l in
     (subst (λ (k : ℕ). v < 2 ^ k) long (subst (λ (k : ℕ). k < 2 ^ length bs) (sym e) (number_below bs)), ap (λ (k : ℕ). low_bits k v) (sym long) ∙ (ap (low_bits (length bs)) e ∙ low_bits-number bs))
 
-pub first_written : {N : ℕ} (leaf : TextLeaf) (f : TextRules leaf) (cs : List ℕ) (old new : WriteCursor N) (k v : ℕ) → k ≤ length cs → NumbersFit leaf cs → v ≡ number (character_bits leaf (take k cs))
-    → Writes old new (place_of old) (low_bits (leaf.width * k) v) (place_of old + leaf.width * k) → Writes old new (place_of old) (character_bits leaf (take k cs)) (place_of old + leaf.width * k)
-first_written leaf f cs old new k v h fit e w =
-    subst (λ (t : List Bool). Writes old new (place_of old) t (place_of old + leaf.width * k)) (spelled_back leaf f (take k cs) k v (length-take-le k cs h) (first_fit leaf cs k fit) e).1 w
-
 pub next_written : {N : ℕ} (leaf : TextLeaf) (f : TextRules leaf) (cs ds : List ℕ) (old mid new : WriteCursor N) (k m n v : ℕ) → ds ≡ take m (drop k cs) → k + m ≤ length cs → k + m ≡ n → NumbersFit leaf cs → v ≡ number (character_bits leaf ds)
     → Writes old mid (place_of old) (character_bits leaf (take k cs)) (place_of old + leaf.width * k) → Writes mid new (place_of mid) (low_bits (leaf.width * m) v) (place_of mid + leaf.width * m)
     → Writes old new (place_of old) (character_bits leaf (take n cs)) (place_of old + leaf.width * n)
@@ -100,3 +95,44 @@ next_written leaf f cs ds old mid new k m n v is within e fit value x y =
   where
     times : (w k m : ℕ) → w * k + w * m ≡ w * (k + m)
     times w k m = omega arith
+
+-- a number of few bits and the characters behind it, as one number
+pub first_word : (leaf : TextLeaf) (f : TextRules leaf) (cs : List ℕ) (a s v : ℕ) → NumbersFit leaf cs → length cs < 8 → leaf.width ≤ 8 → a ≤ 8 → s < 2 ^ a → v ≡ number (character_bits leaf cs)
+    → (a + leaf.width * length cs ≤ 64) × (bit_or (s * 2 ^ (leaf.width * length cs) % 2 ^ 64) v < 2 ^ (a + leaf.width * length cs)) × (low_bits (a + leaf.width * length cs) (bit_or (s * 2 ^ (leaf.width * length cs) % 2 ^ 64) v) ≡ low_bits a s ++ character_bits leaf cs)
+first_word leaf f cs a s v fit few narrow first below is =
+    let k = leaf.width * length cs in
+    let chars = character_bits leaf cs in
+    let bs = low_bits a s ++ chars in
+    let most = mul-le leaf.width (length cs) 8 7 narrow (omega (arith, few)) in
+    let room : a + k ≤ 64 = omega (arith, most, first) in
+    let chars_long : length chars ≡ k = character_bits_long leaf f cs fit in
+    let v_below : v < 2 ^ k = subst (λ (j : ℕ). v < 2 ^ j) chars_long (subst (λ (j : ℕ). j < 2 ^ length chars) (sym is) (number_below chars)) in
+    let long : length bs ≡ a + k = length-append (low_bits a s) chars ∙ (ap (λ (j : ℕ). j + length chars) (length-low_bits a s) ∙ ap (λ (j : ℕ). a + j) chars_long) in
+    let word : bit_or (s * 2 ^ k % 2 ^ 64) v ≡ s * 2 ^ k + v = ap (λ (j : ℕ). bit_or j v) (shl_whole s a k 64 below room) ∙ or_shifted s k v v_below in
+    let value : number bs ≡ s * 2 ^ k + v =
+    number-append (low_bits a s) chars ∙ (ap (λ (j : ℕ). number (low_bits a s) * 2 ^ j + number chars) chars_long ∙ (ap (λ (j : ℕ). j * 2 ^ k + number chars) (number-low_bits a s ∙ small s (2 ^ a) below) ∙ ap (λ (j : ℕ). s * 2 ^ k + j) (sym is))) in
+    let whole : bit_or (s * 2 ^ k % 2 ^ 64) v ≡ number bs = word ∙ sym value in
+    (room, subst (λ (j : ℕ). bit_or (s * 2 ^ k % 2 ^ 64) v < 2 ^ j) long (subst (λ (j : ℕ). j < 2 ^ length bs) (sym whole) (number_below bs)), ap (λ (j : ℕ). low_bits j (bit_or (s * 2 ^ k % 2 ^ 64) v)) (sym long) ∙ (ap (low_bits (length bs)) whole ∙ low_bits-number bs))
+
+-- a number, some characters behind it, and the others behind these
+pub both_written : {N : ℕ} (leaf : TextLeaf) (f : TextRules leaf) (cs ds : List ℕ) (a s k : ℕ) (old mid new : WriteCursor N) → k ≤ length cs → ds ≡ drop k cs → NumbersFit leaf cs
+    → Writes old mid (place_of old) (low_bits a s ++ character_bits leaf (take k cs)) (place_of old + (a + leaf.width * length (take k cs)))
+    → Writes mid new (place_of mid) (character_bits leaf ds) (place_of mid + leaf.width * length ds)
+    → Writes old new (place_of old) (low_bits a s ++ character_bits leaf cs) (place_of old + (a + leaf.width * length cs))
+both_written leaf f cs ds a s k old mid new inside is fit x y =
+    let w = leaf.width in
+    let front = take k cs in
+    let rest = drop k cs in
+    let long : length (low_bits a s ++ character_bits leaf front) ≡ a + w * length front = length-append (low_bits a s) (character_bits leaf front) ∙ (ap (λ (j : ℕ). j + length (character_bits leaf front)) (length-low_bits a s) ∙ ap (λ (j : ℕ). a + j) (character_bits_long leaf f front (first_fit leaf cs k fit))) in
+    let both = two_writes old mid new (low_bits a s ++ character_bits leaf front) (character_bits leaf rest) (a + w * length front) (w * length rest) x (sym long) (subst (λ (t : List ℕ). Writes mid new (place_of mid) (character_bits leaf t) (place_of mid + w * length t)) is y) in
+    let all : (low_bits a s ++ character_bits leaf front) ++ character_bits leaf rest ≡ low_bits a s ++ character_bits leaf cs =
+    append_assoc (low_bits a s) (character_bits leaf front) (character_bits leaf rest) ∙ ap (λ (t : List Bool). low_bits a s ++ t) (sym (character_bits-append leaf front rest) ∙ ap (character_bits leaf) (take-append-drop k cs)) in
+    let sizes : length front + length rest ≡ length cs = sum (length front) (length rest) (length cs) k (length-take-le k cs inside) (length-drop k cs) inside in
+    let end : (a + w * length front) + w * length rest ≡ a + w * length cs = times a w (length front) (length rest) ∙ ap (λ (j : ℕ). a + w * j) sizes in
+    subst (λ (j : ℕ). Writes old new (place_of old) (low_bits a s ++ character_bits leaf cs) (place_of old + j)) end (subst (λ (t : List Bool). Writes old new (place_of old) t (place_of old + ((a + w * length front) + w * length rest))) all both)
+  where
+    sum : (x y n k : ℕ) → x ≡ k → y ≡ n - k → k ≤ n → x + y ≡ n
+    sum x y n k p q h = omega (arith, p, q, h)
+
+    times : (a w x y : ℕ) → (a + w * x) + w * y ≡ a + w * (x + y)
+    times a w x y = omega arith

@@ -1,15 +1,12 @@
 -- Texts that are written in parts.
-use Rattle.std.proofs.Common.{◌≡◌, ℕ, ◌+◌, ◌*◌, ◌<◌, Bool, List, ◌++◌, length, take, sym, ap, ◌∙◌, subst, arith, get_or}
-use Rattle.acn_num.specs.Bits.{low_bits}
+use Rattle.std.proofs.Common.{◌≡◌, ℕ, ◌+◌, Bool, List, ◌++◌, length, sym, ap, ◌∙◌, subst, arith}
 use Rattle.acn_bits.specs.Writing.{Writes, place_of, Puts}
 use Rattle.acn_bits.specs.declared.write_cursor.WriteCursor.{WriteCursor}
 use Rattle.acn_ints.proofs.Writings.{writes_twice}
 use Rattle.acn_grammar.specs.Length.{text_length}
-use Rattle.acn_grammar.specs.Spell.{character_number}
 use Rattle.acn_grammar.specs.declared.node.TextLeaf.{TextLeaf}
 use Rattle.acn_text.specs.Texts.{TextCode, given_size}
-use Rattle.acn_text.specs.Steps.{character_bits, text_bits}
-use Rattle.acn_text.proofs.Listing.{one_more}
+use Rattle.acn_text.specs.Steps.{text_bits}
 use Rattle.acn_text.proofs.Spelled.{MeetsText, text_spelled, text_bits_long}
 use Rattle.acn_grammar.proofs.TextRules.{TextRules}
 
@@ -28,3 +25,7 @@ text_puts leaf cs old new n f m e w = record {
   writes = subst (λ (k : ℕ). Writes old new (place_of old) (text_bits leaf.ended leaf cs) (place_of old + k)) (e ∙ sym (text_bits_long leaf f leaf.ended cs m)) w;
   holds = text_spelled leaf f cs m;
 }
+
+-- a writing behind no bits
+pub behind_none : {N : ℕ} (old new : WriteCursor N) (bs : List Bool) (n : ℕ) → Writes old new (place_of old) bs (place_of old + (0 + n)) → Writes old new (place_of old) bs (place_of old + n)
+behind_none old new bs n w = (let e : 0 + n ≡ n = omega arith in subst (λ (k : ℕ). Writes old new (place_of old) bs (place_of old + k)) e w)

@@ -1,64 +1,41 @@
-use Rattle.std.proofs.Common.{◌+◌, ◌*◌, ◌%◌, ◌≤◌, ◌-◌, ◌≡◌, ◌∙◌, ℕ, List, length, take, drop, ap, subst, arith}
-use Rattle.std.proofs.lemmas.List.{length-take-le}
-use Rattle.acn_bits.specs.Writing.{Writes, place_of}
+use Rattle.std.proofs.Common.{◌-◌, ◌*◌, ◌%◌, ◌≡◌, ℕ, List, length, take, drop, ap, arith}
+use Rattle.std.proofs.lemmas.List.{length-take-le, length-drop, take_all}
 use Rattle.acn_grammar.proofs.TextRules.{text_rules}
-use Rattle.acn_text.specs.Steps.{NumbersFit, character_bits}
-use Rattle.acn_text.proofs.Numbered.{first_fit, first_written, fits_word, next_written, part_fit, part_long, part_room, spelled_back}
+use Rattle.acn_text.proofs.Numbered.{both_written, first_fit, part_fit, part_long, part_room}
 use Rattle.acn_text.proofs.writer.put_characters.Goals as goal
 
-pub put-requires : goal.put-requires
-put-requires g c =
+pub put_first-requires : goal.put_first-requires
+put_first-requires g c =
     let text = c.args.text.now in
     let leaf = c.args.leaf.now in
     let k = length text % 8 in
-    let room = c.requires.room in
-    let width = fits_word leaf.width k c.requires.width (omega arith) in
-    let inside = part_room leaf.width 0 k (length text) (omega arith) in
-    let word = spelled_back leaf (text_rules leaf c.requires.fine) (take k text) k c.number_of_all-word.result (length-take-le k text (omega arith)) (first_fit leaf text k c.requires.fit) c.number_of_all-word.ensures in
-    (omega arith, (width, (word.0, omega (arith, room, inside))))
+    let r = c.requires in
+    let long = length-take-le k text (omega arith) in
+    let within = part_room leaf.width 0 k (length text) (omega arith) in
+    let room = r.room in
+    let same = ap (λ (j : ℕ). leaf.width * j) long in
+    (omega arith, (r.fine, (r.width, (omega (arith, long), (first_fit leaf text k r.fit, (r.narrow, (r.small, omega (arith, room, within, same))))))))
 
-pub loop-i-init : goal.loop-i-init
-loop-i-init g c =
+pub put_words-requires : goal.put_words-requires
+put_words-requires g c =
     let text = c.args.text.now in
     let leaf = c.args.leaf.now in
     let k = length text % 8 in
-    let w = first_written leaf (text_rules leaf c.requires.fine) text c.args.cur.now c.put.new.self k c.number_of_all-word.result (omega arith) c.requires.fit c.number_of_all-word.ensures c.put.ensures in
-    let e : k ≡ k + 8 * 0 = omega arith in
-    record {
-      done = subst (λ (j : ℕ). Writes c.args.cur.now c.put.new.self (place_of c.args.cur.now) (character_bits leaf (take j text)) (place_of c.args.cur.now + leaf.width * j)) e w;
-      upto = omega arith;
-    }
+    let r = c.requires in
+    let part : List ℕ = take (length text - k) (drop k text) in
+    let long : length part ≡ length text - k = part_long k (length text - k) text (omega arith) in
+    let front = length-take-le k text (omega arith) in
+    let first = ap (λ (j : ℕ). leaf.width * j) front in
+    let within = part_room leaf.width k (length part) (length text) (omega (arith, long)) in
+    let room = r.room in
+    let moved = c.put_first.ensures.moved in
+    (omega arith, (r.fine, (r.width, (omega (arith, long), (part_fit leaf text k (length text - k) r.fit, omega (arith, room, within, moved, first))))))
 
-pub put-requires-in-loop-i : goal.put-requires-in-loop-i
-put-requires-in-loop-i g c =
+pub returns : goal.returns
+returns g c =
     let text = c.args.text.now in
     let leaf = c.args.leaf.now in
-    let k = length text % 8 + 8 * c.loop-i.i in
-    let more = c.loop-i-test.true in
-    let inside : k + 8 ≤ length text = omega (arith, more) in
-    let part : List ℕ = take (k + 8 - k) (drop k text) in
-    let eight : k + 8 - k ≡ 8 = omega arith in
-    let is : part ≡ take 8 (drop k text) = ap (λ (j : ℕ). take j (drop k text)) eight in
-    let fit : NumbersFit leaf part = part_fit leaf text k (k + 8 - k) c.requires.fit in
-    let width = fits_word leaf.width 8 c.requires.width (omega arith) in
-    let word = spelled_back leaf (text_rules leaf c.requires.fine) part 8 c.number_of_all-word-in-loop-i.result (ap length is ∙ part_long k 8 text inside) fit c.number_of_all-word-in-loop-i.ensures in
-    let room = c.requires.room in
-    let moved = c.loop-i.invariant.done.moved in
-    let within = part_room leaf.width k 8 (length text) inside in
-    (omega arith, (width, (word.0, omega (arith, room, moved, within))))
-
-pub loop-i-preserved : goal.loop-i-preserved
-loop-i-preserved g c =
-    let text = c.args.text.now in
-    let leaf = c.args.leaf.now in
-    let k = length text % 8 + 8 * c.loop-i.i in
-    let n = length text % 8 + 8 * (c.loop-i.i + 1) in
-    let more = c.loop-i-test.true in
-    let inside : k + 8 ≤ length text = omega (arith, more) in
-    let part : List ℕ = take (k + 8 - k) (drop k text) in
-    let eight : k + 8 - k ≡ 8 = omega arith in
-    let is : part ≡ take 8 (drop k text) = ap (λ (j : ℕ). take j (drop k text)) eight in
-    record {
-      done = next_written leaf (text_rules leaf c.requires.fine) text part c.args.cur.now c.loop-i.cur c.put-in-loop-i.new.self k 8 n c.number_of_all-word-in-loop-i.result is inside (omega arith) c.requires.fit c.number_of_all-word-in-loop-i.ensures c.loop-i.invariant.done c.put-in-loop-i.ensures;
-      upto = omega (arith, more);
-    }
+    let k = length text % 8 in
+    let part : List ℕ = take (length text - k) (drop k text) in
+    let is : part ≡ drop k text = take_all (length text - k) (drop k text) (omega (arith, length-drop k text)) in
+    both_written leaf (text_rules leaf c.requires.fine) text part c.args.size.0 c.args.size.1 k c.args.cur.now c.put_first.new.cur c.put_words.new.cur (omega arith) is c.requires.fit c.put_first.ensures c.put_words.ensures
