@@ -9,6 +9,7 @@ mod Frames
 pub mod Joining
 mod LeafLists
 mod Numbers
+mod PlainCodes
 mod Puts
 mod States
 mod Tables

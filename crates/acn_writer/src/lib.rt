@@ -8,6 +8,7 @@ mod cursor;
 mod frame;
 mod halt;
 mod leaf;
+mod plain;
 mod slots;
 mod text;
 mod writer;

@@ -20,6 +20,7 @@ use crate::cursor::{
     put_octets, put_zeros,
 };
 use crate::halt::{Halt, Halted, tell};
+use crate::plain::plain_code;
 use crate::slots::{Filling, Slots};
 use crate::text::{meets, text_bits};
 use acn_bits::{Hole, WORD_BITS, WriteCursor};
@@ -195,7 +196,27 @@ impl<'b, 'p, const N: usize, const S: usize, const A: usize> Writer<'b, 'p, N, S
     }
 
     /// A number is tested and coded.
+    #[inline(always)]
     pub fn code(&mut self, leaf: &NumLeaf, x: i128, why: &mut Halt) -> Result<(), Halted>
+        requires { IsTrue (num_fine leaf.now) }
+        ensures ran { OnOk result (Comes (λ path. codes leaf.now x) self.old self.new) }
+        ensures halted { OnErr result (HaltsFor (λ path. codes leaf.now x) self.old self.new why.new) }
+    {
+        match plain_code(leaf, &x) {
+            Some(code) => {
+                if !has_room(&self.cursor, u64::from(code.width)) {
+                    return Err(tell(why, Halt::Lost));
+                }
+                self.cursor.put(code.width, code.value);
+                Ok(())
+            }
+            None => self.code_any(leaf, x, why),
+        }
+    }
+
+    // A number is tested and coded, whatever its coding.
+    #[inline(never)]
+    fn code_any(&mut self, leaf: &NumLeaf, x: i128, why: &mut Halt) -> Result<(), Halted>
         requires { IsTrue (num_fine leaf.now) }
         ensures ran { OnOk result (Comes (λ path. codes leaf.now x) self.old self.new) }
         ensures halted { OnErr result (HaltsFor (λ path. codes leaf.now x) self.old self.new why.new) }
