@@ -8,6 +8,7 @@ mod Frames
 -- for acn_pack
 pub mod Joining
 mod LeafLists
+mod LowRuns
 mod Numbers
 mod PlainCodes
 mod Puts

@@ -1,10 +1,11 @@
 -- Bits that are put in parts.
-use Rattle.std.proofs.Common.{◌≡◌, ℕ, zero, suc, ◌+◌, ◌*◌, ◌%◌, ◌^◌, ◌<◌, ◌≤◌, Bool, false, List, [], ◌∷◌, ◌++◌, length, take, drop, get_or, replicate, refl, sym, ap, ◌∙◌, subst, arith, bit_or}
-use Rattle.std.proofs.lemmas.List.{length-replicate, take_more}
+use Rattle.std.proofs.Common.{◌≡◌, ℕ, zero, suc, ◌+◌, ◌*◌, ◌%◌, ◌^◌, ◌<◌, ◌≤◌, Bool, false, List, [], ◌∷◌, ◌++◌, length, take, drop, get_or, replicate, refl, sym, ap, ◌∙◌, subst, arith, bit_or, Fits}
+use Rattle.std.specs.Int.{w8, w64, from_be_bytes}
+use Rattle.std.proofs.lemmas.List.{length-replicate, take_more, take_all}
 use Rattle.std.proofs.lemmas.Nat.{shl_whole, or_shifted}
 use Rattle.acn_num.specs.Bits.{bits, low_bits, number}
 use Rattle.acn_num.proofs.BitLists.{length-bits, low_bits-number, number_below, bits-append}
-use Rattle.acn_bits.proofs.Loads.{number-bits_push}
+use Rattle.acn_bits.proofs.Loads.{eight, number-bits_push}
 use Rattle.acn_bits.proofs.Parts.{low_bits-zero}
 use Rattle.acn_bits.specs.Writing.{Writes, place_of}
 use Rattle.acn_bits.specs.declared.write_cursor.WriteCursor.{WriteCursor}
@@ -35,6 +36,12 @@ zeros_next old mid new k m n e x y =
     let z = two_writes old mid new (replicate k false) (replicate m false) k m x (sym (length-replicate k false)) (zeros_first mid new m y) in
     let w : Writes old new (place_of old) (replicate (k + m) false) (place_of old + (k + m)) = subst (λ (bs : List Bool). Writes old new (place_of old) bs (place_of old + (k + m))) (zeros_join k m) z in
     subst (λ (j : ℕ). Writes old new (place_of old) (replicate j false) (place_of old + j)) e w
+
+-- Octets.
+
+-- the number of eight octets, the most significant first
+pub eight_octets : (octets word : List ℕ) (v : ℕ) → length octets ≤ 8 → 8 ≤ length octets → word ≡ take 8 octets → ((k : ℕ) → Fits w8 (get_or octets k 0)) → v ≡ from_be_bytes w64 word → v ≡ number (bits octets)
+eight_octets octets word v few enough same each is = is ∙ (ap (from_be_bytes w64) (same ∙ take_all 8 octets few) ∙ eight octets (omega (arith, few, enough)) (λ k h. (each k).fits))
 
 -- Lists of bits.
 

@@ -80,9 +80,9 @@ pub fn put_bits<const N: usize>(cursor: &mut WriteCursor<'_, N>, list: &[bool])
     }
 }
 
-/// The number that the bits of octets spell, of as many as a word has.
-fn octets_number(octets: &[u8]) -> u64
-    requires { length octets.now ≤ OCTETS_AT_ONCE }
+/// The number that the bits of octets spell, of fewer than a word has.
+fn few_octets(octets: &[u8]) -> u64
+    requires { length octets.now < OCTETS_AT_ONCE }
     ensures { result ≡ number (bits octets.now) }
 {
     let mut all = 0u64;
@@ -90,6 +90,17 @@ fn octets_number(octets: &[u8]) -> u64
         all = (all << 8) | u64::from(*octet);
     }
     all
+}
+
+/// The number that the bits of octets spell, of as many as a word has.
+fn octets_number(octets: &[u8]) -> u64
+    requires { length octets.now ≤ OCTETS_AT_ONCE }
+    ensures { result ≡ number (bits octets.now) }
+{
+    match octets.first_chunk::<OCTETS_AT_ONCE>() {
+        Some(word) => u64::from_be_bytes(*word),
+        None => few_octets(octets),
+    }
 }
 
 /// Writes octets.

@@ -1,6 +1,6 @@
 //! Whether a text meets its leaf, and how long it is then.
 
-ghost use Rattle.std.specs.Prelude.{◌≡◌, ◌≤◌, ◌<◌, ◌^◌, ◌&&◌, [], ℕ, None, true, false, IfSome, IsTrue, length, nat_le, not, pos, position};
+ghost use Rattle.std.specs.Prelude.{◌≡◌, ◌≤◌, ◌<◌, ◌^◌, ◌&&◌, [], ℕ, None, true, false, IfSome, IsTrue, length, nat_le, not, pos, position, take};
 ghost use Rattle.std.specs.List.{list_all};
 ghost use Rattle.acn_num.specs.Ranges.{has};
 ghost use Rattle.acn_grammar.specs.Leaves.{text_fine};
@@ -41,10 +41,54 @@ fn first_ends(alphabet: &RangeSet) -> Option<(u8, u8)>
     }
 }
 
+// Whether the first four octets are at most 127.
+#[inline(always)]
+fn four_are_low(text: &[u8]) -> bool
+    requires { 4 ≤ length text.now }
+    ensures { result ≡ true → list_all (λ c. nat_le c 127) (take 4 text.now) ≡ true }
+{
+    match text.first_chunk::<4>() {
+        Some(octets) => u32::from_be_bytes(*octets) & 0x8080_8080 == 0,
+        None => unreachable!(),
+    }
+}
+
+// Whether the first eight octets are at most 127.
+#[inline(always)]
+fn eight_are_low(text: &[u8]) -> bool
+    requires { 8 ≤ length text.now }
+    ensures { result ≡ true → list_all (λ c. nat_le c 127) (take 8 text.now) ≡ true }
+{
+    match text.first_chunk::<8>() {
+        Some(octets) => u64::from_be_bytes(*octets) & 0x8080_8080_8080_8080 == 0,
+        None => unreachable!(),
+    }
+}
+
+// Whether all characters of a text are at most 127, for sure. Most texts are as long as two words
+// or less, which may overlap: of these no character is looked at by itself.
+#[inline(always)]
+fn are_low(text: &[u8]) -> bool
+    ensures { result ≡ true → list_all (λ c. nat_le c 127) text.now ≡ true }
+{
+    let size = text.len();
+    if size < 4 || 16 < size {
+        return false;
+    }
+    if size < 8 {
+        four_are_low(text) && four_are_low(&text[size - 4..])
+    } else {
+        eight_are_low(text) && eight_are_low(&text[size - 8..])
+    }
+}
+
 // Whether all characters of a text lie between two.
 fn lie_between(text: &[u8], low: u8, high: u8) -> bool
     ensures { result ≡ list_all (λ c. nat_le low c && nat_le c high) text.now }
 {
+    if low == 0 && high == 127 && are_low(text) {
+        return true;
+    }
     text.iter().all(|c| low <= *c && *c <= high)
 }
 

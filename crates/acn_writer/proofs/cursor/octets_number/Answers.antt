@@ -1,6 +1,5 @@
-use Rattle.acn_writer.proofs.Puts.{octet_pushed}
+use Rattle.acn_writer.proofs.Puts.{eight_octets}
 use Rattle.acn_writer.proofs.cursor.octets_number.Goals as goal
 
-pub loop-octet-preserved : goal.loop-octet-preserved
-loop-octet-preserved c =
-    octet_pushed c.args.octets.now c.loop-octet.octet-index c.from.result c.loop-octet.all c.loop-octet-test.true c.requires (rw c.from.ensures (c.type_inv.octets c.loop-octet.octet-index).fits) c.from.ensures c.loop-octet.invariant
+pub returns-in-Some : goal.returns-in-Some
+returns-in-Some c = eight_octets c.args.octets.now c.in-Some.word.now c.from_be_bytes.result c.requires c.in-Some.ensures.cases.enough c.in-Some.ensures.cases.same c.type_inv.octets c.from_be_bytes.ensures
