@@ -5,38 +5,18 @@ use Rattle.std.proofs.lemmas.List.{take_more, take_all}
 use Rattle.serde_json.specs.Data.{Members, no_members}
 use Rattle.serde_json.specs.Written.{compact_text, comma_if, members_text}
 use Rattle.acn_grammar.specs.Grammar.{Fields, Data, Places, no_fields, component, inserted, no_places, empty, filled}
-use Rattle.acn_grammar.specs.Shaped.{fits, may_be_absent, fields_fit}
+use Rattle.acn_grammar.specs.Shaped.{may_be_absent, fields_fit}
 use Rattle.acn_grammar.specs.View.{OneField, a_component, an_inserted, data_of, places_view}
 use Rattle.acn_grammar.specs.declared.value.Value.{Value}
-use Rattle.acn_json.specs.RoundTrip.{CanBeSaid, PlacesCanBeSaid}
-use Rattle.acn_lines.specs.Filled.{IsFieldRead, AreFilled, AreEmpty, IsTurnRead}
+use Rattle.acn_json.specs.RoundTrip.{PlacesCanBeSaid}
+use Rattle.acn_lines.specs.Filled.{IsFieldRead, IsMet, AreFilled, IsTurnRead}
 use Rattle.acn_lines.specs.Order.{field_at, place_at, place_of, member_at, in_order, field_json, HasKey, Elsewhere, AreApart}
 use Rattle.acn_lines.specs.Taken.{component_count, no_values, is_whole}
 use Rattle.acn_lines.specs.declared.turns.Turn.{Turn}
 use Rattle.acn_lines.proofs.GoingOn.{member-text}
-use Rattle.acn_lines.proofs.MembersLaw.{fill, fill-view}
 use Rattle.acn_lines.proofs.Parts.{no-turn}
 
 -- Values of components.
-
-pub none-filled : (fs : Fields) → AreFilled fs (no_values fs)
-none-filled no_fields = tt
-none-filled (component name g presence default own fs) = none-filled fs
-none-filled (inserted name g slot fs) = none-filled fs
-
-abbrev FitsAt : Option OneField → Data → Type 0
-FitsAt (Some (a_component name g presence default own)) d = (fits g d ≡ true) × CanBeSaid d
-FitsAt _ d = ⊥
-
-one_more : (fs : Fields) (k : ℕ) (d : Data) (ps : Places) → FitsAt (field_at fs k) d → AreFilled fs ps → AreFilled fs (fill (place_of fs k) d ps)
-one_more no_fields k d ps h f = absurd h
-one_more (component name g presence default own fs) k d no_places h f = absurd f
-one_more (component name g presence default own fs) zero d (empty ps) h f = (h.0, h.1, f)
-one_more (component name g presence default own fs) zero d (filled w ps) h f = (h.0, h.1, f.2)
-one_more (component name g presence default own fs) (suc k) d (empty ps) h f = one_more fs k d ps h f
-one_more (component name g presence default own fs) (suc k) d (filled w ps) h f = (f.0, f.1, one_more fs k d ps h f.2)
-one_more (inserted name g slot fs) zero d ps h f = absurd h
-one_more (inserted name g slot fs) (suc k) d ps h f = one_more fs k d ps h f
 
 pub whole-fits : (fs : Fields) (ps : Places) → AreFilled fs ps → is_whole fs ps ≡ true → (fields_fit fs ps ≡ true) × PlacesCanBeSaid ps
 whole-fits no_fields no_places f w = (refl, tt)
@@ -63,30 +43,36 @@ keyed-within (inserted name g slot fs) (suc k) key h = keyed-within fs k key h
 
 same_place : (ps : List (Option Value)) (k : ℕ) (v : Value) → k < length ps → place_at (places_view (set ps k (Some v))) k ≡ Some (data_of v)
 same_place [] k v h = absurd (omega arith)
-same_place (None ∷ ps) zero v h = refl
-same_place (Some w ∷ ps) zero v h = refl
+same_place (p ∷ ps) zero v h = refl
 same_place (None ∷ ps) (suc k) v h = same_place ps k v (omega arith)
 same_place (Some w ∷ ps) (suc k) v h = same_place ps k v (omega arith)
 
-other_place : (ps : List (Option Value)) (k j : ℕ) (v : Value) → (j ≡ k → ⊥) → place_at (places_view (set ps k (Some v))) j ≡ place_at (places_view ps) j
-other_place [] k j v n = refl
-other_place (p ∷ ps) zero zero v n = absurd (n refl)
-other_place (None ∷ ps) zero (suc j) v n = refl
-other_place (Some w ∷ ps) zero (suc j) v n = refl
-other_place (None ∷ ps) (suc k) zero v n = refl
-other_place (Some w ∷ ps) (suc k) zero v n = refl
-other_place (None ∷ ps) (suc k) (suc j) v n = other_place ps k j v (λ e. n (ap suc e))
-other_place (Some w ∷ ps) (suc k) (suc j) v n = other_place ps k j v (λ e. n (ap suc e))
+no_place : (ps : List (Option Value)) (k : ℕ) → place_at (places_view (set ps k None)) k ≡ None
+no_place [] k = refl
+no_place (p ∷ ps) zero = refl
+no_place (None ∷ ps) (suc k) = no_place ps k
+no_place (Some w ∷ ps) (suc k) = no_place ps k
 
-none_there : (fs : Fields) (k : ℕ) → place_at (no_values fs) k ≡ None
+first_place : (p : Option Value) (ps qs : List (Option Value)) → place_at (places_view (p ∷ ps)) zero ≡ place_at (places_view (p ∷ qs)) zero
+first_place None ps qs = refl
+first_place (Some w) ps qs = refl
+
+next_place : (p : Option Value) (ps : List (Option Value)) (k : ℕ) → place_at (places_view (p ∷ ps)) (suc k) ≡ place_at (places_view ps) k
+next_place None ps k = refl
+next_place (Some w) ps k = refl
+
+pub other_place : (ps : List (Option Value)) (k j : ℕ) (p : Option Value) → (j ≡ k → ⊥) → place_at (places_view (set ps k p)) j ≡ place_at (places_view ps) j
+other_place [] k j p n = refl
+other_place (q ∷ ps) zero zero p n = absurd (n refl)
+other_place (q ∷ ps) zero (suc j) p n = next_place p ps j ∙ sym (next_place q ps j)
+other_place (q ∷ ps) (suc k) zero p n = first_place q (set ps k p) ps
+other_place (q ∷ ps) (suc k) (suc j) p n = next_place q (set ps k p) j ∙ (other_place ps k j p (λ e. n (ap suc e)) ∙ sym (next_place q ps j))
+
+pub none_there : (fs : Fields) (k : ℕ) → place_at (no_values fs) k ≡ None
 none_there no_fields k = refl
 none_there (component name g presence default own fs) zero = refl
 none_there (component name g presence default own fs) (suc k) = none_there fs k
 none_there (inserted name g slot fs) k = none_there fs k
-
-pub all-empty : (fs : Fields) (ts : List Turn) → AreEmpty (no_values fs) ts
-all-empty fs [] = tt
-all-empty fs (t ∷ ts) = (none_there fs t.place, all-empty fs ts)
 
 -- Turns apart.
 
@@ -102,22 +88,24 @@ apart-at (x ∷ ts) (suc i) t h n e =
     let r = apart-at ts i t h.1 (omega arith) e in
     ((λ same. elsewhere_at ts i x.place t h.0 (omega arith) e (sym same), r.0), r.1)
 
-still_empty : (ts : List Turn) (place : ℕ) (ps qs : Places) → Elsewhere place ts → ((k : ℕ) → (k ≡ place → ⊥) → place_at qs k ≡ place_at ps k) → AreEmpty ps ts → AreEmpty qs ts
-still_empty [] place ps qs h others e = tt
-still_empty (t ∷ ts) place ps qs h others e = (others t.place h.0 ∙ e.0, still_empty ts place ps qs h.1 others e.1)
+-- Places of turns gone by.
 
-empty_at : (ps : Places) (ts : List Turn) (i : ℕ) (t : Turn) → AreEmpty ps (drop i ts) → i < length ts → t ≡ get_or ts i t → (place_at ps t.place ≡ None) × AreEmpty ps (drop (suc i) ts)
-empty_at ps [] i t h n e = absurd (omega arith)
-empty_at ps (x ∷ ts) zero t h n e = (subst (λ y. place_at ps y.place ≡ None) (sym e) h.0, h.1)
-empty_at ps (x ∷ ts) (suc i) t h n e = empty_at ps ts i t h (omega arith) e
+abbrev pub AreMet : Fields → List Turn → Places → Type 0
+AreMet fs [] ps = Unit {0}
+AreMet fs (t ∷ ts) ps = IsMet (field_at fs t.field) (place_at ps t.place) × AreMet fs ts ps
 
-pub empty-here : (ps : Places) (ts : List Turn) (i : ℕ) (t : Turn) → AreEmpty ps (drop i ts) → i < length ts → t ≡ get_or ts i t → place_at ps t.place ≡ None
-empty-here ps ts i t h n e = (empty_at ps ts i t h n e).0
+still_met : (fs : Fields) (ts : List Turn) (place : ℕ) (ps qs : Places) → Elsewhere place ts → ((k : ℕ) → (k ≡ place → ⊥) → place_at qs k ≡ place_at ps k) → AreMet fs ts ps → AreMet fs ts qs
+still_met fs [] place ps qs h others m = tt
+still_met fs (t ∷ ts) place ps qs h others m = (subst (IsMet (field_at fs t.field)) (sym (others t.place h.0)) m.0, still_met fs ts place ps qs h.1 others m.1)
 
-pub empty-behind : (fs : Fields) (ts : List Turn) (i : ℕ) (t : Turn) (later more : Bool) (ps qs : Places) (old new : List ℕ) → AreApart ts → AreEmpty ps (drop i ts) → i < length ts → t ≡ get_or ts i t → IsTurnRead fs t later more ps qs old new → AreEmpty qs (drop (i + 1) ts)
-empty-behind fs ts i t later more ps qs old new apart h n e r =
-    let next : i + 1 ≡ suc i = omega arith in
-    subst (λ (k : ℕ). AreEmpty qs (drop k ts)) (sym next) (still_empty (drop (suc i) ts) t.place ps qs (apart-at ts i t apart n e).1 r.others (empty_at ps ts i t h n e).1)
+one_met : (fs : Fields) (done : List Turn) (t : Turn) (ps : Places) → AreMet fs done ps → IsMet (field_at fs t.field) (place_at ps t.place) → AreMet fs (done ++ t ∷ []) ps
+one_met fs [] t ps m h = (h, tt)
+one_met fs (x ∷ done) t ps m h = (m.0, one_met fs done t ps m.1 h)
+
+pub met-more : (fs : Fields) (ts : List Turn) (i : ℕ) (t : Turn) (later more : Bool) (ps qs : Places) (old new : List ℕ) → AreApart ts → i < length ts → t ≡ get_or ts i t → IsTurnRead fs t later more ps qs old new → AreMet fs (take i ts) ps → AreMet fs (take (i + 1) ts) qs
+met-more fs ts i t later more ps qs old new apart n e r m =
+    let longer = take_more ts i t n ∙ ap (λ x. take i ts ++ x ∷ []) (sym e) in
+    subst (λ done. AreMet fs done qs) (sym longer) (one_met fs (take i ts) t qs (still_met fs (take i ts) t.place ps qs (apart-at ts i t apart n e).0 r.others m) r.met)
 
 -- The members of turns gone by, in front of others.
 
@@ -157,29 +145,32 @@ turns-end fs ts i ps later first rest new past so_far closed =
 
 -- One turn.
 
-pub turn-passed : (fs : Fields) (t : Turn) (later : Bool) (ps : Places) (old new : List ℕ) → place_at ps t.place ≡ None → AreFilled fs ps → new ≡ old → IsTurnRead fs t later later ps ps old new
-turn-passed fs t later ps old new none f same = record {
-  text = λ ms end e. sym same ∙ (e ∙ ap (λ text. text ++ end) (no-turn (field_at fs t.field) (place_at ps t.place) later ms [] (sym none)));
-  others = λ k n. refl;
-  filled = f;
-}
+pub turn-passed : (fs : Fields) (t : Turn) (later : Bool) (ps qs : List (Option Value)) (old new : List ℕ) → IsMet (field_at fs t.field) None → qs ≡ set ps t.place None → new ≡ old → IsTurnRead fs t later later (places_view ps) (places_view qs) old new
+turn-passed fs t later ps qs old new met put same =
+    let here = place_at (places_view qs) t.place in
+    let none : here ≡ None = ap (λ l. place_at (places_view l) t.place) put ∙ no_place ps t.place in
+    record {
+      text = λ ms end e. sym same ∙ (e ∙ ap (λ text. text ++ end) (no-turn (field_at fs t.field) here later ms [] (sym none)));
+      others = λ k n. ap (λ l. place_at (places_view l) k) put ∙ other_place ps t.place k None n;
+      met = subst (IsMet (field_at fs t.field)) (sym none) met;
+    }
 
 field_text : (x : OneField) (d : Data) (old new : List ℕ) → IsFieldRead x d old new → old ≡ compact_text (field_json x d) ++ new
 field_text (a_component name g presence default own) d old new h = h.text
 field_text (an_inserted name g slot) d old new h = absurd h
 
-field_fits : (x : OneField) (d : Data) (old new : List ℕ) → IsFieldRead x d old new → FitsAt (Some x) d
-field_fits (a_component name g presence default own) d old new h = (h.fits, h.said)
-field_fits (an_inserted name g slot) d old new h = absurd h
+field_met : (x : OneField) (d : Data) (old new : List ℕ) → IsFieldRead x d old new → IsMet (Some x) (Some d)
+field_met (a_component name g presence default own) d old new h = (h.fits, h.said)
+field_met (an_inserted name g slot) d old new h = absurd h
 
-pub turn-read : (fs : Fields) (t : Turn) (x : OneField) (v : Value) (later : Bool) (ps qs : List (Option Value)) (old inner new : List ℕ) → field_at fs t.field ≡ Some x → HasKey (field_at fs t.field) t.key → t.place ≡ place_of fs t.field → t.place < length ps → qs ≡ set ps t.place (Some v)
-    → old ≡ comma_if later ++ (t.key ++ inner) → IsFieldRead x (data_of v) inner new → AreFilled fs (places_view ps) → IsTurnRead fs t later true (places_view ps) (places_view qs) old new
-turn-read fs t x v later ps qs old inner new at keyed placed within put keys read f =
+-- the value goes into the places `taken`, in which no other place than its own was changed
+pub turn-read : (fs : Fields) (t : Turn) (x : OneField) (v : Value) (later : Bool) (ps taken qs : List (Option Value)) (old inner new : List ℕ) → field_at fs t.field ≡ Some x → HasKey (field_at fs t.field) t.key → t.place < length taken → ((k : ℕ) → (k ≡ t.place → ⊥) → place_at (places_view taken) k ≡ place_at (places_view ps) k)
+    → qs ≡ set taken t.place (Some v) → old ≡ comma_if later ++ (t.key ++ inner) → IsFieldRead x (data_of v) inner new → IsTurnRead fs t later true (places_view ps) (places_view qs) old new
+turn-read fs t x v later ps taken qs old inner new at keyed within same put keys read =
     let o = field_at fs t.field in
-    let there : Some (data_of v) ≡ place_at (places_view qs) t.place = sym (same_place ps t.place v within) ∙ ap (λ l. place_at (places_view l) t.place) (sym put) in
-    let fit = subst (λ y. FitsAt y (data_of v)) (sym at) (field_fits x (data_of v) inner new read) in
+    let there : Some (data_of v) ≡ place_at (places_view qs) t.place = sym (same_place taken t.place v within) ∙ ap (λ l. place_at (places_view l) t.place) (sym put) in
     record {
       text = λ ms end e. member-text o (place_at (places_view qs) t.place) x (data_of v) t.key later ms old (t.key ++ inner) inner new end at there keyed keys refl (field_text x (data_of v) inner new read) e;
-      others = λ k n. ap (λ l. place_at (places_view l) k) put ∙ other_place ps t.place k v n;
-      filled = subst (AreFilled fs) (sym (ap places_view put ∙ (fill-view ps t.place v ∙ ap (λ (i : ℕ). fill i (data_of v) (places_view ps)) placed))) (one_more fs t.field (data_of v) (places_view ps) fit f);
+      others = λ k n. ap (λ l. place_at (places_view l) k) put ∙ (other_place taken t.place k (Some v) n ∙ same k n);
+      met = subst (IsMet o) there (subst (λ y. IsMet y (Some (data_of v))) (sym at) (field_met x (data_of v) inner new read));
     }

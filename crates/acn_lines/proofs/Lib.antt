@@ -1,10 +1,12 @@
 mod Alternatives
 mod CalledLaw
+mod CountLaw
 mod FillingLaw
 mod GoingOn
 mod LeafLaw
 mod MemberTurns
 mod MembersLaw
+mod MetLaw
 mod NamesLaw
 mod NodesLaw
 mod Noting

@@ -7,7 +7,7 @@ use Rattle.serde_json.specs.Data.{no_members, member}
 use Rattle.serde_json.specs.Written.{compact_text, items_text, members_text}
 use Rattle.acn_grammar.specs.Grammar.{Grammar, Fields, Data, node, seq, list, choice, record_of, list_of, alt}
 use Rattle.acn_grammar.specs.Shaped.{fits, each_element, alternative_fits}
-use Rattle.acn_grammar.specs.View.{OneField, data_of, field_of, grammar_of, form_of, fields_view, places_view, elements_view, alternatives_view}
+use Rattle.acn_grammar.specs.View.{data_of, grammar_of, form_of, fields_view, places_view, elements_view, alternatives_view}
 use Rattle.acn_grammar.specs.declared.node.Alternative.{Alternative}
 use Rattle.acn_grammar.specs.declared.node.Body.{Num as Num_body, Seq as Seq_body, List as List_body, Choice as Choice_body}
 use Rattle.acn_grammar.specs.declared.node.Choice.{Choice as ChoiceNode, out-Choice}
@@ -21,7 +21,7 @@ use Rattle.acn_grammar.specs.declared.value.Value.{Value, Seq, List as List_valu
 use Rattle.acn_grammar.proofs.Views.{view_node, view_seq, view_seq_form}
 use Rattle.acn_json.specs.Lines.{json_of, each_json, alternative_json}
 use Rattle.acn_json.specs.RoundTrip.{CanBeSaid, ElementsCanBeSaid}
-use Rattle.acn_lines.specs.Filled.{AreRead, AreFilled, IsFieldRead, alternative_name}
+use Rattle.acn_lines.specs.Filled.{AreRead, AreFilled, alternative_name}
 use Rattle.acn_lines.specs.Order.{in_order, AreTurns}
 use Rattle.acn_lines.specs.Taken.{is_whole}
 use Rattle.acn_lines.specs.declared.turns.Turn.{Turn}
@@ -39,11 +39,6 @@ use Rattle.acn_printed.specs.Read.{IsRead, IsNumberRead}
 pub num_read : (n : Node) (leaf : NumLeaf) (d : Data) (old new : List ℕ) → n.body ≡ Num_body leaf → IsNumberRead leaf.kind leaf.items.items d old new → IsRead (grammar_of n) d old new
 num_read n leaf d old new e h =
     subst (λ g. IsRead g d old new) (sym (view_node n ∙ ap (node n.align) (ap form_of e ∙ view_num_form leaf))) (record { text = h.text; fits = h.fits; said = h.said })
-
--- and the same of a component
-pub field_read : (f : Field) (one : OneField) (leaf : NumLeaf) (r : Option Value) (old new : List ℕ) → field_of f ≡ one → ((d : Data) (old new : List ℕ) → IsNumberRead leaf.kind leaf.items.items d old new → IsFieldRead one d old new) → IfSome r (λ v. IsNumberRead leaf.kind leaf.items.items (data_of v) old new)
-    → IfSome r (λ v. IsFieldRead (field_of f) (data_of v) old new)
-field_read f one leaf r old new e h k = if_some r (λ v t. subst (λ x. IsFieldRead x (data_of v) old new) (sym e) (h (data_of v) old new t)) k
 
 -- Nodes with others inside.
 

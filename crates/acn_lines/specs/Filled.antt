@@ -1,9 +1,9 @@
 -- What the walk over a line that was printed says of the parts of a value.
-use Rattle.std.specs.Prelude.{◌≡◌, ℕ, zero, suc, Bool, false, IsTrue, List, [], ◌∷◌, ◌++◌, None}
+use Rattle.std.specs.Prelude.{◌≡◌, ℕ, zero, suc, Bool, false, IsTrue, List, [], ◌++◌, Option, Some, None}
 use Rattle.serde_json.specs.Data.{Members}
 use Rattle.serde_json.specs.Written.{items_text, members_text}
 use Rattle.acn_grammar.specs.Grammar.{Grammar, Fields, Alternatives, Data, Places, Elements, no_fields, component, inserted, no_alternatives, alternative, no_places, empty, filled}
-use Rattle.acn_grammar.specs.Shaped.{fits, each_element}
+use Rattle.acn_grammar.specs.Shaped.{fits, each_element, may_be_absent}
 use Rattle.acn_grammar.specs.View.{OneField, a_component, an_inserted}
 use Rattle.acn_json.specs.Lines.{json_of, each_json}
 use Rattle.acn_json.specs.RoundTrip.{CanBeSaid, ElementsCanBeSaid}
@@ -30,16 +30,17 @@ AreFilled (component name g presence default own fs) (filled d ps) = IsTrue (fit
 AreFilled (inserted name g slot fs) ps = AreFilled fs ps
 AreFilled _ _ = ⊥
 
--- none of the places of these turns has a value
-abbrev pub AreEmpty : Places → List Turn → Type 0
-AreEmpty ps [] = Unit {0}
-AreEmpty ps (t ∷ ts) = (place_at ps t.place ≡ None) × AreEmpty ps ts
+-- what stands in the place of a component: a value of its form, which comes back from its line, or none where it may be absent
+abbrev pub IsMet : Option OneField → Option Data → Type 0
+IsMet (Some (a_component name g presence default own)) (Some d) = IsTrue (fits g d) × CanBeSaid d
+IsMet (Some (a_component name g presence default own)) None = IsTrue (may_be_absent presence)
+IsMet _ _ = ⊥
 
--- the member of a turn was read, if it came next, and no other place than its own was filled
+-- the member of a turn was read into its own place, if it came next, and no other place was changed
 pub record IsTurnRead (fs : Fields) (t : Turn) (later more : Bool) (ps qs : Places) (old new : List ℕ) : Type 0 where
   pub text : (ms : Members) (end : List ℕ) → new ≡ members_text more ms ++ end → old ≡ members_text later (member_at (field_at fs t.field) (place_at qs t.place) ms) ++ end
   pub others : (k : ℕ) → (k ≡ t.place → ⊥) → place_at qs k ≡ place_at ps k
-  pub filled : AreFilled fs qs
+  pub met : IsMet (field_at fs t.field) (place_at qs t.place)
 
 -- the name of the alternative of a number
 abbrev pub alternative_name : Alternatives → (k : ℕ) → List ℕ

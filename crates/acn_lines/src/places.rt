@@ -1,9 +1,9 @@
 //! The places of a record that is filled member by member.
 
-ghost use Rattle.std.specs.Prelude.{◌≡◌, ◌<◌, ◌||◌, [], IfSome, IfOk, length, drop};
+ghost use Rattle.std.specs.Prelude.{◌≡◌, ◌<◌, ◌||◌, [], IfSome, IfOk, IsTrue, Some, None, length, drop, set};
 ghost use Rattle.acn_grammar.specs.Shaped.{may_be_absent as may_lack};
-ghost use Rattle.acn_grammar.specs.View.{fields_view, places_view, alternatives_view};
-ghost use Rattle.acn_lines.specs.Filled.{alternative_name};
+ghost use Rattle.acn_grammar.specs.View.{field_of, fields_view, places_view, alternatives_view};
+ghost use Rattle.acn_lines.specs.Filled.{alternative_name, IsMet};
 ghost use Rattle.acn_lines.specs.Taken as taken;
 
 use crate::turns::Turn;
@@ -27,6 +27,26 @@ pub fn no_values(room: Vec<Option<Value>>, fields: &[Field]) -> Result<Vec<Optio
         }
     }
     Ok(places)
+}
+
+/// Takes the value out of the place of this number, if one is there.
+#[inline(always)]
+pub fn take_out(places: &mut Vec<Option<Value>>, at: usize) -> Option<Value>
+    requires { at < length places.old.items }
+    ensures { places.new.items ≡ set places.old.items at None }
+{
+    places[at].take()
+}
+
+/// Whether a field is a component that may be absent.
+#[inline]
+pub fn may_lack(field: &Field) -> bool
+    ensures { IsTrue result → IsMet (Some (field_of field.now)) None }
+{
+    match field {
+        Field::Component { presence, .. } => may_be_absent(presence),
+        Field::Inserted { .. } => false,
+    }
 }
 
 // Whether there is a value in the place of this number.

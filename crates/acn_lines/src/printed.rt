@@ -28,7 +28,8 @@ pub fn printed_value(tree: &Tree, order: &Order, spare: &mut Spare, line: &[u8])
         return None;
     }
     let mut rest = Rest { text: line };
-    let value = read_node(root, order, spare, &mut rest)?;
+    let old = spare.old(line.len());
+    let value = read_node(root, order, old, spare, &mut rest)?;
     if rest.text.is_empty() {
         Some(value)
     } else {

@@ -23,6 +23,6 @@ impl Room {
 
     /// Takes the memory of a value that isn't needed any more, for values of later lines.
     pub fn keep(&mut self, value: Value) {
-        self.spare.keep(value);
+        self.spare.keep_whole(value);
     }
 }

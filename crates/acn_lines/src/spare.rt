@@ -1,9 +1,14 @@
 //! Memory of values that aren't needed any more, which the values of later lines take. No clause
-//! speaks of how much there is, since nothing but time rests on it.
+//! speaks of how much there is, nor of what stands in it, since nothing but time rests on it.
 
-ghost use Rattle.std.specs.Prelude.{◌≡◌, []};
+ghost use Rattle.std.specs.Prelude.{◌≡◌, [], IfSome, length};
+ghost use Rattle.acn_grammar.specs.View.{fields_view};
+ghost use Rattle.acn_lines.specs.Order.{AreTurns};
+ghost use Rattle.acn_lines.specs.Taken as taken;
 
-use acn_grammar::Value;
+use crate::places::no_values;
+use crate::turns::Turn;
+use acn_grammar::{Field, Value};
 use acn_num::Row;
 use std::alloc::Global;
 
@@ -16,15 +21,20 @@ const MOST_SPARE_OCTETS: usize = 1024;
 /// A record of more places, or a list of more elements, isn't kept.
 const MOST_SPARE_VALUES: usize = 64;
 
+/// The value of a longer line isn't kept.
+const MOST_SPARE_LINE: usize = 65_536;
+
 /// Memory that was taken for values.
 #[derive(Drop)]
 pub struct Spare {
     pub alloc: Global,
+    // the value of the line before, which the next value is read into, and whether one may be kept
+    whole: Option<Value>,
+    keeps: bool,
     strings: Vec<Vec<u8>>,
+    // in these places values stand
     records: Vec<Vec<Option<Value>>>,
     lists: Vec<Vec<Value>>,
-    // values that aren't taken apart yet
-    waiting: Vec<Value>,
 }
 
 impl Spare {
@@ -32,27 +42,146 @@ impl Spare {
     pub fn new(alloc: Global) -> Spare {
         Spare {
             alloc,
+            whole: None,
+            keeps: false,
             strings: Vec::new(alloc),
             records: Vec::new(alloc),
             lists: Vec::new(alloc),
-            waiting: Vec::new(alloc),
         }
     }
 
-    /// Room for octets, whatever stands in it.
-    #[inline]
-    pub fn string(&mut self) -> Vec<u8> {
+    /// Takes the value of a line, which isn't needed any more.
+    pub fn keep_whole(&mut self, value: Value) {
+        if self.keeps {
+            self.whole = Some(value);
+        }
+    }
+
+    /// The value of the line before, if it is kept, for a line of this length.
+    pub fn old(&mut self, size: usize) -> Option<Value> {
+        self.keeps = size <= MOST_SPARE_LINE;
+        self.whole.take()
+    }
+
+    /// Room for octets, whatever stands in it: that of an old value, if there is one.
+    #[inline(always)]
+    pub fn string(&mut self, old: Option<Value>) -> Vec<u8> {
+        match old {
+            Some(value) => self.string_of(value),
+            None => self.spare_string(),
+        }
+    }
+
+    #[inline(always)]
+    fn string_of(&mut self, value: Value) -> Vec<u8> {
+        match value {
+            Value::Octets(octets) => octets.into_vec(),
+            Value::Text(characters) => characters.into_vec(),
+            other => {
+                self.keep_value(other);
+                self.spare_string()
+            }
+        }
+    }
+
+    #[inline(never)]
+    fn spare_string(&mut self) -> Vec<u8> {
         match self.strings.pop() {
             Some(room) => room,
             None => Vec::new(self.alloc),
         }
     }
 
-    /// Room for the places of a record.
-    pub fn record(&mut self) -> Vec<Option<Value>>
+    /// Places of a record, one for each component, whatever stands in them: those of an old value,
+    /// if there is one. None comes only where memory runs out.
+    pub fn record(
+        &mut self,
+        old: Option<Value>,
+        fields: &[Field],
+        turns: &[Turn],
+    ) -> Option<Vec<Option<Value>>>
+        requires { AreTurns (fields_view fields.now) turns.now }
+        ensures { IfSome result (λ places. length places.items ≡ taken.component_count (fields_view fields.now)) }
+    {
+        let places = self.places(old);
+        if places.len() == turns.len() {
+            return Some(places);
+        }
+        self.empty_record(places, fields)
+    }
+
+    // The places of an old record, or of one that is kept.
+    #[inline(always)]
+    fn places(&mut self, old: Option<Value>) -> Vec<Option<Value>> {
+        match old {
+            Some(value) => self.places_of(value),
+            None => self.spare_places(),
+        }
+    }
+
+    #[inline(always)]
+    fn places_of(&mut self, value: Value) -> Vec<Option<Value>> {
+        match value {
+            Value::Seq(places) => places.into_vec(),
+            other => {
+                self.keep_value(other);
+                self.spare_places()
+            }
+        }
+    }
+
+    fn spare_places(&mut self) -> Vec<Option<Value>> {
+        match self.records.pop() {
+            Some(places) => places,
+            None => Vec::new(self.alloc),
+        }
+    }
+
+    // Empty places of a record, in the memory of others.
+    #[inline(never)]
+    fn empty_record(
+        &mut self,
+        old: Vec<Option<Value>>,
+        fields: &[Field],
+    ) -> Option<Vec<Option<Value>>>
+        ensures { IfSome result (λ places. length places.items ≡ taken.component_count (fields_view fields.now)) }
+    {
+        let mut places = old;
+        while let Some(place) = places.pop() {
+            self.keep(place);
+        }
+        places.clear();
+        match no_values(places, fields) {
+            Ok(places) => Some(places),
+            Err(_) => None,
+        }
+    }
+
+    /// The elements of an old list.
+    #[inline]
+    pub fn elements(&mut self, old: Option<Value>) -> Vec<Value> {
+        match old {
+            Some(value) => self.elements_of(value),
+            None => Vec::new(self.alloc),
+        }
+    }
+
+    #[inline]
+    fn elements_of(&mut self, value: Value) -> Vec<Value> {
+        match value {
+            Value::List(elements) => elements.into_vec(),
+            other => {
+                self.keep_value(other);
+                Vec::new(self.alloc)
+            }
+        }
+    }
+
+    /// Room for the elements of a list.
+    pub fn list(&mut self) -> Vec<Value>
         ensures { result.items ≡ [] }
     {
-        match self.records.pop() {
+        match self.lists.pop() {
             Some(mut room) => {
                 room.clear();
                 room
@@ -61,61 +190,53 @@ impl Spare {
         }
     }
 
-    /// Room for the elements of a list.
-    pub fn list(&mut self) -> Row<Value>
-        ensures { result ≡ [] }
-    {
-        match self.lists.pop() {
-            Some(mut room) => {
-                room.clear();
-                Row::from_vec(room)
-            }
-            None => Row::new(self.alloc),
+    /// The value in an old alternative.
+    pub fn inside(&mut self, old: Option<Value>) -> Option<Value> {
+        match old {
+            Some(value) => self.inside_of(value),
+            None => None,
         }
     }
 
-    /// Takes the memory of a value that isn't needed any more.
-    pub fn keep(&mut self, value: Value) {
-        self.keep_inside(value);
-        for _ in 0..MOST_SPARE {
-            match self.waiting.pop() {
-                Some(value) => self.keep_inside(value),
-                None => return,
+    fn inside_of(&mut self, value: Value) -> Option<Value> {
+        match value {
+            Value::Alt(_, inside) => Some(inside.into_inner()),
+            other => {
+                self.keep_value(other);
+                None
             }
         }
-        self.waiting.clear();
     }
 
-    // Takes the memory of a value, or has it wait where values are inside.
+    /// Takes the memory of the value in a place, if there is one.
     #[inline(always)]
+    pub fn keep(&mut self, old: Option<Value>) {
+        match old {
+            Some(value) => self.keep_value(value),
+            None => {}
+        }
+    }
+
+    // Takes the memory of a value.
+    #[inline(never)]
     fn keep_value(&mut self, value: Value) {
         match value {
-            Value::Int(_) => {}
-            Value::Bool(_) => {}
-            Value::Item(_) => {}
-            Value::Null => {}
-            Value::Octets(octets) => self.keep_string(octets.into_vec()),
-            Value::Bits(_) => {}
-            Value::Text(characters) => self.keep_string(characters.into_vec()),
-            Value::Seq(places) => self.wait(Value::Seq(places)),
-            Value::List(elements) => self.wait(Value::List(elements)),
-            Value::Alt(at, inside) => self.wait(Value::Alt(at, inside)),
+            Value::List(elements) => self.keep_list(elements.into_vec()),
+            other => self.keep_element(other),
         }
     }
 
-    // Has a value wait until it's taken apart, if not too many wait.
-    #[inline(always)]
-    fn wait(&mut self, value: Value) {
-        if self.waiting.len() < MOST_SPARE {
-            match self.waiting.push(value) {
-                Ok(()) => {}
-                Err(_) => {}
-            }
+    // Takes the memory of a value that is no list.
+    fn keep_element(&mut self, value: Value) {
+        match value {
+            Value::Octets(octets) => self.keep_string(octets.into_vec()),
+            Value::Text(characters) => self.keep_string(characters.into_vec()),
+            Value::Seq(places) => self.keep_record(places.into_vec()),
+            _ => {}
         }
     }
 
     // Takes the memory of a string.
-    #[inline(always)]
     fn keep_string(&mut self, room: Vec<u8>) {
         if self.strings.len() < MOST_SPARE && room.len() <= MOST_SPARE_OCTETS {
             match self.strings.push(room) {
@@ -125,33 +246,9 @@ impl Spare {
         }
     }
 
-    // Takes the memory of a value in which values are.
-    fn keep_inside(&mut self, value: Value) {
-        match value {
-            Value::Int(_) => {}
-            Value::Bool(_) => {}
-            Value::Item(_) => {}
-            Value::Null => {}
-            Value::Octets(_) => {}
-            Value::Bits(_) => {}
-            Value::Text(_) => {}
-            Value::Seq(places) => self.keep_record(places.into_vec()),
-            Value::List(elements) => self.keep_list(elements.into_vec()),
-            Value::Alt(_, inside) => self.keep_value(inside.into_inner()),
-        }
-    }
-
-    // Takes the memory of a record, and that of its values.
-    fn keep_record(&mut self, room: Vec<Option<Value>>) {
-        let mut places = room;
-        let few = places.len() <= MOST_SPARE_VALUES;
-        while let Some(place) = places.pop() {
-            match place {
-                Some(value) => self.keep_value(value),
-                None => {}
-            }
-        }
-        if few && self.records.len() < MOST_SPARE {
+    // Takes the memory of a record, with the values in it.
+    fn keep_record(&mut self, places: Vec<Option<Value>>) {
+        if self.records.len() < MOST_SPARE && places.len() <= MOST_SPARE_VALUES {
             match self.records.push(places) {
                 Ok(()) => {}
                 Err(_) => {}
@@ -159,12 +256,12 @@ impl Spare {
         }
     }
 
-    // Takes the memory of a list, and that of its elements.
-    fn keep_list(&mut self, room: Vec<Value>) {
+    /// Takes the memory of a list, and that of its elements.
+    pub fn keep_list(&mut self, room: Vec<Value>) {
         let mut elements = room;
         let few = elements.len() <= MOST_SPARE_VALUES;
         while let Some(value) = elements.pop() {
-            self.keep_value(value);
+            self.keep_element(value);
         }
         if few && self.lists.len() < MOST_SPARE {
             match self.lists.push(elements) {

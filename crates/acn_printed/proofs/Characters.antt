@@ -1,5 +1,5 @@
 -- Characters and bits that stand for themselves in a string.
-use Rattle.std.proofs.Common.{◌≡◌, ℕ, suc, ◌+◌, ◌<◌, Bool, true, not, ◌&&◌, ◌==◌, nat_lt, List, [], ◌∷◌, ◌++◌, length, take, get_or, set, refl, sym, ap, ◌∙◌, arith}
+use Rattle.std.proofs.Common.{◌≡◌, ℕ, suc, ◌+◌, ◌<◌, Bool, true, not, ◌&&◌, ◌==◌, nat_lt, List, [], ◌∷◌, ◌++◌, length, take, get_or, set, refl, sym, ap, subst, ◌∙◌, arith}
 use Rattle.std.specs.Prelude.{map}
 use Rattle.std.specs.List.{list_all}
 use Rattle.std.proofs.lemmas.Bool.{and_parts}
@@ -20,6 +20,16 @@ both-all (c ∷ s) h =
     let b = and_parts (nat_lt c 128) (plain c) a.0 in
     let r = both-all s a.1 in
     (rw (b.0, r.0) refl, rw (b.1, r.1) refl)
+
+all_more : (s : List ℕ) (c : ℕ) → list_all (λ c. nat_lt c 128 && plain c) s ≡ true → (nat_lt c 128 && plain c) ≡ true → list_all (λ c. nat_lt c 128 && plain c) (s ++ c ∷ []) ≡ true
+all_more [] c h k = rw k refl
+all_more (x ∷ s) c h k =
+    let a = and_parts (nat_lt x 128 && plain x) (list_all (λ c. nat_lt c 128 && plain c) s) h in
+    rw (a.0, all_more s c a.1 k) refl
+
+-- one character more that stands for itself
+pub plain-more : (s : List ℕ) (at : ℕ) → at < length s → (nat_lt (get_or s at 0) 128 && plain (get_or s at 0)) ≡ true → list_all (λ c. nat_lt c 128 && plain c) (take at s) ≡ true → list_all (λ c. nat_lt c 128 && plain c) (take (at + 1) s) ≡ true
+plain-more s at h k so_far = subst (λ t. list_all (λ c. nat_lt c 128 && plain c) t ≡ true) (sym (take_more s at 0 h)) (all_more (take at s) (get_or s at 0) so_far k)
 
 -- one bit more, of the next digit
 pub bit-more : (digits : List ℕ) (bits : List Bool) (at : ℕ) (b : Bool) → at < length bits → at < length digits → get_or digits at 0 ≡ bit_digit b → map bit_digit (take at bits) ≡ take at digits → map bit_digit (take (at + 1) (set bits at b)) ≡ take (at + 1) digits

@@ -1,11 +1,11 @@
 //! What is left of a line, and what is passed over.
 
-ghost use Rattle.std.specs.Prelude.{◌≡◌, ◌<◌, ◌≤◌, ◌-◌, ◌++◌, ◌∷◌, ℕ, IfSome, IsTrue, IsFalse, take, drop, length, slice_index};
+ghost use Rattle.std.specs.Prelude.{◌≡◌, ◌<◌, ◌≤◌, ◌-◌, ◌++◌, ◌∷◌, ◌&&◌, ◌==◌, not, nat_lt, ℕ, IfSome, IsTrue, IsFalse, take, drop, length, slice_index};
+ghost use Rattle.std.specs.List.{list_all};
 ghost use Rattle.std.specs.Int.{w32, w64, from_le_bytes};
 ghost use Rattle.json.specs.Print.{quoted};
 ghost use Rattle.serde_json.specs.Written.{comma_if};
 
-use acn_json::all_plain;
 use memchr::memchr;
 
 // The first four octets as a word.
@@ -100,6 +100,30 @@ pub fn behind<'a>(text: &'a [u8], octets: &[u8]) -> Option<&'a [u8]>
     }
 }
 
+// Whether an octet is a character that stands for itself in a string.
+#[inline(always)]
+fn is_plain(c: u8) -> bool
+    ensures { result ≡ (nat_lt c 128 && (nat_lt 31 c && (not (c == 34) && not (c == 92)))) }
+{
+    c < 128 && (31 < c && (c != b'"' && c != b'\\'))
+}
+
+// So many characters that stand for themselves come first.
+#[inline(always)]
+fn plain_front(text: &[u8]) -> usize
+    ensures within { result ≤ length text.now }
+    ensures plain { IsTrue (list_all (λ c. nat_lt c 128 && (nat_lt 31 c && (not (c == 34) && not (c == 92)))) (take result text.now)) }
+{
+    let mut at = 0;
+    while at < text.len() {
+        if !is_plain(text[at]) {
+            return at;
+        }
+        at += 1;
+    }
+    at
+}
+
 /// What is left of a line.
 #[derive(Drop)]
 pub struct Rest<'a> {
@@ -175,15 +199,29 @@ impl<'a> Rest<'a> {
         Some(front)
     }
 
-    /// Passes over a string whose octets stand for themselves, and answers what stands between its quotes.
-    pub fn plain_string(&mut self) -> Option<&'a [u8]>
-        ensures { IfSome result (λ inside. self.old.text.now ≡ quoted inside.now ++ self.new.text.now) }
+    // Passes over a string of characters that stand for themselves.
+    #[inline(always)]
+    fn characters(&mut self) -> Option<&'a [u8]>
+        ensures text { IfSome result (λ inside. self.old.text.now ≡ 34 ∷ (inside.now ++ 34 ∷ self.new.text.now)) }
+        ensures plain { IfSome result (λ inside. IsTrue (list_all (λ c. nat_lt c 128 && (nat_lt 31 c && (not (c == 34) && not (c == 92)))) inside.now)) }
     {
-        let inside = self.string()?;
-        if all_plain(inside) {
-            Some(inside)
-        } else {
-            None
+        let inside = behind(self.text, b"\"")?;
+        let size = plain_front(inside);
+        let (front, closing) = inside.split_at(size);
+        if closing.is_empty() || closing[0] != b'"' {
+            return None;
         }
+        self.text = &closing[1..];
+        Some(front)
+    }
+
+    /// Passes over a string of characters that stand for themselves, and answers these.
+    #[inline]
+    pub fn plain_string(&mut self) -> Option<&'a [u8]>
+        ensures text { IfSome result (λ inside. self.old.text.now ≡ quoted inside.now ++ self.new.text.now) }
+        ensures said { IfSome result (λ inside. IsTrue (list_all (λ c. nat_lt c 128) inside.now)) }
+    {
+        let inside = self.characters()?;
+        Some(inside)
     }
 }

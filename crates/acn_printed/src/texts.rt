@@ -1,6 +1,6 @@
 //! Strings that are read from a line as they are printed.
 
-ghost use Rattle.std.specs.Prelude.{◌≡◌, ◌<◌, ◌/◌, ◌%◌, ◌++◌, true, IfSome, IsTrue, nat_lt, map, ◌&&◌, not, ◌==◌};
+ghost use Rattle.std.specs.Prelude.{◌≡◌, ◌<◌, ◌/◌, ◌%◌, ◌++◌, true, IfSome, IsTrue, nat_lt, map};
 ghost use Rattle.std.specs.Char.{digit_char};
 ghost use Rattle.std.specs.List.{list_all};
 ghost use Rattle.hex.specs.Hex.{encode_lower};
@@ -133,14 +133,6 @@ pub fn read_bits(alloc: Global, rest: &mut Rest<'_>) -> Option<Row<bool>>
     Some(bits)
 }
 
-// Whether each octet is a character that stands for itself in a string.
-fn are_plain_characters(text: &[u8]) -> bool
-    ensures { result ≡ list_all (λ c. nat_lt c 128 && (nat_lt 31 c && (not (c == 34) && not (c == 92)))) text.now }
-{
-    text.iter()
-        .all(|c| *c < 128 && (31 < *c && (*c != b'"' && *c != b'\\')))
-}
-
 /// Reads a text, if one comes next whose characters stand for themselves, into a room whatever
 /// stands in it.
 pub fn read_characters(room: Vec<u8>, rest: &mut Rest<'_>) -> Option<Row<u8>>
@@ -148,10 +140,7 @@ pub fn read_characters(room: Vec<u8>, rest: &mut Rest<'_>) -> Option<Row<u8>>
     ensures octets { IfSome result (λ cs. are_octets cs ≡ true) }
     ensures said { IfSome result (λ cs. IsTrue (list_all (λ c. nat_lt c 128) cs)) }
 {
-    let text = rest.string()?;
-    if !are_plain_characters(text) {
-        return None;
-    }
+    let text = rest.plain_string()?;
     bytes_are_octets(text);
     let characters = filled(room, text)?;
     Some(Row::from_vec(characters))

@@ -1,18 +1,16 @@
-use Rattle.std.proofs.Common.{◌≡◌, length, take, drop}
+use Rattle.std.proofs.Common.{◌≡◌, length, take}
 use Rattle.acn_grammar.specs.View.{grammar_of, fields_view, places_view}
-use Rattle.acn_lines.specs.Filled.{AreFilled, AreEmpty}
 use Rattle.acn_lines.specs.Taken.{component_count}
-use Rattle.acn_lines.proofs.FillingLaw.{SoFar}
+use Rattle.acn_lines.proofs.FillingLaw.{SoFar, AreMet}
 use Rattle.acn_lines.proofs.ReadLaw.{ElementsSoFar}
 use Rattle.acn_lines.proofs.read.+read.Given as goal
 
 abbrev pub invariant-read_members-loop-turn : goal.invariant-read_members-loop-turn
 invariant-read_members-loop-turn l = record {
   count : length l.places.items ≡ component_count (fields_view l.fields);
-  empty : AreEmpty (places_view l.places.items) (drop l.turn-index l.turns);
-  filled : AreFilled (fields_view l.fields) (places_view l.places.items);
+  met : AreMet (fields_view l.fields) (take l.turn-index l.turns) (places_view l.places.items);
   text : SoFar (fields_view l.fields) (take l.turn-index l.turns) (places_view l.places.items) l.later l.initial.rest.text.now l.rest.text.now;
 }
 
 abbrev pub invariant-read_elements-loop : goal.invariant-read_elements-loop
-invariant-read_elements-loop l = ElementsSoFar (grammar_of l.element) l.elements l.initial.rest.text.now l.rest.text.now
+invariant-read_elements-loop l = ElementsSoFar (grammar_of l.element) l.elements.items l.initial.rest.text.now l.rest.text.now

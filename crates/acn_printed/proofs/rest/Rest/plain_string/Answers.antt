@@ -1,7 +1,12 @@
-use Rattle.std.proofs.Common.{sym, ◌∙◌}
+use Rattle.std.proofs.Common.{sym}
 use Rattle.acn_json.proofs.Escapes.{plain-escape}
-use Rattle.acn_printed.proofs.Characters.{plain-text}
+use Rattle.acn_printed.proofs.Characters.{plain-text, both-all}
 use Rattle.acn_printed.proofs.rest.Rest.plain_string.Goals as goal
 
-pub returns-then-all_plain : goal.returns-then-all_plain
-returns-then-all_plain c = plain-text _ _ _ c.in_ok-inside.inside.now (sym (plain-escape c.in_ok-inside.inside.now (sym c.all_plain.ensures ∙ c.if-all_plain.true))) c.in_ok-inside.ensures
+pub returns-clause-text : goal.returns-clause-text
+returns-clause-text c =
+    let inside = c.in_ok-inside.inside.now in
+    plain-text _ _ _ inside (sym (plain-escape inside (both-all inside c.in_ok-inside.ensures.plain).1)) c.in_ok-inside.ensures.text
+
+pub returns-clause-said : goal.returns-clause-said
+returns-clause-said c = (both-all c.in_ok-inside.inside.now c.in_ok-inside.ensures.plain).0
