@@ -22,7 +22,7 @@ const MOST_SPARE_OCTETS: usize = 1024;
 const MOST_SPARE_VALUES: usize = 64;
 
 /// The value of a longer line isn't kept.
-const MOST_SPARE_LINE: usize = 65_536;
+const MOST_SPARE_LINE: usize = 16_384;
 
 /// Memory that was taken for values.
 #[derive(Drop)]
