@@ -3,6 +3,7 @@ mod CalledLaw
 mod CountLaw
 mod FillingLaw
 mod GoingOn
+mod KeysLaw
 mod LeafLaw
 mod MemberTurns
 mod MembersLaw

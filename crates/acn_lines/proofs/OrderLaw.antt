@@ -19,6 +19,7 @@ use Rattle.acn_grammar.specs.declared.node.Presence.{Presence}
 use Rattle.acn_grammar.proofs.Characters.{same_name-refl}
 use Rattle.acn_json.specs.Lines.{json_of, fields_json}
 use Rattle.acn_lines.specs.Order.{field_at, place_at, place_of, member_at, in_order, key_text, HasKey, AreKeyed, ArePlaced, Elsewhere, AreApart}
+use Rattle.acn_lines.proofs.KeysLaw.{all_short}
 use Rattle.acn_lines.specs.Names.{Differ}
 use Rattle.acn_lines.specs.Spots.{Spots, turns_at, AreSpots}
 use Rattle.acn_lines.specs.declared.turns.Spot.{Spot}
@@ -358,4 +359,4 @@ all_apart whole (e ∷ es) sorted named placed = (elsewhere whole e es sorted.0 
 pub all_noted : (whole rest : Fields) (at : ℕ) (es : Spots) → rest ≡ no_fields → Noted whole rest at es → AllPlaced whole es → AreSpots whole es
 all_noted whole rest at es e h placed =
     let n = subst (λ fs. Noted whole fs at es) e h in
-    (all_keyed whole es n.3, λ ps. all_members whole es ps n.3 ∙ n.4 ps, all_placed whole es placed, all_apart whole es n.0 n.3 placed)
+    (all_keyed whole es n.3, λ ps. all_members whole es ps n.3 ∙ n.4 ps, all_placed whole es placed, all_apart whole es n.0 n.3 placed, all_short es)

@@ -1,4 +1,5 @@
 pub mod Filled
+pub mod Keys
 pub mod Names
 pub mod Order
 pub mod Spots

@@ -8,6 +8,8 @@ use Rattle.acn_grammar.specs.View.{OneField, a_component, an_inserted}
 use Rattle.acn_grammar.specs.declared.node.NumLeaf.{NumLeaf}
 use Rattle.acn_cut.specs.Cuts.{IsCut}
 use Rattle.acn_json.specs.Lines.{json_of, fields_json}
+use Rattle.acn_grammar.specs.Fails.{presence_count}
+use Rattle.acn_lines.specs.Keys.{AreShort}
 use Rattle.acn_lines.specs.declared.order.Order.{Order, out-Order}
 use Rattle.acn_json.specs.RoundTrip.{HasTextNames}
 use Rattle.acn_lines.specs.declared.order.TreeOrder.{TreeOrder}
@@ -74,9 +76,9 @@ abbrev pub AreApart : List Turn → Type 0
 AreApart [] = Unit {0}
 AreApart (t ∷ ts) = Elsewhere t.place ts × AreApart ts
 
--- each turn has the key and the place of its component, and no other has the place; in turn they give the members of each record
+-- each turn has the key and the place of its component, and no other has the place; in turn they give the members of each record; short keys are those of the keys
 abbrev pub AreTurns : Fields → List Turn → Type 0
-AreTurns fs ts = AreKeyed fs ts × ((ps : Places) → in_order fs ts ps ≡ fields_json no_members fs ps) × ArePlaced fs ts × AreApart ts
+AreTurns fs ts = AreKeyed fs ts × ((ps : Places) → in_order fs ts ps ≡ fields_json no_members fs ps) × ArePlaced fs ts × AreApart ts × AreShort ts
 
 -- the cut is one of the leaf, where there is one
 abbrev pub IsLeafOrder : NumLeaf → Order → Type 0
@@ -94,7 +96,7 @@ abbrev mutual
 
   pub IsFormOrder : Form → Order → Type 0
   IsFormOrder (num leaf) o = IsLeafOrder leaf o
-  IsFormOrder (seq fields home) o = AreTurns fields (out-Order o).turns × AreFieldOrders fields (out-Order o).inside
+  IsFormOrder (seq fields home) o = AreTurns fields (out-Order o).turns × AreFieldOrders fields (out-Order o).inside × ((out-Order o).flags ≡ presence_count fields)
   IsFormOrder (list sizing g) o = IsNodeOrder g o
   IsFormOrder (choice cases rule) o = AreAlternativeOrders cases (out-Order o).inside
   IsFormOrder (contained sizing g) o = IsNodeOrder g o

@@ -1,6 +1,8 @@
 //! Lines of the values of one tree: what they need beside the tree is made once.
 #![tactic(auto)]
 
+mod flags;
+mod keys;
 mod leaves;
 mod lines;
 mod order;
@@ -14,6 +16,7 @@ mod take;
 mod tokens;
 mod turns;
 
+pub use keys::{KEY_ROOM, MOST_KEY, ShortKey};
 pub use lines::Lines;
 pub use order::Order;
 pub use room::Room;

@@ -1,12 +1,14 @@
 //! What is kept of a tree for its lines.
 
-ghost use Rattle.std.specs.Prelude.{IfOk, IfSome};
+ghost use Rattle.std.specs.Prelude.{◌≡◌, IfOk, IfSome};
 ghost use Rattle.acn_cut.specs.Cuts.{IsCut};
+ghost use Rattle.acn_grammar.specs.Fails.{presence_count};
 ghost use Rattle.acn_grammar.specs.View.{grammar_of, field_of, fields_view, alternatives_view};
 ghost use Rattle.acn_lines.specs.Names as names;
 ghost use Rattle.acn_lines.specs.Order as spec;
 ghost use Rattle.acn_lines.specs.declared.order.Order.{out-Order};
 
+use crate::flags::flags_of;
 use crate::turns::{Turn, turns_of};
 use acn_cut::{Cut, cut_of};
 use acn_grammar::{Alternative, Body, Field, Node, NumLeaf};
@@ -17,8 +19,9 @@ use std::alloc::Global;
 /// What is kept of a node: the turns of a SEQUENCE, and what is kept of the node of each field of a
 /// SEQUENCE, or of each alternative of a CHOICE; of a number, how it is read out of one word, where
 /// it can be so. `names` are the numbers of the alternatives of a CHOICE, or of the items of an
-/// ENUMERATED, in byte order of their names, if they are many; no clause speaks of them. Of a list,
-/// and of a string that contains a value, it is what is kept of the node inside.
+/// ENUMERATED, in byte order of their names, if they are many; no clause speaks of them. `flags` is
+/// the number of bits of a SEQUENCE that say which components are there. Of a list, and of a string
+/// that contains a value, it is what is kept of the node inside.
 #[cycle(kept)]
 #[derive(Drop)]
 pub struct Order {
@@ -26,6 +29,7 @@ pub struct Order {
     pub inside: Row<Order>,
     pub names: Row<u32>,
     pub cut: Option<Cut>,
+    pub flags: u64,
 }
 
 /// What is kept of a tree: what is kept of its root, and whether its names are UTF-8 for sure.
@@ -44,6 +48,7 @@ fn leaf_order(alloc: Global, leaf: &NumLeaf, names: Row<u32>) -> Order
         inside: Row::new(alloc),
         names,
         cut: cut_of(leaf),
+        flags: 0,
     }
 }
 
@@ -62,6 +67,7 @@ fn nothing(alloc: Global) -> Order {
         inside: Row::new(alloc),
         names: Row::new(alloc),
         cut: None,
+        flags: 0,
     }
 }
 
@@ -99,6 +105,7 @@ fn sequence_order(alloc: Global, fields: &[Field]) -> Result<Order, NoMemory>
     requires inside { names.FieldsNamesDiffer (fields_view fields.now) }
     ensures turns { IfOk result (λ o. spec.AreTurns (fields_view fields.now) (out-Order o).turns) }
     ensures inside { IfOk result (λ o. spec.AreFieldOrders (fields_view fields.now) (out-Order o).inside) }
+    ensures flags { IfOk result (λ o. (out-Order o).flags ≡ presence_count (fields_view fields.now)) }
 {
     let turns = turns_of(alloc, fields)?;
     let inside = field_orders(alloc, fields)?;
@@ -107,6 +114,7 @@ fn sequence_order(alloc: Global, fields: &[Field]) -> Result<Order, NoMemory>
         inside,
         names: Row::new(alloc),
         cut: None,
+        flags: flags_of(fields),
     })
 }
 
@@ -145,6 +153,7 @@ fn choice_order(alloc: Global, alternatives: &[Alternative]) -> Result<Order, No
         inside,
         names,
         cut: None,
+        flags: 0,
     })
 }
 

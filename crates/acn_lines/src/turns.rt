@@ -6,18 +6,21 @@ ghost use Rattle.acn_lines.specs.Names.{Differ};
 ghost use Rattle.acn_lines.specs.Order as spec;
 ghost use Rattle.acn_lines.specs.Spots as spots;
 
+use crate::keys::{ShortKey, short_of};
 use acn_grammar::Field;
 use acn_json::put_key;
 use acn_num::{NoMemory, Row};
 use std::alloc::Global;
 use std::collections::BTreeMap;
 
-/// A member of an object: the number of its field, that of its place in the value, and the text of its key with the colon.
+/// A member of an object: the number of its field, that of its place in the value, and the text of its key with the colon,
+/// which is kept as a short key too where it has room.
 #[derive(Drop)]
 pub struct Turn {
     pub field: usize,
     pub place: usize,
     pub key: Row<u8>,
+    pub short: Option<ShortKey>,
 }
 
 /// Where a component stands: the number of its field and that of its place.
@@ -55,10 +58,12 @@ fn turn_of(alloc: Global, name: &[u8], spot: &Spot) -> Result<Turn, NoMemory>
 {
     let mut key = Vec::new(alloc);
     put_key(name, &mut key)?;
+    let short = short_of(key.as_slice());
     Ok(Turn {
         field: spot.field,
         place: spot.place,
         key: Row::from_vec(key),
+        short,
     })
 }
 
