@@ -1,6 +1,8 @@
 mod BinaryTexts
+mod BothTexts
 mod DigitPairs
 mod DigitTexts
+mod EnclosedTexts
 mod Gaps
 mod HexTexts
 mod Keeping

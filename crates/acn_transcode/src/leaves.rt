@@ -175,9 +175,9 @@ fn short_truth(truth: bool) -> Short
     }
 }
 
-// The text of the value of a leaf's number, where it is short for sure.
+/// The text of the value of a leaf's number, where it is short for sure.
 #[inline(always)]
-fn short_value(leaf: &NumLeaf, x: &i128) -> Option<Short>
+pub fn short_value(leaf: &NumLeaf, x: &i128) -> Option<Short>
     requires fine { IsTrue (num_fine leaf.now) }
     requires permitted { In leaf.now.set x.now }
     ensures { IfSome result (λ short. (d : Data) × NumberOf leaf.now.kind d x.now × IsShort short (compact_text (num_json leaf.now.kind leaf.now.items.items d))) }
@@ -230,9 +230,9 @@ fn is_one(x: &i128) -> bool
     *x == 1
 }
 
-// Puts the value of a leaf's number, whose text may have any length.
+/// Puts the value of a leaf's number, whose text may have any length.
 #[inline(never)]
-fn put_any_value(leaf: &NumLeaf, x: &i128, text: &mut Vec<u8>) -> Result<(), NoMemory>
+pub fn put_any_value(leaf: &NumLeaf, x: &i128, text: &mut Vec<u8>) -> Result<(), NoMemory>
     requires fine { IsTrue (num_fine leaf.now) }
     requires named { FormItemsNamed (num leaf.now) }
     requires permitted { In leaf.now.set x.now }

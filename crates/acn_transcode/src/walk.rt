@@ -30,7 +30,7 @@ use acn_bits::ReadCursor;
 use acn_grammar::{Alternative, Body, Choice, Field, Node, Pattern, Presence, Seq, Sizing};
 use acn_json::{put_comma, put_key, put_octet};
 use acn_lines::Order;
-use acn_reads::{count_of, is_ended, is_there, most_of, pass_end, pattern_of, pick, stands};
+use acn_reads::{is_ended, is_there, most_of, pass_end, pattern_of, pick, stands};
 use std::mem::swap;
 
 // Puts the value of a node, which is passed.
@@ -137,7 +137,7 @@ pub fn lay_sequence(
     ensures laid { result ≡ true → (ds : List (Option Data)) × FormRead (grammar_of root.now) (form_of (Seq_body seq.now)) (record_of (places_of ds)) draft.old.slots.items draft.new.slots.items cur.old cur.new × Lays (fields_view seq.now.fields) no_fields ds draft.old draft.new }
 {
     let fields = seq.fields.items();
-    let Ok(window) = cur.window(count_of(fields)) else {
+    let Ok(window) = cur.window(order.flags) else {
         return false;
     };
     let mut flags = window;

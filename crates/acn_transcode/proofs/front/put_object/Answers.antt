@@ -20,7 +20,7 @@ put_members-requires c =
     let turns = subst (λ ts. AreTurns (fields_view fields) ts) (sym c.items.ensures) (subst (λ (x : List Field). AreTurns (fields_view x) (out-Order c.args.order.now).turns) (sym c.items-2.ensures) o.0) in
     let alone = alone_laid (fields_view fields) p.0 c.args.draft.now c.lay_sequence.new.draft lays c.requires.none in
     let laid = subst (λ x. AreLaid x (fields_view fields) c.deref.result.now p.0) (sym c.deref-2.ensures.value) (subst (λ s. AreLaid c.lay_sequence.new.draft.text.items (fields_view fields) s p.0) (sym c.deref.ensures.value) alone) in
-    record { laid = (p.0, laid, turns.0, turns.2) }
+    record { short = turns.4; laid = (p.0, laid, turns.0, turns.2) }
 
 pub returns-clause-put : goal.returns-clause-put
 returns-clause-put c sure =

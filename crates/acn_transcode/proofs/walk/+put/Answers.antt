@@ -6,7 +6,6 @@ use Rattle.std.specs.Int.{w128}
 use Rattle.std.proofs.lemmas.Int.{to_z-of_z}
 use Rattle.serde_json.specs.Written.{compact_text, members_text}
 use Rattle.acn_grammar.specs.Env.{Env}
-use Rattle.acn_grammar.specs.Fails.{presence_count}
 use Rattle.acn_grammar.specs.Length.{number_of}
 use Rattle.acn_grammar.specs.Grammar.{Grammar, Form, Fields, node, num, octets, bits, text, seq, choice, component, no_places, record_of, list_of, alt, octet_string, bit_string, characters}
 use Rattle.acn_grammar.specs.View.{OneField, grammar_of, form_of, field_of, fields_view, with_field, alternatives_view, places_of, elements_of}
@@ -30,7 +29,7 @@ use Rattle.acn_reads.proofs.EndReads.{ended_list}
 use Rattle.acn_reads.proofs.Loops.{fields_from, next_ready, all_turns, named_at}
 use Rattle.acn_reads.proofs.Nodes.{inner_node, node_of_number, node_read, num_read}
 use Rattle.acn_reads.proofs.Runs.{contained_read, contained_rule, list_read, list_rule, no_run, one_more_run, run_stands}
-use Rattle.acn_reads.proofs.Seqs.{few_fields, fields_named, fields_ready, flags_are}
+use Rattle.acn_reads.proofs.Seqs.{fields_named, fields_ready, flags_are}
 use Rattle.acn_reads.proofs.SlotTurns.{component_read}
 use Rattle.acn_reads.proofs.StringReads.{bits_rule, form_passed, octets_rule, text_rule, view_bits, view_octets, view_text}
 use Rattle.acn_reads.proofs.Turns.{away_turn, more_turns, no_turn, there_told}
@@ -470,21 +469,17 @@ put_run-returns t c =
     let count : length p.0 ≡ c.args.n = (let n = p.1 in omega (arith, over, within, n)) in
     record { put = λ sure. (p.0, count, p.2, p.3) }
 
-pub lay_sequence-count_of-requires : goal.lay_sequence-count_of-requires
-lay_sequence-count_of-requires t c = (let r = c.requires.ready in few_fields (grammar_of c.args.root.now) _ c.args.seq.now.fields c.items-fields.result.now c.args.seq.now.home r.0 c.args.draft.now.slots.items (view_seq_form c.args.seq.now) c.items-fields.ensures (r.1, r.2))
-
 pub lay_sequence-put_fields-requires : goal.lay_sequence-put_fields-requires
 lay_sequence-put_fields-requires t c =
     let root = grammar_of c.args.root.now in
     let v = view_seq_form c.args.seq.now in
     let r = c.requires.ready in
-    let count : c.count_of.result ≡ presence_count (fields_view c.args.seq.now.fields) = c.count_of.ensures ∙ ap (λ x. presence_count (fields_view x)) c.items-fields.ensures in
     let q = fields_ready root _ c.args.seq.now.fields c.items-fields.result.now c.args.seq.now.home r.0 c.args.draft.now.slots.items v c.items-fields.ensures (r.1, r.2) in
     let o = subst (λ (x : Form). IsFormOrder x c.args.order.now) v c.requires.order in
     let orders = subst (λ (x : List Order). AreFieldOrders (fields_view c.items-fields.result.now) x) (sym c.items.ensures) (subst (λ (x : List Field). AreFieldOrders (fields_view x) (out-Order c.args.order.now).inside) (sym c.items-fields.ensures) o.1) in (
       search (rules, the_lemmas),
       (
-        flags_are root c.args.seq.now.fields c.items-fields.result.now c.count_of.result c.args.cur.now c.in-Ok.window c.items-fields.ensures count c.in-Ok.ensures.within c.in-Ok.ensures.window,
+        flags_are root c.args.seq.now.fields c.items-fields.result.now (out-Order c.args.order.now).flags c.args.cur.now c.in-Ok.window c.items-fields.ensures o.2 c.in-Ok.ensures.within c.in-Ok.ensures.window,
         ((suc r.0, q.0, q.1), (fields_named _ c.args.seq.now.fields c.items-fields.result.now c.args.seq.now.home v c.items-fields.ensures c.requires.named, (c.requires.fine, orders))),
       ),
     )
@@ -498,10 +493,10 @@ lay_sequence-returns t c = record {
       let v = view_seq_form c.args.seq.now in
       let r = c.requires.ready in
       let p = c.put_fields.ensures.put c.if-not-put_fields.false in
-      let count : c.count_of.result ≡ presence_count (fields_view c.args.seq.now.fields) = c.count_of.ensures ∙ ap (λ x. presence_count (fields_view x)) c.items-fields.ensures in (
+      let o = subst (λ (x : Form). IsFormOrder x c.args.order.now) v c.requires.order in (
         p.0,
-        seq_put_read root r.0 _ form c.args.seq.now.fields fields c.args.seq.now.home c.items-2.result.now p.0 c.args.draft.now.slots.items c.put_fields.new.draft.slots.items c.forget.new.slots.items c.args.cur.now c.window.new.self c.put_fields.new.cur c.in-Ok.window c.count_of.result _
-            v c.items-fields.ensures c.items-2.ensures c.forget.ensures count c.in-Ok.ensures.within c.in-Ok.ensures.window c.in-Ok.ensures.moved (r.1, r.2) p.1,
+        seq_put_read root r.0 _ form c.args.seq.now.fields fields c.args.seq.now.home c.items-2.result.now p.0 c.args.draft.now.slots.items c.put_fields.new.draft.slots.items c.forget.new.slots.items c.args.cur.now c.window.new.self c.put_fields.new.cur c.in-Ok.window (out-Order c.args.order.now).flags _
+            v c.items-fields.ensures c.items-2.ensures c.forget.ensures o.2 c.in-Ok.ensures.within c.in-Ok.ensures.window c.in-Ok.ensures.moved (r.1, r.2) p.1,
         laid_of fields c.args.seq.now.fields p.0 c.args.draft.now c.put_fields.new.draft _ c.items-fields.ensures refl refl refl p.2,
       );
 }
@@ -517,6 +512,7 @@ put_sequence-put_members-requires t c =
     let first = c.len-first.result in
     let before : first ≡ length c.args.draft.now.parts.items = search rules in
     record {
+      short = turns.4;
       laid = (
         p.0,
         subst (λ x. AreLaid x (fields_view fields) (take (length c.deref.result.now - first) (drop first c.deref.result.now)) p.0) (sym texts)
