@@ -6,6 +6,7 @@ pub mod Members
 pub mod Order
 mod Turns
 mod Meeting
+mod Joining
 mod Unions
 -- for acn_text
 pub mod Nth

@@ -16,11 +16,11 @@ all_append : (a b : List Ranges) → AreAllRanges a → AreAllRanges b → AreAl
 all_append [] b h k = k
 all_append (s ∷ a) b h k = (h.0, all_append a b h.1 k)
 
-union_ranges : (a b : Ranges) → AreRanges a → AreRanges b → AreRanges (union a b)
+pub union_ranges : (a b : Ranges) → AreRanges a → AreRanges b → AreRanges (union a b)
 unfolding union outside
 union_ranges a b h k = outside_above (bottom -ℤ pos 1) _ (meet_above (bottom -ℤ pos 1) (bottom -ℤ pos 1) _ _ (outside_above (bottom -ℤ pos 1) a h) (outside_above (bottom -ℤ pos 1) b k))
 
-union_has : (a b : Ranges) (x : ℤ) → AreRanges a → AreRanges b → has (union a b) x ≡ (has a x || has b x)
+pub union_has : (a b : Ranges) (x : ℤ) → AreRanges a → AreRanges b → has (union a b) x ≡ (has a x || has b x)
 unfolding union
 union_has a b x h k = has_union a b x h k
 

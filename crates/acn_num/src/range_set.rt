@@ -2,6 +2,7 @@ ghost use Rattle.std.specs.Prelude.{◌≡◌, ◌↔◌, ℤ, ◌≤ℤ◌, [],
 ghost use Rattle.std.specs.Int.{int_max, int_min};
 ghost use Rattle.acn_num.specs.Ranges as spec;
 ghost use Rattle.acn_num.specs.Unions.{unions, one_has, AreAllRanges, IsUnionOfAll};
+ghost use Rattle.acn_num.specs.Joining.{CanJoin, CanJoinAll, Joins, JoinsBefore};
 ghost use Rattle.acn_num.specs.Meeting.{reaching_from, clip_until};
 ghost use Rattle.acn_num.specs.Ranges.{has, AreRanges, IsRange, some_range, outside_from, size_of, count, nth, among, IsUnion, IsMeet, IsExcept, IsLeastExcept, SameNumbersSameSet, EachHasAPlace, NumbersRise, bottom, top, outside, meet, union, except, least, greatest};
 
@@ -158,10 +159,14 @@ impl RangeSet {
         ensures ranges { IfOk result (λ s. s ≡ union self.now other.now) }
         ensures numbers { IfOk result (λ s. IsUnion self.now other.now s) }
     {
-        let left = self.outside(alloc)?;
-        let right = other.outside(alloc)?;
-        let neither = left.meet(alloc, &right)?;
-        neither.outside(alloc)
+        let mut ranges = Vec::new(alloc);
+        let mut rest = other.ranges.as_slice();
+        for range in &self.ranges {
+            rest = join_before(&mut ranges, rest, &range.0)?;
+            join_range(&mut ranges, range)?;
+        }
+        join_before(&mut ranges, rest, &(TOP + 1))?;
+        Ok(RangeSet { ranges })
     }
 
     /// The numbers that this set or one of the others holds. Pairs are joined in rounds, so the time is linear in
@@ -335,6 +340,50 @@ fn clip_into(
         )?;
     }
     Ok(())
+}
+
+// Whether the range begins at this number or behind it.
+fn begins_from(range: &(i128, i128), low: &i128) -> bool
+    ensures { result ≡ int_le low.now range.now.0 }
+{
+    *low <= range.0
+}
+
+// Adds the numbers of a range that begins with the last one or behind it.
+fn join_range(ranges: &mut Vec<(i128, i128)>, next: &(i128, i128)) -> Result<(), NoMemory>
+    requires { CanJoin ranges.old.items next.now }
+    ensures { OnOk result (Joins ranges.old.items next.now ranges.new.items) }
+{
+    match ranges.pop() {
+        None => ranges.push(*next)?,
+        Some(last) => {
+            if last.1 < next.0 - 1 {
+                ranges.push(last)?;
+                ranges.push(*next)?;
+            } else {
+                add(ranges, &last.0, greater(&last.1, &next.1))?;
+            }
+        }
+    }
+    Ok(())
+}
+
+// Adds the numbers of the ranges that begin before this number. The others are left.
+fn join_before<'a>(
+    ranges: &mut Vec<(i128, i128)>,
+    others: &'a [(i128, i128)],
+    low: &i128,
+) -> Result<&'a [(i128, i128)], NoMemory>
+    requires { CanJoinAll ranges.old.items others.now }
+    ensures { IfOk result (λ left. JoinsBefore low.now ranges.old.items others.now ranges.new.items left.now) }
+{
+    for (i, other) in others.iter().enumerate() {
+        if begins_from(other, low) {
+            return Ok(&others[i..]);
+        }
+        join_range(ranges, other)?;
+    }
+    Ok(&[])
 }
 
 /// Two sets with the same numbers are the same.
