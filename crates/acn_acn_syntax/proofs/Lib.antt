@@ -1,4 +1,4 @@
--- for acn_acn_parse, acn_mentions, acn_repeated, acn_slots, acn_reasons and acn_written
+-- for acn_acn_parse, acn_mentions and acn_repeated
 pub mod Views
 -- for acn_acn_parse
 pub mod Back

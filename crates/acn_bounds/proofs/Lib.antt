@@ -1,2 +1,2 @@
--- for acn_plain and acn_stream_laws
+-- for acn_packing, acn_plain and acn_stream_laws
 pub mod Lying

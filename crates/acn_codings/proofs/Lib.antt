@@ -1,5 +1,5 @@
--- for acn_leaf_laws
+-- for acn_fold_laws and acn_leaf_laws
 pub mod Apart
 mod Drawn
--- for acn_leaf_laws
+-- for acn_fold_laws and acn_leaf_laws
 pub mod FineFront

@@ -4,7 +4,7 @@ mod Heard
 -- for the walk that packs
 pub mod Joins
 mod Judging
--- for acn_event_limits, acn_writer
+-- for acn_writer and acn_event_limits
 pub mod Keeping
 mod Later
 mod Located
@@ -15,7 +15,7 @@ mod Runs
 mod Showing
 mod Small
 mod Spelling
--- for acn_event_limits, acn_writer
+-- for acn_writer and acn_event_limits
 pub mod Standing
 mod Tested
 mod Writing

@@ -1,4 +1,4 @@
--- for acn_run: grammars of types, one more behind the others
+-- for acn_commands: grammars of types, one more behind the others
 pub mod Grown
 mod OfSources
 mod Excluding

@@ -4,7 +4,7 @@ mod Following
 pub mod ValueSteps
 -- for acn_world and acn_names
 pub mod ChainSteps
--- for acn_world
+-- for acn_world and acn_slots
 pub mod KeyedLaws
 -- for acn_world
 pub mod Mapped

@@ -13,9 +13,9 @@ mod Lists
 mod MostLemmas
 mod Orders
 mod Permitted
--- for acn_text
+-- for acn_text and acn_writer
 pub mod PieceLemmas
 mod SaidLemmas
 mod SignedCodes
--- for acn_text
+-- for acn_text and acn_writer
 pub mod Writings

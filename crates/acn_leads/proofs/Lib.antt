@@ -1,2 +1,3 @@
 mod BeginsLaw
+-- for acn_check
 pub mod LeadLaw

@@ -1,8 +1,8 @@
--- for acn_grammar, acn_packet_laws, acn_tree, acn_bits, acn_ints, acn_text, acn_plain_read, acn_plain_write, acn_check and acn_run
+-- for acn_grammar, acn_packet_laws, acn_terminators, acn_bits, acn_ints, acn_cut, acn_text, acn_reads, acn_events, acn_writer, acn_leads, acn_unpack, acn_packing, acn_plain_write, acn_transcode, acn_stream, acn_explain, acn_stream_laws, acn_route and acn_work
 pub mod BitLists
--- for acn_constraint and acn_run
+-- for acn_extreme_laws, acn_constraint, acn_codings, acn_fold_laws and acn_leaf_laws
 pub mod Members
--- for acn_constraint
+-- for acn_constraint, acn_codings, acn_fold_laws and acn_leaf_laws
 pub mod Order
 mod Turns
 mod Meeting

@@ -1,4 +1,4 @@
--- for acn_print and acn_run
+-- for acn_print, acn_stream and acn_route
 pub mod Joined
 mod Named
 mod Counting

@@ -5,7 +5,7 @@ pub mod AskHomes
 mod AskRows
 mod BoundsLaw
 mod ChoiceRows
--- for acn_check
+-- for acn_events and acn_leads
 pub mod Codes
 mod ConditionRows
 mod ContentRows
@@ -64,11 +64,11 @@ mod PartPaths
 mod NamedSlots
 mod PathSlots
 mod PlaceRows
--- for acn_check
+-- for acn_event_limits and acn_check
 pub mod Placed
 mod PrefixNodes
 mod Reaches
--- for acn_plain_read and acn_plain_write
+-- for acn_reads and acn_plain_write
 pub mod ReadParts
 mod RefusalPaths
 mod RefusedUnspelled

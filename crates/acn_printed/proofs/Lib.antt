@@ -1,5 +1,5 @@
 mod Characters
--- for acn_lines
+-- for acn_lines and acn_transcode
 pub mod Digits
 mod Leaves
 -- for acn_lines

@@ -3,7 +3,7 @@ mod CaseTurns
 pub mod FieldTurns
 -- for acn_step_fields: fields and alternatives by their index, and the room that each has
 pub mod Inners
--- for acn_step_fields: from a step to what its node is
+-- for acn_step_fields and acn_packing: from a step to what its node is
 pub mod Levels
 -- for acn_step_fields: that each path can be written down
 pub mod Rooms

@@ -1,4 +1,4 @@
--- for acn_stream
+-- for acn_stream and acn_route
 pub mod Moving
 -- for acn_stream
 pub mod Pieces

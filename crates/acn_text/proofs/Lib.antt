@@ -1,7 +1,7 @@
 mod Calls
 mod EndedReads
 mod Ends
--- for acn_events
+-- for acn_events, acn_writer and acn_transcode
 pub mod Fine
 mod Listing
 mod Marks
