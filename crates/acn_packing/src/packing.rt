@@ -46,7 +46,8 @@ pub fn pack<const N: usize>(plan: &Plan, v: &Value, buf: &mut [u8; N]) -> Result
         path: Path::new(),
         why: Halt::Lost,
     };
-    match pack_in(plan, v, buf, &mut trace) {
+    let mut has_slots = true;
+    match pack_in(plan, v, buf, &mut trace, &mut has_slots) {
         Ok(count) => {
             check_octets(buf);
             Ok(count)
@@ -59,6 +60,8 @@ pub fn pack<const N: usize>(plan: &Plan, v: &Value, buf: &mut [u8; N]) -> Result
 #[derive(Drop)]
 pub struct Packer {
     trace: Trace,
+    // Whether a value had slots or contents.
+    has_slots: bool,
 }
 
 impl Packer {
@@ -69,6 +72,7 @@ impl Packer {
                 path: Path::new(),
                 why: Halt::Lost,
             },
+            has_slots: false,
         }
     }
 
@@ -90,7 +94,7 @@ impl Packer {
         if !self.trace.path.steps().is_empty() {
             self.begin_anew();
         }
-        match pack_in(plan, v, buf, &mut self.trace) {
+        match pack_in(plan, v, buf, &mut self.trace, &mut self.has_slots) {
             Ok(count) => {
                 check_octets(buf);
                 Some(count)
