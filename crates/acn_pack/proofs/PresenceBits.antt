@@ -4,10 +4,11 @@ use Rattle.std.specs.Prelude.{is_some}
 use Rattle.std.proofs.lemmas.List.{drop_more}
 use Rattle.acn_bits.specs.Overwrite.{overwritten}
 use Rattle.acn_bits.proofs.Parts.{length-overwritten, overwritten-append}
-use Rattle.acn_grammar.specs.Grammar.{Grammar, Fields, component}
+use Rattle.acn_grammar.specs.Grammar.{Grammar, Fields, no_fields, component, inserted}
 use Rattle.acn_grammar.specs.Length.{presence_bits, bit_before}
 use Rattle.acn_grammar.specs.View.{OneField, a_component, an_inserted, with_field, places_view}
 use Rattle.acn_grammar.specs.declared.node.Presence.{Presence}
+use Rattle.acn_grammar.specs.declared.node.Presence.TheVariants.{Always, Bit, When}
 use Rattle.acn_grammar.specs.declared.value.Value.{Value}
 use Rattle.acn_events.specs.Event.{State, begins, lost}
 use Rattle.acn_events.specs.Steps.{put, Room}
@@ -64,11 +65,6 @@ room_first a b m room = (let l = length-append a b in omega (arith, room, l))
 pub begins_ran : {N S A : ℕ} (homes : List (ℕ × List ℕ)) (bs : List Bool) (m n : Writer N S A) → Room (length bs) (state_of m) → state_of n ≡ put bs (state_of m) → n.cursor.buf.ghost_name ≡ m.cursor.buf.ghost_name → Ran (begins homes bs ∷ []) m n
 begins_ran homes bs m n room e same = record { runs = (state_of n, record { can = room; does = e }, refl); same_buffer = same }
 
--- it has none
-pub begins_none : {N S A : ℕ} (homes : List (ℕ × List ℕ)) (bs : List Bool) (m : Writer N S A) → length bs ≡ 0 → Room (length bs) (state_of m) → Ran (begins homes bs ∷ []) m m
-begins_none homes [] m none room = begins_ran homes [] m m room (sym (put_none (state_of m))) refl
-begins_none homes (b ∷ bs) m none room = absurd (omega (arith, none))
-
 pub begins_lost : {N S A : ℕ} (homes : List (ℕ × List ℕ)) (bs : List Bool) (m : Writer N S A) → (Room (length bs) (state_of m) → ⊥) → Stopped (begins homes bs ∷ []) m m lost
 begins_lost homes bs m none = record { stops = inl (refl, none); same_buffer = refl }
 
@@ -76,3 +72,22 @@ begins_lost homes bs m none = record { stops = inl (refl, none); same_buffer = r
 pub one_at_most : (bit : Option Bool) → length (bits_in bit) ≤ 1
 one_at_most None = omega arith
 one_at_most (Some b) = omega arith
+
+-- and all fields together at most as many as there are places
+one_before : (presence : Presence) (there : Bool) (bs : List Bool) → length (bit_before presence there bs) ≤ length bs + 1
+one_before Always there bs = omega arith
+one_before Bit there bs = omega arith
+one_before (When ts) there bs = omega arith
+
+few_flags : (fs : Fields) (ps : List (Option Value)) → length (presence_bits fs (places_view ps)) ≤ length ps
+few_flags no_fields ps = omega arith
+few_flags (component name g presence default own fs) [] = omega arith
+few_flags (component name g presence default own fs) (p ∷ ps) =
+    let e = ap length (place_first name g presence default own fs p ps) in
+    let one = one_before presence (is_some p) (presence_bits fs (places_view ps)) in
+    let few = few_flags fs ps in
+    omega (arith, e, one, few)
+few_flags (inserted name g slot fs) ps = few_flags fs ps
+
+pub room_for_flags : (fs : Fields) (ps : List (Option Value)) (m : State) → Room (length ps) m → Room (length (presence_bits fs (places_view ps))) m
+room_for_flags fs ps m room = (let few = few_flags fs ps in omega (arith, room, few))

@@ -1,6 +1,6 @@
 -- What a part of an accepted tree keeps, and those inside it.
-use Rattle.std.proofs.Common.{◌≡◌, ℕ, suc, ◌≤◌, List, [], ◌∷◌, ◌++◌, length, Option, Some, None, IsTrue, ap, subst, arith, length-append}
-use Rattle.acn_grammar.specs.Grammar.{Grammar, Form, Fields, node, num, octets, bits, text, seq, list, choice, contained, component}
+use Rattle.std.proofs.Common.{◌≡◌, ℕ, suc, ◌≤◌, true, List, [], ◌∷◌, ◌++◌, length, Option, Some, None, IsTrue, refl, ap, subst, arith, length-append}
+use Rattle.acn_grammar.specs.Grammar.{Grammar, Form, Fields, Data, node, num, octets, bits, text, seq, list, choice, contained, component}
 use Rattle.acn_grammar.specs.Leaves.{num_fine, text_fine, list_fine}
 use Rattle.acn_grammar.specs.Scoped.{Known}
 use Rattle.acn_grammar.specs.Sound.{SaysSlot, OwnSound}
@@ -10,12 +10,16 @@ use Rattle.acn_grammar.specs.declared.node.Presence.{Presence}
 use Rattle.acn_grammar.specs.declared.node.Sizing.{Sizing}
 use Rattle.acn_grammar.specs.declared.node.TextLeaf.{TextLeaf}
 use Rattle.acn_num.specs.declared.limits.TheConstants.{MOST_STEPS}
-use Rattle.acn_plan.specs.Back.{StepAt, node_at, form_at, field_by}
+use Rattle.acn_events.specs.Events.{own_events}
+use Rattle.acn_plan.specs.Back.{Mark, StepAt, node_at, form_at, form_in, field_by}
+use Rattle.acn_plan.specs.declared.step.Act.{Act}
+use Rattle.acn_plan.specs.declared.step.Act.TheVariants as acts
 use Rattle.acn_plan.specs.declared.step.Place.{Place}
 use Rattle.acn_plan.specs.declared.step.Place.TheVariants as places
 use Rattle.acn_plan.specs.declared.step.Step.{Step}
 use Rattle.acn_plan.proofs.Marks.{node_is}
-use Rattle.acn_pack.specs.Parts.{IsNumber, OwnIsNumber}
+use Rattle.acn_pack.specs.Parts.{IsNumber, OwnIsNumber, IsString, says_string}
+use Rattle.acn_pack.proofs.Levels.{not_number}
 use Rattle.acn_pack.specs.Sounds.{IsSound, FormIsSound, FieldsAreSound}
 
 module _ (root : Grammar) (k : ℕ) where
@@ -34,6 +38,16 @@ module _ (root : Grammar) (k : ℕ) where
 
   pub text_is_fine : (leaf : TextLeaf) → FormIsSound root k (text leaf) → IsTrue (text_fine leaf)
   text_is_fine leaf s = s.is.0
+
+  pub string_is_fine : (a : Act) (next i : ℕ) (ms : List Mark) → says_string a ≡ true → FormIsSound root k (form_in a next i ms) → IsString a
+  string_is_fine (acts.Octets sizing) next i ms e s = tt
+  string_is_fine (acts.Bits sizing) next i ms e s = tt
+  string_is_fine (acts.Text leaf) next i ms e s = text_is_fine leaf s
+  string_is_fine (acts.Num leaf) next i ms e s = cc
+  string_is_fine (acts.Seq home) next i ms e s = cc
+  string_is_fine (acts.List sizing) next i ms e s = cc
+  string_is_fine (acts.Choice cases) next i ms e s = cc
+  string_is_fine (acts.Contained sizing) next i ms e s = cc
 
   pub list_is_fine : (sizing : Sizing) (g : Grammar) → FormIsSound root k (list sizing g) → IsTrue (list_fine sizing)
   list_is_fine sizing g s = s.is.0
@@ -95,3 +109,8 @@ module _ (root : Grammar) (k : ℕ) where
   -- the number of a component is a slot's only where it is a number
   pub own_is_number : (name : List ℕ) (g : Grammar) (presence : Presence) (default : Option (List ℕ)) (own : Option ℕ) (fs : Fields) → FieldsAreSound root k (component name g presence default own fs) → OwnIsNumber own g
   own_is_number name g presence default own fs s = own_number s.around s.known own presence g s.are.1
+
+-- what is no number has no number of its own
+pub no_own : (slot : Option ℕ) (steps : List Step) (i : ℕ) (s : Step) (path : List ℕ) (d : Data) → StepAt steps i s → OwnIsNumber slot (node_at steps i) → ((leaf : NumLeaf) → s.act ≡ acts.Num leaf → ⊥) → own_events path slot (node_at steps i) d ≡ []
+no_own None steps i s path d h own none = refl
+no_own (Some n) steps i s path d h own none = absurd (not_number steps i s h own none)

@@ -1,14 +1,15 @@
 -- How the walk goes on, form by form.
 use Rattle.std.proofs.Common.{◌≡◌, ℕ, suc, ◌+◌, ◌<◌, ◌≤◌, List, [], ◌∷◌, ◌++◌, drop, length, get_or, Option, Some, None, refl, sym, ap, ◌∙◌, add-one, append_assoc}
 use Rattle.std.specs.Prelude.{option_map, pos, Result, IsErrAnd}
-use Rattle.acn_grammar.specs.Grammar.{Grammar, Fields, Data, node, num, list, list_of, element_count}
+use Rattle.acn_grammar.specs.Grammar.{Grammar, Form, Fields, Data, node, num, list, list_of, element_count}
 use Rattle.acn_grammar.specs.View.{OneField, a_component, an_inserted, with_field, data_of, elements_view, places_view}
 use Rattle.acn_grammar.specs.declared.node.ChoiceRule.{ChoiceRule}
 use Rattle.acn_grammar.specs.declared.node.NumLeaf.{NumLeaf}
 use Rattle.acn_grammar.specs.declared.node.Presence.{Presence}
 use Rattle.acn_grammar.specs.declared.node.Sizing.{Sizing}
 use Rattle.acn_grammar.specs.declared.value.Value.{Value}
-use Rattle.acn_plan.specs.Back.{StepAt, node_at, form_at}
+use Rattle.acn_plan.specs.Back.{StepAt, marks, node_at, form_at, form_in}
+use Rattle.acn_plan.specs.declared.step.Act.{Act}
 use Rattle.acn_plan.specs.declared.step.Place.{Place}
 use Rattle.acn_plan.specs.declared.step.Step.{Step}
 use Rattle.acn_plan.proofs.Marks.{node_is}
@@ -22,6 +23,7 @@ use Rattle.acn_pack.specs.Packs.{Ran, Stopped, Packs, GoesOn}
 use Rattle.acn_pack.specs.Parts.{place_events, left_of, name_in, tests_in, item_events, case_tests}
 use Rattle.acn_pack.proofs.Cases.{rule_parts}
 use Rattle.acn_pack.proofs.Fields.{component_events, no_component, inserted_first, element_first}
+use Rattle.acn_pack.proofs.Levels.{form_by}
 use Rattle.acn_pack.proofs.Ways.{begin, then_some, then_on, left_as, whole_as, stop_some, stop_on, ended, packs_as, failed_one}
 
 -- as many elements as values
@@ -42,6 +44,12 @@ module _ {N S A : ℕ} (root : Grammar) where
   node_begins steps i s path d m h =
       let es = aligns s.align ∷ form_events root (form_at steps i s) path d in
       whole_as es (events root (node_at steps i) path d) es m m (sym (ap (λ (g : Grammar). events root g path d) (node_is steps i s h))) (begin es m)
+
+  -- the events of a step's body, by its act
+  pub body_as : {R : Type 0} (steps : List Step) (i : ℕ) (s : Step) (a : Act) (path q : List ℕ) (d : Data) (m n : Writer N S A) (why : HaltData) (r : Result R Halted)
+      → s.act ≡ a → Packs (form_events root (form_in a s.next (i + 1) (marks (i + 1) (drop (i + 1) steps))) path d) m n q why r → Packs (form_events root (form_at steps i s) path d) m n q why r
+  body_as steps i s a path q d m n why r is p =
+      packs_as (form_events root (form_in a s.next (i + 1) (marks (i + 1) (drop (i + 1) steps))) path d) (form_events root (form_at steps i s) path d) m n q why r (ap (λ (f : Form). form_events root f path d) (sym (form_by steps i s a is))) p
 
   -- Fields.
 

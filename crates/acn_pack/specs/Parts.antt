@@ -1,7 +1,8 @@
 -- Events of parts that the walk takes one by one. (This profile's own.)
-use Rattle.std.specs.Prelude.{◌≡◌, ◌≤◌, ℕ, zero, suc, pos, Bool, true, false, List, [], ◌∷◌, ◌++◌, map, drop, slice_get, Option, Some, None}
+use Rattle.std.specs.Prelude.{◌≡◌, ◌≤◌, ℕ, zero, suc, pos, Bool, true, false, List, [], ◌∷◌, ◌++◌, map, drop, slice_get, Option, Some, None, IsTrue}
 use Rattle.acn_grammar.specs.Asks.{Equal, index_of, same_name}
 use Rattle.acn_grammar.specs.Grammar.{Grammar, Fields, Alternatives, Data, node, num, no_alternatives, alternative}
+use Rattle.acn_grammar.specs.Leaves.{text_fine}
 use Rattle.acn_grammar.specs.Slots.{items_of}
 use Rattle.acn_grammar.specs.View.{OneAlternative, places_view}
 use Rattle.acn_grammar.specs.declared.node.ChoiceRule.{ChoiceRule}
@@ -12,6 +13,8 @@ use Rattle.acn_grammar.specs.declared.value.Value.{Value}
 use Rattle.acn_events.specs.Event.{Event, wants}
 use Rattle.acn_events.specs.Events.{events, field_events, own_events, presence_events, test_event}
 use Rattle.acn_plan.specs.Back.{StepAt, node_at, cases_at, case_items, item_at}
+use Rattle.acn_plan.specs.declared.step.Act.{Act}
+use Rattle.acn_plan.specs.declared.step.Act.TheVariants as acts
 use Rattle.acn_plan.specs.declared.step.Place.{Place}
 use Rattle.acn_plan.specs.declared.step.Place.TheVariants as places
 use Rattle.acn_plan.specs.declared.step.Step.{Step}
@@ -52,6 +55,20 @@ IsNumber _ = ⊥
 abbrev pub OwnIsNumber : Option ℕ → Grammar → Type 0
 OwnIsNumber None g = Unit {0}
 OwnIsNumber (Some s) g = IsNumber g
+
+-- octets, bits or a text
+abbrev pub says_string : Act → Bool
+says_string (acts.Octets sizing) = true
+says_string (acts.Bits sizing) = true
+says_string (acts.Text leaf) = true
+says_string _ = false
+
+-- octets, bits or a text of a leaf that is fine
+abbrev pub IsString : Act → Type 0
+IsString (acts.Octets sizing) = Unit {0}
+IsString (acts.Bits sizing) = Unit {0}
+IsString (acts.Text leaf) = IsTrue (text_fine leaf)
+IsString _ = ⊥
 
 -- where a slot's number says which alternative is there, the place has the item of its name
 abbrev pub IsItemed : (root : Grammar) → ChoiceRule → Place → Type 0

@@ -54,6 +54,7 @@ fn ask_test<const N: usize, const S: usize, const A: usize>(
 }
 
 /// What conditions ask, where what they stand at is there or not.
+#[inline(never)]
 pub fn ask_tests<const N: usize, const S: usize, const A: usize>(
     tests: &[Test],
     there: bool,

@@ -144,8 +144,10 @@ fn put_each<const N: usize, const S: usize, const A: usize>(
     }
 }
 
-/// A SEQUENCE begins: one bit for each component that has one, true where it is there.
-pub fn put_flags<const N: usize, const S: usize, const A: usize>(
+// A SEQUENCE begins where less room is left than for a bit of each component: the bits are counted.
+#[cold]
+#[inline(never)]
+fn put_counted<const N: usize, const S: usize, const A: usize>(
     steps: &[Step],
     first: usize,
     end: usize,
@@ -159,13 +161,31 @@ pub fn put_flags<const N: usize, const S: usize, const A: usize>(
 {
     let count = count_flags(steps, first, end, places);
     if w.has_room(count) {
-        if count == 0 {
-            return Ok(());
-        }
         put_each(steps, first, end, places, w);
         Ok(())
     } else {
         *why = Halt::Lost;
         Err(Halted)
+    }
+}
+
+/// A SEQUENCE begins: one bit for each component that has one, true where it is there.
+pub fn put_flags<const N: usize, const S: usize, const A: usize>(
+    steps: &[Step],
+    first: usize,
+    end: usize,
+    places: &[Option<Value>],
+    w: &mut Writer<'_, '_, N, S, A>,
+    why: &mut Halt,
+) -> Result<(), Halted>
+    requires made { IsMade steps.now }
+    requires within { end ≤ length steps.now }
+    ensures { (homes : List (ℕ × List ℕ)) (path : List ℕ) → Packs (begins homes (presence_bits (fields_at steps.now first end) (places_view places.now)) ∷ []) w.old w.new path why.new result }
+{
+    if w.has_room(places.len() as u64) {
+        put_each(steps, first, end, places, w);
+        Ok(())
+    } else {
+        put_counted(steps, first, end, places, w, why)
     }
 }

@@ -176,6 +176,20 @@ pub fn fill_home<const N: usize, const S: usize, const A: usize>(
 ) -> Result<(), Halted>
     ensures { (path : List ℕ) → Packs (map fills home.now) w.old w.new path why.new result }
 {
+    if home.is_empty() {
+        return Ok(());
+    }
+    fill_each(home, w, why)
+}
+
+#[inline(never)]
+fn fill_each<const N: usize, const S: usize, const A: usize>(
+    home: &[u32],
+    w: &mut Writer<'_, '_, N, S, A>,
+    why: &mut Halt,
+) -> Result<(), Halted>
+    ensures { (path : List ℕ) → Packs (map fills home.now) w.old w.new path why.new result }
+{
     for slot in home {
         w.fill(*slot, why)?;
     }

@@ -2,6 +2,7 @@
 #![tactic(auto)]
 
 mod asking;
+mod components;
 mod flags;
 mod leaves;
 mod node;

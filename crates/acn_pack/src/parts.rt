@@ -1,43 +1,34 @@
 //! Parts of fields and alternatives that hold no others.
 
 ghost use Rattle.std.specs.Prelude.{◌<◌, ℕ, List, length};
-ghost use Rattle.acn_grammar.specs.Grammar.{Grammar};
+ghost use Rattle.acn_grammar.specs.Grammar.{Grammar, node, num};
 ghost use Rattle.acn_grammar.specs.View.{data_of};
 ghost use Rattle.acn_plan.specs.Back.{node_at};
 ghost use Rattle.acn_events.specs.Events.{own_events, inserted_events};
 ghost use Rattle.acn_pack.specs.Packs.{Packs};
-ghost use Rattle.acn_pack.specs.Parts.{case_tests, item_events, name_in, tests_in, IsItemed, OwnIsNumber};
+ghost use Rattle.acn_pack.specs.Parts.{case_tests, item_events, name_in, tests_in, IsItemed};
 ghost use Rattle.acn_pack.specs.Sounds.{IsSound};
 
 use crate::asking::{ask_tests, equal};
 use crate::steps::{at, item_of, number_leaf, tests_of};
-use acn_grammar::{ChoiceRule, Value};
+use acn_grammar::{ChoiceRule, NumLeaf, Value};
 use acn_plan::{Place, Step};
 use acn_writer::{Halt, Halted, Writer};
 
 /// The number of a component is noted where it is a slot's.
 pub fn note_own<const N: usize, const S: usize, const A: usize>(
-    steps: &[Step],
-    this: usize,
+    leaf: &NumLeaf,
     slot: Option<u32>,
     v: &Value,
     w: &mut Writer<'_, '_, N, S, A>,
     why: &mut Halt,
 ) -> Result<(), Halted>
-    requires there { this < length steps.now }
-    requires own { OwnIsNumber slot (node_at steps.now this) }
-    ensures { (path : List ℕ) → Packs (own_events path slot (node_at steps.now this) (data_of v.now)) w.old w.new path why.new result }
+    ensures { (align : ℕ) (path : List ℕ) → Packs (own_events path slot (node align (num leaf.now)) (data_of v.now)) w.old w.new path why.new result }
 {
     match slot {
         Some(slot) => {
-            let step = at(steps, this);
-            match number_leaf(&step.act) {
-                Some(leaf) => {
-                    let x = v.number();
-                    w.note(slot, &leaf.set, x, why)
-                }
-                None => unreachable!(),
-            }
+            let x = v.number();
+            w.note(slot, &leaf.set, x, why)
         }
         None => Ok(()),
     }

@@ -8,7 +8,7 @@ ghost use Rattle.acn_plan.specs.declared.step.Act.TheVariants.{Num};
 ghost use Rattle.acn_plan.specs.declared.step.Step.{Step as StepData};
 ghost use Rattle.acn_plan.specs.Back.{StepAt, item_at, field_by, cases_at, case_places};
 ghost use Rattle.acn_plan.specs.Made.{IsMade};
-ghost use Rattle.acn_pack.specs.Parts.{tests_in, nth_case, IsCase};
+ghost use Rattle.acn_pack.specs.Parts.{says_string, tests_in, nth_case, IsCase};
 
 use acn_grammar::{NumLeaf, Presence, Test};
 use acn_plan::{Act, Place, Step};
@@ -35,6 +35,22 @@ pub fn number_leaf(act: &Act) -> Option<&NumLeaf>
         Act::List(_) => None,
         Act::Choice(_) => None,
         Act::Contained(_) => None,
+    }
+}
+
+/// Whether a step is octets, bits or a text.
+pub fn is_string(act: &Act) -> bool
+    ensures { result ≡ says_string act.now }
+{
+    match act {
+        Act::Octets(_) => true,
+        Act::Bits(_) => true,
+        Act::Text(_) => true,
+        Act::Num(_) => false,
+        Act::Seq(_) => false,
+        Act::List(_) => false,
+        Act::Choice(_) => false,
+        Act::Contained(_) => false,
     }
 }
 

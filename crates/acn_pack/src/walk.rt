@@ -3,11 +3,11 @@
 //! `T` stands for nothing: what the cycle asks of its own calls is stated as the code needs it only
 //! where the cycle is generic over a type, and not over numbers alone.
 
-ghost use Rattle.std.specs.Prelude.{◌≡◌, ◌<◌, ◌≤◌, ◌+◌, ℕ, suc, Some, List, ◌∷◌, [], ◌++◌, drop, length, option_map, OnOk, IfOk, IfSome};
+ghost use Rattle.std.specs.Prelude.{◌≡◌, ◌<◌, ◌≤◌, ◌+◌, ℕ, suc, Some, List, ◌∷◌, [], ◌++◌, drop, length, option_map, OnOk, IfOk, IfSome, true};
 ghost use Rattle.acn_grammar.specs.Grammar.{Fields, seq, list, contained, record_of, list_of, alt};
 ghost use Rattle.acn_grammar.specs.View.{data_of, elements_view, places_view, with_field};
 ghost use Rattle.acn_num.specs.declared.limits.TheConstants.{MOST_SIZE};
-ghost use Rattle.acn_events.specs.Events.{events, form_events, field_events, run_events, rule_events};
+ghost use Rattle.acn_events.specs.Events.{events, form_events, field_events, run_events, rule_events, presence_events};
 ghost use Rattle.acn_plan.specs.Back.{StepAt, root_of, node_at, form_at, fields_at, field_by};
 ghost use Rattle.acn_plan.specs.Made.{IsMade};
 ghost use Rattle.acn_plan.specs.declared.step.Act.TheVariants.{Choice as ChoiceAct};
@@ -17,12 +17,11 @@ ghost use Rattle.acn_pack.specs.Parts.{place_events, left_of, name_in, tests_in,
 ghost use Rattle.acn_pack.specs.Sounds.{IsSound, FormIsSound, FieldsAreSound};
 
 use crate::asking::{ask_presence, ask_size};
+use crate::components::{put_absent, put_numbered, put_string};
 use crate::flags::put_flags;
-use crate::leaves::{
-    fill_home, put_aligned, put_bits, put_end, put_index, put_number, put_octets, put_text,
-};
-use crate::parts::{ask_case, ask_item, note_own, put_inserted};
-use crate::steps::{Component, at, case_of, component_of, inserted_slot, number_leaf};
+use crate::leaves::{fill_home, put_bits, put_end, put_index, put_number, put_octets, put_text};
+use crate::parts::{ask_case, ask_item, put_inserted};
+use crate::steps::{Component, at, case_of, component_of, inserted_slot, is_string, number_leaf};
 use crate::trace::Trace;
 use crate::values::{case_in, elements_in, places_in};
 use acn_grammar::{ChoiceRule, Presence, Sizing, Value};
@@ -223,6 +222,7 @@ fn pack_field<'p, T, const N: usize, const S: usize, const A: usize>(
     }
 }
 
+// A component, which may be absent.
 #[cycle(pack)]
 fn pack_component<'p, T, const N: usize, const S: usize, const A: usize>(
     steps: &'p [Step],
@@ -240,59 +240,84 @@ fn pack_component<'p, T, const N: usize, const S: usize, const A: usize>(
     ensures packs { Packs (place_events (root_of steps.now) (node_at steps.now this) component.entry.presence.now component.entry.slot (trace.old.path ++ k ∷ []) (option_map data_of place.now)) w.old w.new trace.new.path trace.new.why result }
     ensures path { OnOk result (trace.new.path ≡ trace.old.path) }
 {
-    trace.path.push(k);
-    pack_place::<T, N, S, A>(steps, this, component, place, w, trace)?;
-    trace.path.pop();
-    Ok(())
-}
-
-// A component at the path, which may be absent.
-#[cycle(pack)]
-fn pack_place<'p, T, const N: usize, const S: usize, const A: usize>(
-    steps: &'p [Step],
-    this: usize,
-    component: Component<'p>,
-    place: &Option<Value>,
-    w: &mut Writer<'_, 'p, N, S, A>,
-    trace: &mut Trace,
-) -> Result<(), Halted>
-    requires made { IsMade steps.now }
-    requires there { this < length steps.now }
-    requires sound { IsSound (root_of steps.now) (length trace.old.path) (node_at steps.now this) }
-    requires own { OwnIsNumber component.slot (node_at steps.now this) }
-    ensures packs { Packs (place_events (root_of steps.now) (node_at steps.now this) component.entry.presence.now component.entry.slot trace.old.path (option_map data_of place.now)) w.old w.new trace.new.path trace.new.why result }
-    ensures path { OnOk result (trace.new.path ≡ trace.old.path) }
-{
     match place {
-        Some(v) => pack_there::<T, N, S, A>(steps, this, component, v, w, trace),
-        None => ask_presence(component.presence, false, w, &mut trace.why),
+        Some(v) => pack_there::<T, N, S, A>(steps, this, component, k, v, w, trace),
+        None => put_absent(component.presence, k, w, trace),
     }
 }
 
-// A component that is there. A number is put without a turn of the cycle.
+// A component that is there. What holds no others is put without a turn of the cycle.
 #[cycle(pack)]
 fn pack_there<'p, T, const N: usize, const S: usize, const A: usize>(
     steps: &'p [Step],
     this: usize,
     component: Component<'p>,
+    k: u32,
     v: &Value,
     w: &mut Writer<'_, 'p, N, S, A>,
     trace: &mut Trace,
 ) -> Result<(), Halted>
     requires made { IsMade steps.now }
     requires there { this < length steps.now }
-    requires sound { IsSound (root_of steps.now) (length trace.old.path) (node_at steps.now this) }
+    requires sound { IsSound (root_of steps.now) (suc (length trace.old.path)) (node_at steps.now this) }
     requires own { OwnIsNumber component.slot (node_at steps.now this) }
-    ensures packs { Packs (place_events (root_of steps.now) (node_at steps.now this) component.entry.presence.now component.entry.slot trace.old.path (Some (data_of v.now))) w.old w.new trace.new.path trace.new.why result }
+    ensures packs { Packs (place_events (root_of steps.now) (node_at steps.now this) component.entry.presence.now component.entry.slot (trace.old.path ++ k ∷ []) (Some (data_of v.now))) w.old w.new trace.new.path trace.new.why result }
     ensures path { OnOk result (trace.new.path ≡ trace.old.path) }
 {
-    note_own(steps, this, component.slot, v, w, &mut trace.why)?;
-    ask_presence(component.presence, true, w, &mut trace.why)?;
     let step = at(steps, this);
     match number_leaf(&step.act) {
-        Some(leaf) => put_aligned(step.align, leaf, v, w, &mut trace.why),
-        None => pack_step::<T, N, S, A>(steps, this, v, w, trace),
+        Some(leaf) => put_numbered(step.align, leaf, component, k, v, w, trace),
+        None => pack_other::<T, N, S, A>(steps, this, component.presence, k, v, w, trace),
     }
+}
+
+// A component that is there and is no number: it is a string, or holds others.
+#[cycle(pack)]
+fn pack_other<'p, T, const N: usize, const S: usize, const A: usize>(
+    steps: &'p [Step],
+    this: usize,
+    presence: &Presence,
+    k: u32,
+    v: &Value,
+    w: &mut Writer<'_, 'p, N, S, A>,
+    trace: &mut Trace,
+) -> Result<(), Halted>
+    requires made { IsMade steps.now }
+    requires there { this < length steps.now }
+    requires sound { IsSound (root_of steps.now) (suc (length trace.old.path)) (node_at steps.now this) }
+    ensures packs { Packs (presence_events (trace.old.path ++ k ∷ []) true presence.now ++ events (root_of steps.now) (node_at steps.now this) (trace.old.path ++ k ∷ []) (data_of v.now)) w.old w.new trace.new.path trace.new.why result }
+    ensures path { OnOk result (trace.new.path ≡ trace.old.path) }
+{
+    let step = at(steps, this);
+    if is_string(&step.act) {
+        put_string(step, presence, k, v, w, trace)
+    } else {
+        pack_inside::<T, N, S, A>(steps, this, presence, k, v, w, trace)
+    }
+}
+
+// A component that is there, by a turn of the cycle.
+#[cycle(pack)]
+fn pack_inside<'p, T, const N: usize, const S: usize, const A: usize>(
+    steps: &'p [Step],
+    this: usize,
+    presence: &Presence,
+    k: u32,
+    v: &Value,
+    w: &mut Writer<'_, 'p, N, S, A>,
+    trace: &mut Trace,
+) -> Result<(), Halted>
+    requires made { IsMade steps.now }
+    requires there { this < length steps.now }
+    requires sound { IsSound (root_of steps.now) (suc (length trace.old.path)) (node_at steps.now this) }
+    ensures packs { Packs (presence_events (trace.old.path ++ k ∷ []) true presence.now ++ events (root_of steps.now) (node_at steps.now this) (trace.old.path ++ k ∷ []) (data_of v.now)) w.old w.new trace.new.path trace.new.why result }
+    ensures path { OnOk result (trace.new.path ≡ trace.old.path) }
+{
+    trace.path.push(k);
+    ask_presence(presence, true, w, &mut trace.why)?;
+    pack_step::<T, N, S, A>(steps, this, v, w, trace)?;
+    trace.path.pop();
+    Ok(())
 }
 
 #[cycle(pack)]

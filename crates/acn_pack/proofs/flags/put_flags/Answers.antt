@@ -1,27 +1,17 @@
-use Rattle.std.proofs.Common.{rules, ◌≡◌, ℕ, length, sym, subst, arith}
+use Rattle.std.proofs.Common.{rules}
 use Rattle.acn_grammar.specs.Length.{presence_bits}
 use Rattle.acn_grammar.specs.View.{places_view}
 use Rattle.acn_plan.specs.Back.{fields_at}
-use Rattle.acn_events.specs.Steps.{Room}
 use Rattle.acn_writer.specs.Answers.{state_of}
-use Rattle.acn_pack.proofs.PresenceBits.{begins_ran, begins_none, begins_lost}
+use Rattle.acn_pack.proofs.PresenceBits.{begins_ran, room_for_flags}
 use Rattle.acn_pack.proofs.flags.put_flags.Goals as goal
 
 pub put_each-requires : goal.put_each-requires
-put_each-requires g c = (search rules, (c.requires.made, (c.requires.within, subst (λ (n : ℕ). Room n (state_of c.args.w.now)) c.count_flags-count.ensures (c.has_room.ensures.room c.if-has_room.true))))
+put_each-requires g c =
+    (search rules, (c.requires.made, (c.requires.within, room_for_flags (fields_at c.args.steps.now c.args.first c.args.end) c.args.places.now (state_of c.args.w.now) (c.has_room.ensures.room c.if-has_room.true))))
 
-pub returns-else-count-eq0 : goal.returns-else-count-eq0
-returns-else-count-eq0 g c = λ homes path.
-    let bits = presence_bits (fields_at c.args.steps.now c.args.first c.args.end) (places_view c.args.places.now) in
-    begins_ran homes bits c.args.w.now c.put_each.new.w (subst (λ (n : ℕ). Room n (state_of c.args.w.now)) c.count_flags-count.ensures (c.has_room.ensures.room c.if-has_room.true)) c.put_each.ensures.put c.put_each.ensures.same_buffer
-
-pub returns-then-count-eq0 : goal.returns-then-count-eq0
-returns-then-count-eq0 g c = λ homes path.
-    let bits = presence_bits (fields_at c.args.steps.now c.args.first c.args.end) (places_view c.args.places.now) in
-    let none : length bits ≡ 0 = (let e = c.count_flags-count.ensures in let zero = c.if-count-eq0.true in omega (arith, e, zero)) in
-    begins_none homes bits c.args.w.now none (subst (λ (n : ℕ). Room n (state_of c.args.w.now)) c.count_flags-count.ensures (c.has_room.ensures.room c.if-has_room.true))
-
-pub returns-else-has_room : goal.returns-else-has_room
-returns-else-has_room g c = λ homes path.
-    let bits = presence_bits (fields_at c.args.steps.now c.args.first c.args.end) (places_view c.args.places.now) in
-    begins_lost homes bits c.args.w.now (λ room. c.has_room.ensures.none c.if-has_room.false (subst (λ (n : ℕ). Room n (state_of c.args.w.now)) (sym c.count_flags-count.ensures) room))
+pub returns-then-has_room : goal.returns-then-has_room
+returns-then-has_room g c = λ homes path.
+    let fields = fields_at c.args.steps.now c.args.first c.args.end in
+    let room = room_for_flags fields c.args.places.now (state_of c.args.w.now) (c.has_room.ensures.room c.if-has_room.true) in
+    begins_ran homes (presence_bits fields (places_view c.args.places.now)) c.args.w.now c.put_each.new.w room c.put_each.ensures.put c.put_each.ensures.same_buffer

@@ -2,19 +2,19 @@ use Rattle.std.proofs.Common.{rules, true, ◌≡◌, ℕ, suc, ◌+◌, ◌≤�
 use Rattle.std.specs.Prelude.{option_map, IfSome}
 use Rattle.std.proofs.lemmas.Bool.{and_parts}
 use Rattle.acn_grammar.specs.Asks.{field_path}
-use Rattle.acn_grammar.specs.Grammar.{Grammar, Fields, num, octets, bits, text, seq, list, choice, contained, record_of, list_of, alt}
+use Rattle.acn_grammar.specs.Grammar.{Grammar, Fields, node, num, text, seq, list, choice, contained, record_of, list_of, alt}
 use Rattle.acn_grammar.specs.Leaves.{sizes_fine, list_rule_fine}
-use Rattle.acn_grammar.specs.Length.{ending, number_of, presence_bits}
+use Rattle.acn_grammar.specs.Length.{ending, presence_bits}
 use Rattle.acn_grammar.specs.View.{data_of, elements_view, places_view, with_field}
 use Rattle.acn_grammar.specs.declared.value.Value.{Value}
 use Rattle.acn_grammar.proofs.TextRules.{size_few}
-use Rattle.acn_events.specs.Event.{Event, aligns, begins, codes, fills, sizes}
+use Rattle.acn_events.specs.Event.{Event, aligns, begins, fills, sizes}
 use Rattle.acn_events.specs.Events.{events, form_events, field_events, index_events, case_events, run_events, size_wants, end_events, inserted_events, own_events, presence_events}
 use Rattle.acn_plan.specs.declared.step.Step.{Step}
-use Rattle.acn_plan.specs.Back.{StepAt, root_of, node_at, form_at, fields_at, cases_at, case_items, field_by}
+use Rattle.acn_plan.specs.Back.{StepAt, root_of, marks, node_at, form_at, fields_at, cases_at, case_items, field_by}
 use Rattle.acn_plan.specs.declared.step.Act.TheVariants as acts
 use Rattle.acn_plan.proofs.Mades.{made_nested, made_itemed}
-use Rattle.acn_plan.proofs.Marks.{fields_more, fields_none}
+use Rattle.acn_plan.proofs.Marks.{fields_more, fields_none, node_is}
 use Rattle.acn_writer.specs.Halts.{halt_of}
 use Rattle.acn_pack.specs.Packs.{Ran, Stopped, Packs}
 use Rattle.acn_pack.specs.Parts.{place_events, item_events, case_tests, left_of, name_in, tests_in, IsItemed}
@@ -25,8 +25,8 @@ use Rattle.acn_pack.proofs.Contents.{enter_fails, node_fails, align_fails, close
 use Rattle.acn_pack.proofs.Levels.{child_inside, form_by, inside, node_of_number, same_step, step_there}
 use Rattle.acn_pack.proofs.Fields.{below, no_element}
 use Rattle.acn_pack.proofs.Paths.{back}
-use Rattle.acn_pack.proofs.Sounding.{depth_is, body_sound, form_as, leaf_is_fine, num_is_fine, text_is_fine, list_is_fine, element_sound, content_sound, fields_sound, deeper, head_sound, rest_sound, own_is_number}
-use Rattle.acn_pack.proofs.Walking.{node_begins, component_on, component_stops, component_ends, inserted_on, inserted_stops, field_on, field_ends, field_stops, element_events, element_on, element_stops, list_begins, case_whole, case_begins}
+use Rattle.acn_pack.proofs.Sounding.{depth_is, body_sound, form_as, leaf_is_fine, num_is_fine, text_is_fine, list_is_fine, element_sound, content_sound, fields_sound, deeper, head_sound, rest_sound, own_is_number, no_own, string_is_fine}
+use Rattle.acn_pack.proofs.Walking.{node_begins, body_as, component_on, component_stops, component_ends, inserted_on, inserted_stops, field_on, field_ends, field_stops, element_events, element_on, element_stops, list_begins, case_whole, case_begins}
 use Rattle.acn_pack.proofs.Ways.{begin, then_one, then_some, left_as, packs_as, ended, nothing, last, failed, failed_to, failed_one, failed_some, ran_on, stopped_as, stop_some, stop_on}
 use Rattle.acn_pack.proofs.walk.+pack.Goals as goal
 
@@ -66,25 +66,19 @@ pub pack_body-returns-in-Num-clause-packs : goal.pack_body-returns-in-Num-clause
 pack_body-returns-in-Num-clause-packs g t c =
     let root = root_of c.args.steps.now in
     let p = c.args.trace.now.path in
-    let d = data_of c.args.v.now in
-    packs_as (form_events root (num c.in-Num.leaf) p d) (form_events root (form_at c.args.steps.now c.args.this c.args.step.now) p d) c.args.w.now c.put_number.new.w p c.put_number.new.why c.put_number.result
-    (ap (λ f. form_events root f p d) (sym (form_by c.args.steps.now c.args.this c.args.step.now (acts.Num c.in-Num.leaf) c.in-Num.is))) (c.put_number.ensures p)
+    body_as root c.args.steps.now c.args.this c.args.step.now (acts.Num c.in-Num.leaf) p p (data_of c.args.v.now) c.args.w.now c.put_number.new.w c.put_number.new.why c.put_number.result c.in-Num.is (c.put_number.ensures p)
 
 pub pack_body-returns-in-Octets-clause-packs : goal.pack_body-returns-in-Octets-clause-packs
 pack_body-returns-in-Octets-clause-packs g t c =
     let root = root_of c.args.steps.now in
     let p = c.args.trace.now.path in
-    let d = data_of c.args.v.now in
-    packs_as (form_events root (octets c.in-Octets.sizing) p d) (form_events root (form_at c.args.steps.now c.args.this c.args.step.now) p d) c.args.w.now c.put_octets.new.w p c.put_octets.new.why c.put_octets.result
-    (ap (λ f. form_events root f p d) (sym (form_by c.args.steps.now c.args.this c.args.step.now (acts.Octets c.in-Octets.sizing) c.in-Octets.is))) (c.put_octets.ensures root p)
+    body_as root c.args.steps.now c.args.this c.args.step.now (acts.Octets c.in-Octets.sizing) p p (data_of c.args.v.now) c.args.w.now c.put_octets.new.w c.put_octets.new.why c.put_octets.result c.in-Octets.is (c.put_octets.ensures root p)
 
 pub pack_body-returns-in-Bits-clause-packs : goal.pack_body-returns-in-Bits-clause-packs
 pack_body-returns-in-Bits-clause-packs g t c =
     let root = root_of c.args.steps.now in
     let p = c.args.trace.now.path in
-    let d = data_of c.args.v.now in
-    packs_as (form_events root (bits c.in-Bits.sizing) p d) (form_events root (form_at c.args.steps.now c.args.this c.args.step.now) p d) c.args.w.now c.put_bits.new.w p c.put_bits.new.why c.put_bits.result
-    (ap (λ f. form_events root f p d) (sym (form_by c.args.steps.now c.args.this c.args.step.now (acts.Bits c.in-Bits.sizing) c.in-Bits.is))) (c.put_bits.ensures root p)
+    body_as root c.args.steps.now c.args.this c.args.step.now (acts.Bits c.in-Bits.sizing) p p (data_of c.args.v.now) c.args.w.now c.put_bits.new.w c.put_bits.new.why c.put_bits.result c.in-Bits.is (c.put_bits.ensures root p)
 
 pub pack_body-put_text-requires : goal.pack_body-put_text-requires
 pack_body-put_text-requires g t c =
@@ -96,9 +90,7 @@ pub pack_body-returns-in-Text-clause-packs : goal.pack_body-returns-in-Text-clau
 pack_body-returns-in-Text-clause-packs g t c =
     let root = root_of c.args.steps.now in
     let p = c.args.trace.now.path in
-    let d = data_of c.args.v.now in
-    packs_as (form_events root (text c.in-Text.leaf) p d) (form_events root (form_at c.args.steps.now c.args.this c.args.step.now) p d) c.args.w.now c.put_text.new.w p c.put_text.new.why c.put_text.result
-    (ap (λ f. form_events root f p d) (sym (form_by c.args.steps.now c.args.this c.args.step.now (acts.Text c.in-Text.leaf) c.in-Text.is))) (c.put_text.ensures root p)
+    body_as root c.args.steps.now c.args.this c.args.step.now (acts.Text c.in-Text.leaf) p p (data_of c.args.v.now) c.args.w.now c.put_text.new.w c.put_text.new.why c.put_text.result c.in-Text.is (c.put_text.ensures root p)
 
 pub pack_body-pack_seq-requires : goal.pack_body-pack_seq-requires
 pack_body-pack_seq-requires g t c κs within =
@@ -127,11 +119,7 @@ pack_body-pack_list-requires g t c κs within =
 
 pub pack_body-returns-in-List-clause-packs : goal.pack_body-returns-in-List-clause-packs
 pack_body-returns-in-List-clause-packs g t c =
-    let root = root_of c.args.steps.now in
-    let p = c.args.trace.now.path in
-    let d = data_of c.args.v.now in
-    packs_as (form_events root (list c.in-List.sizing (node_at c.args.steps.now (c.args.this + 1))) p d) (form_events root (form_at c.args.steps.now c.args.this c.args.step.now) p d) c.args.w.now c.pack_list.new.w c.pack_list.new.trace.path c.pack_list.new.trace.why c.pack_list.result
-    (ap (λ f. form_events root f p d) (sym (form_by c.args.steps.now c.args.this c.args.step.now (acts.List c.in-List.sizing) c.in-List.is))) c.pack_list.ensures.packs
+    body_as (root_of c.args.steps.now) c.args.steps.now c.args.this c.args.step.now (acts.List c.in-List.sizing) c.args.trace.now.path c.pack_list.new.trace.path (data_of c.args.v.now) c.args.w.now c.pack_list.new.w c.pack_list.new.trace.why c.pack_list.result c.in-List.is c.pack_list.ensures.packs
 
 pub pack_body-pack_choice-requires : goal.pack_body-pack_choice-requires
 pack_body-pack_choice-requires g t c κs within =
@@ -154,11 +142,7 @@ pack_body-pack_contained-requires g t c κs within =
 
 pub pack_body-returns-in-Contained-clause-packs : goal.pack_body-returns-in-Contained-clause-packs
 pack_body-returns-in-Contained-clause-packs g t c =
-    let root = root_of c.args.steps.now in
-    let p = c.args.trace.now.path in
-    let d = data_of c.args.v.now in
-    packs_as (form_events root (contained c.in-Contained.sizing (node_at c.args.steps.now (c.args.this + 1))) p d) (form_events root (form_at c.args.steps.now c.args.this c.args.step.now) p d) c.args.w.now c.pack_contained.new.w c.pack_contained.new.trace.path c.pack_contained.new.trace.why c.pack_contained.result
-    (ap (λ f. form_events root f p d) (sym (form_by c.args.steps.now c.args.this c.args.step.now (acts.Contained c.in-Contained.sizing) c.in-Contained.is))) c.pack_contained.ensures.packs
+    body_as (root_of c.args.steps.now) c.args.steps.now c.args.this c.args.step.now (acts.Contained c.in-Contained.sizing) c.args.trace.now.path c.pack_contained.new.trace.path (data_of c.args.v.now) c.args.w.now c.pack_contained.new.w c.pack_contained.new.trace.why c.pack_contained.result c.in-Contained.is c.pack_contained.ensures.packs
 
 -- A node inside another.
 
@@ -390,99 +374,121 @@ pack_field-returns-in_ok-put_inserted-in-None-clause-packs g t c fs s h =
 
 -- Components.
 
-pub pack_component-push-requires : goal.pack_component-push-requires
-pack_component-push-requires g t c =
-    let deep = depth_is (root_of c.args.steps.now) (suc (length c.args.trace.now.path)) (node_at c.args.steps.now c.args.this) c.requires.sound in omega (arith, deep)
+pub pack_component-put_absent-requires : goal.pack_component-put_absent-requires
+pack_component-put_absent-requires g t c =
+    let deep = depth_is (root_of c.args.steps.now) (suc (length c.args.trace.now.path)) (node_at c.args.steps.now c.args.this) c.requires.sound in (c.requires-raw.1.1.1.1.1.0, omega (arith, deep))
 
-pub pack_component-pack_place-requires : goal.pack_component-pack_place-requires
-pack_component-pack_place-requires g t c κs within =
-    (omega arith, (within, (search rules, (search rules, (search rules, (search rules, (c.requires.made, (c.requires.there, (deeper (root_of c.args.steps.now) (length c.args.trace.now.path) c.args.trace.now.path c.push.new.self c.args.k (node_at c.args.steps.now c.args.this) refl c.push.ensures c.requires.sound, c.requires.own)))))))))
-
-pub pack_component-returns-in_err-pack_place-clause-packs : goal.pack_component-returns-in_err-pack_place-clause-packs
-pack_component-returns-in_err-pack_place-clause-packs g t c =
-    let root = root_of c.args.steps.now in
-    let n = node_at c.args.steps.now c.args.this in
-    let d = option_map data_of c.args.place.now in
-    let es : List ℕ → List Event = λ q. place_events root n c.args.component.presence.now c.args.component.slot q d in
-    failed (es (c.args.trace.now.path ++ c.args.k ∷ [])) c.args.w.now c.pack_place.new.w c.pack_place.new.trace.path c.pack_place.new.trace.why c.in_err-pack_place.field-0.0 c.from_residual.result c.from_residual.ensures.1
-    (stopped_as (es c.push.new.self) (es (c.args.trace.now.path ++ c.args.k ∷ [])) c.args.w.now c.pack_place.new.w _ (ap es c.push.ensures) c.in_err-pack_place.ensures.packs)
-
-pub pack_component-returns-clause-packs : goal.pack_component-returns-clause-packs
-pack_component-returns-clause-packs g t c =
-    let root = root_of c.args.steps.now in
-    let n = node_at c.args.steps.now c.args.this in
-    let d = option_map data_of c.args.place.now in
-    subst (λ (q : List ℕ). Ran (place_events root n c.args.component.presence.now c.args.component.slot q d) c.args.w.now c.pack_place.new.w) c.push.ensures c.in_ok-pack_place.ensures.packs
-
-pub pack_place-returns-in-Some-clause-packs : goal.pack_place-returns-in-Some-clause-packs
-pack_place-returns-in-Some-clause-packs g t c =
-    let es : Option Value → List Event = λ o. place_events (root_of c.args.steps.now) (node_at c.args.steps.now c.args.this) c.args.component.presence.now c.args.component.slot c.args.trace.now.path (option_map data_of o) in
+pub pack_component-returns-in-Some-clause-packs : goal.pack_component-returns-in-Some-clause-packs
+pack_component-returns-in-Some-clause-packs g t c =
+    let q = c.args.trace.now.path ++ c.args.k ∷ [] in
+    let es : Option Value → List Event = λ o. place_events (root_of c.args.steps.now) (node_at c.args.steps.now c.args.this) c.args.component.presence.now c.args.component.slot q (option_map data_of o) in
     packs_as (es (Some c.in-Some.v)) (es c.args.place.now) c.args.w.now c.pack_there.new.w c.pack_there.new.trace.path c.pack_there.new.trace.why c.pack_there.result (ap es (sym c.in-Some.is)) c.pack_there.ensures.packs
 
-pub pack_place-returns-in-None-clause-packs : goal.pack_place-returns-in-None-clause-packs
-pack_place-returns-in-None-clause-packs g t c =
-    let es : Option Value → List Event = λ o. place_events (root_of c.args.steps.now) (node_at c.args.steps.now c.args.this) c.args.component.presence.now c.args.component.slot c.args.trace.now.path (option_map data_of o) in
-    packs_as (es None) (es c.args.place.now) c.args.w.now c.ask_presence.new.w c.args.trace.now.path c.ask_presence.new.why c.ask_presence.result (ap es (sym c.in-None.is)) (c.ask_presence.ensures c.args.trace.now.path)
+pub pack_component-returns-in-None-clause-packs : goal.pack_component-returns-in-None-clause-packs
+pack_component-returns-in-None-clause-packs g t c =
+    let q = c.args.trace.now.path ++ c.args.k ∷ [] in
+    let es : Option Value → List Event = λ o. place_events (root_of c.args.steps.now) (node_at c.args.steps.now c.args.this) c.args.component.presence.now c.args.component.slot q (option_map data_of o) in
+    packs_as (es None) (es c.args.place.now) c.args.w.now c.put_absent.new.w c.put_absent.new.trace.path c.put_absent.new.trace.why c.put_absent.result (ap es (sym c.in-None.is)) c.put_absent.ensures.packs
 
-pub pack_there-note_own-requires : goal.pack_there-note_own-requires
-pack_there-note_own-requires g t c = (search rules, (c.requires.there, c.requires.own))
-
-pub pack_there-pack_step-requires : goal.pack_there-pack_step-requires
-pack_there-pack_step-requires g t c κs within = (omega arith, (within, (search rules, (search rules, (search rules, (c.requires-raw.1.1.1.1.1.0, (c.requires.made, (c.requires.there, c.requires.sound))))))))
-
-pub pack_there-returns-in_err-note_own-clause-packs : goal.pack_there-returns-in_err-note_own-clause-packs
-pack_there-returns-in_err-note_own-clause-packs g t c =
+pub pack_there-put_numbered-requires : goal.pack_there-put_numbered-requires
+pack_there-put_numbered-requires g t c =
     let root = root_of c.args.steps.now in
+    let k = suc (length c.args.trace.now.path) in
     let n = node_at c.args.steps.now c.args.this in
-    let p = c.args.trace.now.path in
-    let d = data_of c.args.v.now in
-    let whole = place_events root n c.args.component.presence.now c.args.component.slot p (Some d) in
-    failed_some whole (own_events p c.args.component.slot n d) (presence_events p true c.args.component.presence.now ++ events root n p d) p c.args.w.now c.args.w.now c.note_own.new.w c.note_own.new.why c.in_err-note_own.field-0.0 c.from_residual.result c.from_residual.ensures.1 (begin whole c.args.w.now) (c.in_err-note_own.ensures p)
-
-pub pack_there-returns-in_err-ask_presence-clause-packs : goal.pack_there-returns-in_err-ask_presence-clause-packs
-pack_there-returns-in_err-ask_presence-clause-packs g t c =
-    let root = root_of c.args.steps.now in
-    let n = node_at c.args.steps.now c.args.this in
-    let p = c.args.trace.now.path in
-    let d = data_of c.args.v.now in
-    let asked = presence_events p true c.args.component.presence.now in
-    let whole = place_events root n c.args.component.presence.now c.args.component.slot p (Some d) in
-    failed_some whole asked (events root n p d) p c.args.w.now c.note_own.new.w c.ask_presence.new.w c.ask_presence.new.why c.in_err-ask_presence.field-0.0 c.from_residual-in_err-ask_presence.result c.from_residual-in_err-ask_presence.ensures.1
-    (then_some whole (own_events p c.args.component.slot n d) (asked ++ events root n p d) c.args.w.now c.args.w.now c.note_own.new.w (begin whole c.args.w.now) (c.in_ok-note_own.ensures p)) (c.in_err-ask_presence.ensures p)
-
-pub pack_there-put_aligned-requires : goal.pack_there-put_aligned-requires
-pack_there-put_aligned-requires g t c =
     let s = c.at-step.result.now in
     let leaf = c.in-Some.leaf.now in
-    (c.requires-raw.1.1.1.1.1.0, leaf_is_fine (root_of c.args.steps.now) (length c.args.trace.now.path) (node_at c.args.steps.now c.args.this) s.align leaf (node_of_number c.args.steps.now c.args.this s leaf c.at-step.ensures c.in-Some.ensures.some) c.requires.sound)
+    let deep = depth_is root k n c.requires.sound in
+    (c.requires-raw.1.1.1.1.1.0, (leaf_is_fine root k n s.align leaf (node_of_number c.args.steps.now c.args.this s leaf c.at-step.ensures c.in-Some.ensures.some) c.requires.sound, omega (arith, deep)))
 
 pub pack_there-returns-in-Some-clause-packs : goal.pack_there-returns-in-Some-clause-packs
 pack_there-returns-in-Some-clause-packs g t c =
     let root = root_of c.args.steps.now in
-    let n = node_at c.args.steps.now c.args.this in
-    let p = c.args.trace.now.path in
-    let d = data_of c.args.v.now in
     let s = c.at-step.result.now in
     let leaf = c.in-Some.leaf.now in
-    let asked = presence_events p true c.args.component.presence.now in
-    let whole = place_events root n c.args.component.presence.now c.args.component.slot p (Some d) in
     let is = node_of_number c.args.steps.now c.args.this s leaf c.at-step.ensures c.in-Some.ensures.some in
-    let number = aligns s.align ∷ codes leaf (number_of d) ∷ [] in
-    last whole (events root n p d) c.args.w.now c.ask_presence.new.w c.put_aligned.new.w p c.put_aligned.new.why c.put_aligned.result
-    (then_some whole asked (events root n p d) c.args.w.now c.note_own.new.w c.ask_presence.new.w (then_some whole (own_events p c.args.component.slot n d) (asked ++ events root n p d) c.args.w.now c.args.w.now c.note_own.new.w (begin whole c.args.w.now) (c.in_ok-note_own.ensures p)) (c.in_ok-ask_presence.ensures p))
-    (packs_as number (events root n p d) c.ask_presence.new.w c.put_aligned.new.w p c.put_aligned.new.why c.put_aligned.result (ap (λ (y : Grammar). events root y p d) (sym is)) (c.put_aligned.ensures p))
+    let es = λ (y : Grammar). place_events root y c.args.component.presence.now c.args.component.slot (c.args.trace.now.path ++ c.args.k ∷ []) (Some (data_of c.args.v.now)) in
+    packs_as (es (node s.align (num leaf))) (es (node_at c.args.steps.now c.args.this)) c.args.w.now c.put_numbered.new.w c.put_numbered.new.trace.path c.put_numbered.new.trace.why c.put_numbered.result (ap es (sym is)) (c.put_numbered.ensures.packs root)
+
+pub pack_there-pack_other-requires : goal.pack_there-pack_other-requires
+pack_there-pack_other-requires g t c κs within = (omega arith, (within, (search rules, (search rules, (search rules, (search rules, (c.requires.made, (c.requires.there, c.requires.sound))))))))
 
 pub pack_there-returns-in-None-clause-packs : goal.pack_there-returns-in-None-clause-packs
 pack_there-returns-in-None-clause-packs g t c =
+    let q = c.args.trace.now.path ++ c.args.k ∷ [] in
+    let n = node_at c.args.steps.now c.args.this in
+    let d = data_of c.args.v.now in
+    let rest = presence_events q true c.args.component.presence.now ++ events (root_of c.args.steps.now) n q d in
+    let none = no_own c.args.component.slot c.args.steps.now c.args.this c.at-step.result.now q d c.at-step.ensures c.requires.own c.in-None.ensures.none in
+    packs_as rest (own_events q c.args.component.slot n d ++ rest) c.args.w.now c.pack_other.new.w c.pack_other.new.trace.path c.pack_other.new.trace.why c.pack_other.result (ap (λ (es : List Event). es ++ rest) (sym none)) c.pack_other.ensures.packs
+
+pub pack_other-put_string-requires : goal.pack_other-put_string-requires
+pack_other-put_string-requires g t c =
+    let root = root_of c.args.steps.now in
+    let k = suc (length c.args.trace.now.path) in
+    let n = node_at c.args.steps.now c.args.this in
+    let s = c.at-step.result.now in
+    let deep = depth_is root k n c.requires.sound in
+    let says = sym c.is_string.ensures ∙ c.if-is_string.true in
+    (c.requires-raw.1.1.1.1.1.0, (string_is_fine root k s.act s.next (c.args.this + 1) _ says (body_sound root k c.args.steps.now c.args.this s c.at-step.ensures c.requires.sound), omega (arith, deep)))
+
+pub pack_other-returns-then-is_string-clause-packs : goal.pack_other-returns-then-is_string-clause-packs
+pack_other-returns-then-is_string-clause-packs g t c =
+    let root = root_of c.args.steps.now in
+    let q = c.args.trace.now.path ++ c.args.k ∷ [] in
+    let s = c.at-step.result.now in
+    let d = data_of c.args.v.now in
+    let es = λ (y : Grammar). presence_events q true c.args.presence.now ++ events root y q d in
+    let is = node_is c.args.steps.now c.args.this s c.at-step.ensures in
+    packs_as (es (node s.align (form_at c.args.steps.now c.args.this s))) (es (node_at c.args.steps.now c.args.this)) c.args.w.now c.put_string.new.w c.put_string.new.trace.path c.put_string.new.trace.why c.put_string.result (ap es (sym is)) (c.put_string.ensures.packs root s.next (c.args.this + 1) (marks (c.args.this + 1) (drop (c.args.this + 1) c.args.steps.now)))
+
+pub pack_other-pack_inside-requires : goal.pack_other-pack_inside-requires
+pack_other-pack_inside-requires g t c κs within = (omega arith, (within, (search rules, (search rules, (search rules, (search rules, (c.requires.made, (c.requires.there, c.requires.sound))))))))
+
+pub pack_inside-push-requires : goal.pack_inside-push-requires
+pack_inside-push-requires g t c =
+    let deep = depth_is (root_of c.args.steps.now) (suc (length c.args.trace.now.path)) (node_at c.args.steps.now c.args.this) c.requires.sound in omega (arith, deep)
+
+pub pack_inside-pack_step-requires : goal.pack_inside-pack_step-requires
+pack_inside-pack_step-requires g t c κs within =
+    (omega arith, (within, (search rules, (search rules, (search rules, (search rules, (c.requires.made, (c.requires.there, deeper (root_of c.args.steps.now) (length c.args.trace.now.path) c.args.trace.now.path c.push.new.self c.args.k (node_at c.args.steps.now c.args.this) refl c.push.ensures c.requires.sound))))))))
+
+pub pack_inside-returns-in_err-ask_presence-clause-packs : goal.pack_inside-returns-in_err-ask_presence-clause-packs
+pack_inside-returns-in_err-ask_presence-clause-packs g t c =
     let root = root_of c.args.steps.now in
     let n = node_at c.args.steps.now c.args.this in
-    let p = c.args.trace.now.path in
     let d = data_of c.args.v.now in
-    let asked = presence_events p true c.args.component.presence.now in
-    let whole = place_events root n c.args.component.presence.now c.args.component.slot p (Some d) in
-    last whole (events root n p d) c.args.w.now c.ask_presence.new.w c.pack_step.new.w c.pack_step.new.trace.path c.pack_step.new.trace.why c.pack_step.result
-    (then_some whole asked (events root n p d) c.args.w.now c.note_own.new.w c.ask_presence.new.w (then_some whole (own_events p c.args.component.slot n d) (asked ++ events root n p d) c.args.w.now c.args.w.now c.note_own.new.w (begin whole c.args.w.now) (c.in_ok-note_own.ensures p)) (c.in_ok-ask_presence.ensures p))
-    c.pack_step.ensures.packs
+    let q = c.push.new.self in
+    let es = λ (x : List ℕ). presence_events x true c.args.presence.now ++ events root n x d in
+    packs_as (es q) (es (c.args.trace.now.path ++ c.args.k ∷ [])) c.args.w.now c.ask_presence.new.w q c.ask_presence.new.why c.from_residual.result (ap es c.push.ensures)
+    (failed_some (es q) (presence_events q true c.args.presence.now) (events root n q d) q c.args.w.now c.args.w.now c.ask_presence.new.w c.ask_presence.new.why c.in_err-ask_presence.field-0.0 c.from_residual.result c.from_residual.ensures.1 (begin (es q) c.args.w.now) (c.in_err-ask_presence.ensures q))
+
+pub pack_inside-returns-in_err-pack_step-clause-packs : goal.pack_inside-returns-in_err-pack_step-clause-packs
+pack_inside-returns-in_err-pack_step-clause-packs g t c =
+    let root = root_of c.args.steps.now in
+    let n = node_at c.args.steps.now c.args.this in
+    let d = data_of c.args.v.now in
+    let q = c.push.new.self in
+    let es = λ (x : List ℕ). presence_events x true c.args.presence.now ++ events root n x d in
+    let path = c.pack_step.new.trace.path in
+    let why = c.pack_step.new.trace.why in
+    let asked = then_some (es q) (presence_events q true c.args.presence.now) (events root n q d) c.args.w.now c.args.w.now c.ask_presence.new.w (begin (es q) c.args.w.now) (c.in_ok-ask_presence.ensures q) in
+    packs_as (es q) (es (c.args.trace.now.path ++ c.args.k ∷ [])) c.args.w.now c.pack_step.new.w path why c.from_residual-in_err-pack_step.result (ap es c.push.ensures)
+    (failed (es q) c.args.w.now c.pack_step.new.w path why c.in_err-pack_step.field-0.0 c.from_residual-in_err-pack_step.result c.from_residual-in_err-pack_step.ensures.1
+    (stop_on (es q) (events root n q d) c.args.w.now c.ask_presence.new.w c.pack_step.new.w (halt_of path why) asked c.in_err-pack_step.ensures.packs))
+
+pub pack_inside-returns-clause-packs : goal.pack_inside-returns-clause-packs
+pack_inside-returns-clause-packs g t c =
+    let root = root_of c.args.steps.now in
+    let n = node_at c.args.steps.now c.args.this in
+    let d = data_of c.args.v.now in
+    let q = c.push.new.self in
+    let es = λ (x : List ℕ). presence_events x true c.args.presence.now ++ events root n x d in
+    let asked = then_some (es q) (presence_events q true c.args.presence.now) (events root n q d) c.args.w.now c.args.w.now c.ask_presence.new.w (begin (es q) c.args.w.now) (c.in_ok-ask_presence.ensures q) in
+    subst (λ (x : List ℕ). Ran (es x) c.args.w.now c.pack_step.new.w) c.push.ensures (ran_on (es q) (events root n q d) c.args.w.now c.ask_presence.new.w c.pack_step.new.w asked c.in_ok-pack_step.ensures.packs)
+
+pub pack_inside-returns-clause-path : goal.pack_inside-returns-clause-path
+pack_inside-returns-clause-path g t c =
+    back c.args.trace.now.path c.pack_step.new.trace.path c.pop.new.self c.args.k c.pop.result (c.in_ok-pack_step.ensures.path ∙ c.push.ensures) c.pop.ensures
 
 -- Lists.
 

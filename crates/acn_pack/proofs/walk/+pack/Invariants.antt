@@ -16,25 +16,28 @@ abbrev pub decreases-pack_child : goal.decreases-pack_child
 decreases-pack_child g l = 10 * (length l.steps.now - l.this) + 4
 
 abbrev pub decreases-pack_seq : goal.decreases-pack_seq
-decreases-pack_seq g l = 10 * (length l.steps.now - l.first) + 10
+decreases-pack_seq g l = 10 * (length l.steps.now - l.first) + 11
 
 abbrev pub decreases-pack_places : goal.decreases-pack_places
-decreases-pack_places g l = 10 * (length l.steps.now - l.first) + 9
+decreases-pack_places g l = 10 * (length l.steps.now - l.first) + 10
 
 abbrev pub decreases-pack_fields : goal.decreases-pack_fields
-decreases-pack_fields g l = 10 * (length l.steps.now - l.first) + 8
+decreases-pack_fields g l = 10 * (length l.steps.now - l.first) + 9
 
 abbrev pub decreases-pack_field : goal.decreases-pack_field
-decreases-pack_field g l = 10 * (length l.steps.now - l.this) + 7
+decreases-pack_field g l = 10 * (length l.steps.now - l.this) + 8
 
 abbrev pub decreases-pack_component : goal.decreases-pack_component
-decreases-pack_component g l = 10 * (length l.steps.now - l.this) + 6
-
-abbrev pub decreases-pack_place : goal.decreases-pack_place
-decreases-pack_place g l = 10 * (length l.steps.now - l.this) + 5
+decreases-pack_component g l = 10 * (length l.steps.now - l.this) + 7
 
 abbrev pub decreases-pack_there : goal.decreases-pack_there
-decreases-pack_there g l = 10 * (length l.steps.now - l.this) + 4
+decreases-pack_there g l = 10 * (length l.steps.now - l.this) + 6
+
+abbrev pub decreases-pack_other : goal.decreases-pack_other
+decreases-pack_other g l = 10 * (length l.steps.now - l.this) + 5
+
+abbrev pub decreases-pack_inside : goal.decreases-pack_inside
+decreases-pack_inside g l = 10 * (length l.steps.now - l.this) + 4
 
 abbrev pub decreases-pack_list : goal.decreases-pack_list
 decreases-pack_list g l = 10 * (length l.steps.now - l.this) + 10

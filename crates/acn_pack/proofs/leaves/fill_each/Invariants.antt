@@ -1,7 +1,7 @@
 use Rattle.std.proofs.Common.{drop, map}
 use Rattle.acn_events.specs.Event.{fills}
 use Rattle.acn_pack.specs.Packs.{GoesOn}
-use Rattle.acn_pack.proofs.leaves.fill_home.Given as goal
+use Rattle.acn_pack.proofs.leaves.fill_each.Given as goal
 
 abbrev pub invariant-loop-slot : goal.invariant-loop-slot
 invariant-loop-slot g l = record {

@@ -2,7 +2,7 @@ use Rattle.std.proofs.Common.{[], drop, map, arith}
 use Rattle.acn_events.specs.Event.{fills}
 use Rattle.acn_pack.proofs.Fields.{no_item}
 use Rattle.acn_pack.proofs.Ways.{begin, came, each_on, each_stops, ended, halted, left_as}
-use Rattle.acn_pack.proofs.leaves.fill_home.Goals as goal
+use Rattle.acn_pack.proofs.leaves.fill_each.Goals as goal
 
 pub loop-slot-init : goal.loop-slot-init
 loop-slot-init g c = record { done = begin (map fills c.args.home.now) c.args.w.now }
