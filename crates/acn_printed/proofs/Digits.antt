@@ -1,12 +1,12 @@
 -- Hexadecimal digits, which stand for themselves in a string.
-use Rattle.std.proofs.Common.{◌≡◌, ℕ, zero, suc, ◌+◌, ◌*◌, ◌<◌, ◌/◌, ◌%◌, Bool, true, not, ◌&&◌, ◌==◌, nat_lt, List, [], ◌∷◌, ◌++◌, length, take, get_or, set, slice_index, refl, sym, ap, ◌∙◌, append_assoc, arith}
+use Rattle.std.proofs.Common.{◌≡◌, ℕ, zero, suc, ◌+◌, ◌<◌, ◌/◌, ◌%◌, Bool, true, not, ◌&&◌, ◌==◌, nat_lt, List, [], ◌∷◌, ◌++◌, length, drop, get_or, slice_index, refl, sym, ap, ◌∙◌, append_assoc, arith}
 use Rattle.std.specs.Char.{digit_char}
 use Rattle.std.specs.List.{list_all}
 use Rattle.std.proofs.lemmas.Bool.{and_parts, eqb-true, cases_lt}
 use Rattle.std.proofs.Common.{inl, inr}
 use Rattle.hex.specs.Hex.{encode_lower, encode_with, lower_digits}
 use Rattle.json.specs.Print.{escape, escape_byte}
-use Rattle.std.proofs.lemmas.List.{take_more, take_more_set}
+use Rattle.std.proofs.lemmas.List.{drop_more}
 use Rattle.std.proofs.lemmas.List.Concat.{flat_map-append}
 use Rattle.acn_json.proofs.Escapes.{plain-escape}
 
@@ -64,23 +64,25 @@ encode_append t (x ∷ a) b = ap (λ r. slice_index t (x / 16) ∷ slice_index t
 pub digits_append : (a b : List ℕ) → escape (encode_lower (a ++ b)) ≡ escape (encode_lower a) ++ escape (encode_lower b)
 digits_append a b = ap escape (encode_append _ a b) ∙ flat_map-append escape_byte (encode_lower a) (encode_lower b)
 
-pub no-digits : (digits octets : List ℕ) → escape (encode_lower (take 0 octets)) ≡ take 0 digits
+pub no-digits : escape (encode_lower []) ≡ []
 unfolding encode_with
-no-digits digits octets = refl
-
-two_more : (xs : List ℕ) (k : ℕ) → k + 1 < length xs → take (k + 1 + 1) xs ≡ take k xs ++ get_or xs k 0 ∷ get_or xs (k + 1) 0 ∷ []
-two_more xs k h =
-    take_more xs (k + 1) 0 h
-    ∙ (ap (λ r. r ++ get_or xs (k + 1) 0 ∷ []) (take_more xs k 0 (omega arith)) ∙ append_assoc (take k xs) (get_or xs k 0 ∷ []) (get_or xs (k + 1) 0 ∷ []))
+no-digits = refl
 
 -- one octet more, of the next two digits
-pub pair-more : (digits octets : List ℕ) (at b : ℕ) → at < length octets → 2 * at + 1 < length digits → b < 256 → get_or digits (2 * at) 0 ≡ digit_char (b / 16) → get_or digits (2 * at + 1) 0 ≡ digit_char (b % 16)
-    → escape (encode_lower (take at octets)) ≡ take (2 * at) digits → escape (encode_lower (take (at + 1) (set octets at b))) ≡ take (2 * (at + 1)) digits
-pair-more digits octets at b h k small high low so_far =
-    let next : 2 * at + 1 + 1 ≡ 2 * (at + 1) = omega arith in
-    let pair = pair-is b small ∙ same_pair (get_or digits (2 * at) 0) (get_or digits (2 * at + 1) 0) (digit_char (b / 16)) (digit_char (b % 16)) high low in
-    ap (λ os. escape (encode_lower os)) (take_more_set octets at b h)
-    ∙ (digits_append (take at octets) (b ∷ [])
-    ∙ (ap (λ r. r ++ escape (encode_lower (b ∷ []))) so_far
-    ∙ (ap (λ r. take (2 * at) digits ++ r) pair
-    ∙ (sym (two_more digits (2 * at) k) ∙ ap (λ n. take n digits) next))))
+pub pair-next : (text octets : List ℕ) (at b : ℕ) → at + 1 < length text → b < 256 → get_or text at 0 ≡ digit_char (b / 16) → get_or text (at + 1) 0 ≡ digit_char (b % 16) → text ≡ escape (encode_lower octets) ++ drop at text
+    → text ≡ escape (encode_lower (octets ++ b ∷ [])) ++ drop (at + 2) text
+pair-next text octets at b more small high low so_far =
+    let front = escape (encode_lower octets) in
+    let rest = drop (at + 1 + 1) text in
+    let x = get_or text at 0 in
+    let y = get_or text (at + 1) 0 in
+    let here : at < length text = omega arith in
+    let last : at + 1 + 1 ≡ at + 2 = omega arith in
+    let next : drop at text ≡ x ∷ y ∷ rest = drop_more text at 0 here ∙ ap (λ t. x ∷ t) (drop_more text (at + 1) 0 more) in
+    let pair : escape (encode_lower (b ∷ [])) ≡ x ∷ y ∷ [] = pair-is b small ∙ same_pair x y (digit_char (b / 16)) (digit_char (b % 16)) high low in
+    so_far
+    ∙ (ap (λ t. front ++ t) next
+    ∙ (ap (λ t. front ++ (t ++ rest)) (sym pair)
+    ∙ (sym (append_assoc front (escape (encode_lower (b ∷ []))) rest)
+    ∙ (ap (λ t. t ++ rest) (sym (digits_append octets (b ∷ [])))
+    ∙ ap (λ n. escape (encode_lower (octets ++ b ∷ [])) ++ drop n text) last))))

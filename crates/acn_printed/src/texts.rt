@@ -66,21 +66,31 @@ fn filled(room: Vec<u8>, octets: &[u8]) -> Option<Vec<u8>>
     }
 }
 
-// The octets of hexadecimal digits, in a room whatever stands in it.
-fn octets_of(room: Vec<u8>, digits: &[u8]) -> Option<Row<u8>>
-    ensures { IfSome result (λ octets. escape (encode_lower octets) ≡ digits.now) }
+// Reads the octets of the hexadecimal digits that come next, into a room whatever stands in it.
+#[inline(always)]
+fn octets_of(room: Vec<u8>, rest: &mut Rest<'_>) -> Option<Vec<u8>>
+    ensures { IfSome result (λ octets. rest.old.text.now ≡ escape (encode_lower octets.items) ++ rest.new.text.now) }
 {
-    let count = digits.len() / 2;
-    if 2 * count != digits.len() {
-        return None;
-    }
-    let mut octets = filled(room, &digits[..count])?;
+    let text = rest.text;
+    let mut octets = room;
+    octets.clear();
     let mut at = 0;
-    while at < count {
-        octets[at] = octet_of(digits[2 * at], digits[2 * at + 1])?;
-        at += 1;
+    while at + 1 < text.len() {
+        match octet_of(text[at], text[at + 1]) {
+            Some(octet) => {
+                if octets.push(octet).is_err() {
+                    return None;
+                }
+            }
+            None => {
+                rest.text = text.split_at(at).1;
+                return Some(octets);
+            }
+        }
+        at += 2;
     }
-    Some(Row::from_vec(octets))
+    rest.text = text.split_at(at).1;
+    Some(octets)
 }
 
 // Bytes are octets.
@@ -95,10 +105,15 @@ pub fn read_octets(room: Vec<u8>, rest: &mut Rest<'_>) -> Option<Row<u8>>
     ensures text { IfSome result (λ octets. rest.old.text.now ≡ quoted (encode_lower octets) ++ rest.new.text.now) }
     ensures octets { IfSome result (λ octets. are_octets octets ≡ true) }
 {
-    let digits = rest.string()?;
-    let octets = octets_of(room, digits)?;
-    bytes_are_octets(octets.items());
-    Some(octets)
+    if !rest.pass(b'"') {
+        return None;
+    }
+    let octets = octets_of(room, rest)?;
+    if !rest.pass(b'"') {
+        return None;
+    }
+    bytes_are_octets(octets.as_slice());
+    Some(Row::from_vec(octets))
 }
 
 fn bit_of(digit: u8) -> Option<bool>
