@@ -26,3 +26,13 @@ four_digits n h small =
     more n ((48 + n / 1000) ∷ (48 + n / 100 % 10) ∷ (48 + n / 10 % 10) ∷ []) (omega arith) (omega arith)
     (ap (λ k. (48 + k) ∷ (48 + n / 100 % 10) ∷ (48 + n / 10 % 10) ∷ []) first
     ∙ (ap (λ k. (48 + n / 10 / 100) ∷ (48 + k % 10) ∷ (48 + n / 10 % 10) ∷ []) second ∙ three_digits (n / 10) (omega arith) (omega arith)))
+
+pub five_digits : (n : ℕ) → 10000 ≤ n → n < 100000 → (48 + n / 10000) ∷ (48 + n / 1000 % 10) ∷ (48 + n / 100 % 10) ∷ (48 + n / 10 % 10) ∷ (48 + n % 10) ∷ [] ≡ decimal n
+five_digits n h small =
+    let first : n / 10000 ≡ n / 10 / 1000 = omega arith in
+    let second : n / 1000 ≡ n / 10 / 100 = omega arith in
+    let third : n / 100 ≡ n / 10 / 10 = omega arith in
+    more n ((48 + n / 10000) ∷ (48 + n / 1000 % 10) ∷ (48 + n / 100 % 10) ∷ (48 + n / 10 % 10) ∷ []) (omega arith) (omega arith)
+    (ap (λ k. (48 + k) ∷ (48 + n / 1000 % 10) ∷ (48 + n / 100 % 10) ∷ (48 + n / 10 % 10) ∷ []) first
+    ∙ (ap (λ k. (48 + n / 10 / 1000) ∷ (48 + k % 10) ∷ (48 + n / 100 % 10) ∷ (48 + n / 10 % 10) ∷ []) second
+    ∙ (ap (λ k. (48 + n / 10 / 1000) ∷ (48 + n / 10 / 100 % 10) ∷ (48 + k % 10) ∷ (48 + n / 10 % 10) ∷ []) third ∙ four_digits (n / 10) (omega arith) (omega arith))))

@@ -1,8 +1,8 @@
 //! Number leaves.
 
-ghost use Rattle.std.specs.Prelude.{◌≡◌, ◌++◌, ◌+◌, ◌^◌, ◌<◌, ◌≤◌, ◌≤ℤ◌, ◌<ℤ◌, ℤ, pos, nat_abs, take, true, IsTrue, IfSome, OnOk, OnErr};
+ghost use Rattle.std.specs.Prelude.{◌≡◌, ◌++◌, ◌+◌, ◌^◌, ◌<◌, ◌≤◌, ◌≤ℤ◌, ◌<ℤ◌, ℤ, pos, neg_ℤ, nat_abs, take, true, IsTrue, IfSome, OnOk, OnErr};
 ghost use Rattle.json.specs.Token as token;
-ghost use Rattle.json.specs.Print.{token_text};
+ghost use Rattle.json.specs.Print.{quoted, token_text};
 ghost use Rattle.std.specs.Ordering.{int_eq};
 ghost use Rattle.std.specs.Fmt.{decimal, signed_decimal};
 ghost use Rattle.serde_json.specs.Written.{compact_text};
@@ -22,7 +22,7 @@ ghost use Rattle.acn_transcode.specs.Puts.{Puts};
 ghost use Rattle.acn_transcode.specs.Short.{IsShort};
 
 use crate::draft::Draft;
-use crate::short::Short;
+use crate::short::{Short, behind_minus, short_name};
 use acn_bits::ReadCursor;
 use acn_cut::{Cut, read_cut};
 use acn_grammar::{NumKind, NumLeaf};
@@ -31,6 +31,9 @@ use acn_json::{item_name, put, put_null, put_octet, put_quoted};
 use acn_lines::Order;
 use acn_num::NoMemory;
 use itoa::Buffer;
+
+// The greatest number below zero that has more than four digits.
+const BELOW_FEW: i128 = -10_000;
 
 // The number of any leaf, whose code is passed.
 fn any_number(cur: &mut ReadCursor<'_>, leaf: &NumLeaf) -> Option<i128>
@@ -123,6 +126,24 @@ fn four_digits(x: u64) -> Short
     }
 }
 
+// The text of a number of five digits.
+#[inline(always)]
+fn five_digits(x: u64) -> Short
+    requires least { 10000 ≤ x }
+    requires most { x < 100000 }
+    ensures { IsShort result (decimal x) }
+{
+    let first = digit_of(x / 10_000);
+    let thousands = digit_of(x / 1_000 % 10);
+    let hundreds = digit_of(x / 100 % 10);
+    let tens = digit_of(x / 10 % 10);
+    let ones = digit_of(x % 10);
+    Short {
+        octets: [first, thousands, hundreds, tens, ones, 0, 0, 0],
+        count: 5,
+    }
+}
+
 // The text of a natural number of at most four digits.
 #[inline(always)]
 fn few_digits(x: u64) -> Short
@@ -137,6 +158,44 @@ fn few_digits(x: u64) -> Short
         three_digits(x)
     } else {
         four_digits(x)
+    }
+}
+
+// How far a number lies below zero, where it lies there and has at most four digits.
+fn below_zero(x: &i128) -> Option<u64>
+    ensures { IfSome result (λ n. (0 < n) × (n < 10000) × (x.now ≡ neg_ℤ (pos n))) }
+{
+    let number = *x;
+    if number < 0 && BELOW_FEW < number {
+        Some((0 - number) as u64)
+    } else {
+        None
+    }
+}
+
+// The text of a number below zero that has at most four digits.
+fn short_negative(x: &i128) -> Option<Short>
+    ensures { IfSome result (λ short. IsShort short (signed_decimal x.now)) }
+{
+    match below_zero(x) {
+        Some(size) => behind_minus(&few_digits(size)),
+        None => None,
+    }
+}
+
+// The text of a number of five digits, or of a few behind a sign.
+fn longer_number(x: &i128) -> Option<Short>
+    ensures { IfSome result (λ short. IsShort short (signed_decimal x.now)) }
+{
+    match u64::try_from(*x) {
+        Ok(natural) => {
+            if 10_000 <= natural && natural < 100_000 {
+                Some(five_digits(natural))
+            } else {
+                None
+            }
+        }
+        Err(_) => short_negative(x),
     }
 }
 
@@ -205,13 +264,35 @@ fn put_short(short: &Short, text: &mut Vec<u8>) -> Result<(), NoMemory>
     Ok(())
 }
 
-// Puts a whole number.
-fn put_number(x: &i128, text: &mut Vec<u8>) -> Result<(), NoMemory>
+// Puts a whole number, which may have many digits.
+fn put_long_number(x: &i128, text: &mut Vec<u8>) -> Result<(), NoMemory>
     ensures added { OnOk result (text.new.items ≡ text.old.items ++ signed_decimal x.now) }
     ensures kept { OnErr result (Kept text.old.items text.new.items) }
 {
     let mut buffer = Buffer::new();
     put(buffer.format(*x).as_bytes(), text)
+}
+
+// Puts a whole number.
+fn put_number(x: &i128, text: &mut Vec<u8>) -> Result<(), NoMemory>
+    ensures added { OnOk result (text.new.items ≡ text.old.items ++ signed_decimal x.now) }
+    ensures kept { OnErr result (Kept text.old.items text.new.items) }
+{
+    match longer_number(x) {
+        Some(short) => put_short(&short, text),
+        None => put_long_number(x, text),
+    }
+}
+
+// Puts the string of a name.
+fn put_name(name: &[u8], text: &mut Vec<u8>) -> Result<(), NoMemory>
+    ensures added { OnOk result (text.new.items ≡ text.old.items ++ quoted name.now) }
+    ensures kept { OnErr result (Kept text.old.items text.new.items) }
+{
+    match short_name(name) {
+        Some(short) => put_short(&short, text),
+        None => put_quoted(name, text),
+    }
 }
 
 // A small number, which isn't below zero.
@@ -248,7 +329,7 @@ pub fn put_any_value(leaf: &NumLeaf, x: &i128, text: &mut Vec<u8>) -> Result<(),
                 put(b"false", text)
             }
         }
-        NumKind::Enumerated => { put_quoted(item_name(leaf.items.items.items(), natural(x)), text) }
+        NumKind::Enumerated => put_name(item_name(leaf.items.items.items(), natural(x)), text),
         NumKind::Null => put_null(text),
     }
 }

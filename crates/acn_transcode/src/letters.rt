@@ -41,7 +41,8 @@ fn only(ranges: &[(i128, i128)]) -> Option<&(i128, i128)>
     }
 }
 
-fn natural(x: &i128) -> Option<u64>
+/// A number that isn't below zero.
+pub fn natural(x: &i128) -> Option<u64>
     ensures { IfSome result (λ n. x.now ≡ pos n) }
 {
     match u64::try_from(*x) {

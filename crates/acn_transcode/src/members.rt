@@ -19,7 +19,7 @@ ghost use Rattle.acn_transcode.specs.Puts as spec;
 
 use crate::draft::{Part, Span};
 use crate::leaves::{put_any_value, short_value};
-use crate::short::Short;
+use crate::short::{Short, put_over};
 use acn_grammar::{Body, Field, NumLeaf};
 use acn_json::{put, put_octet};
 use acn_lines::{KEY_ROOM, ShortKey, Turn};
@@ -45,15 +45,6 @@ fn put_short_key(short: &ShortKey, text: &mut Vec<u8>) -> Result<(), NoMemory>
     put(&short.octets, text)?;
     text.truncate(text.len() - (KEY_ROOM - short.count));
     Ok(())
-}
-
-// Puts octets over those at a place.
-#[inline(always)]
-fn put_over(text: &mut [u8], at: usize, octets: &[u8])
-    requires { at + length octets.now ≤ length text.old }
-    ensures { text.new ≡ take at text.old ++ octets.now ++ drop (at + length octets.now) text.old }
-{
-    text[at..at + octets.len()].copy_from_slice(octets);
 }
 
 // Puts a comma, a short key with its colon, and a short value. Room for both is made once.

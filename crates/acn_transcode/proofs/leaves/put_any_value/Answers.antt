@@ -24,7 +24,7 @@ pub returns-in-Enumerated-clause-added : goal.returns-in-Enumerated-clause-added
 returns-in-Enumerated-clause-added c =
     let items = c.args.leaf.now.items.items in
     let named = c.item_name.ensures ∙ (ap (λ its. item_name its c.natural.result) c.items.ensures ∙ ap (λ i. item_name items i) c.natural.ensures) in
-    on_ok_weaker c.put_quoted.result (λ e. item_said c.args.leaf.now c.args.x.now _ _ c.requires.fine c.requires.named c.requires.permitted c.in-Enumerated.is (e ∙ ap (λ t. c.args.text.now.items ++ quoted t) named)) c.put_quoted.ensures.added
+    on_ok_weaker c.put_name.result (λ e. item_said c.args.leaf.now c.args.x.now _ _ c.requires.fine c.requires.named c.requires.permitted c.in-Enumerated.is (e ∙ ap (λ t. c.args.text.now.items ++ quoted t) named)) c.put_name.ensures.added
 
 pub returns-in-Null-clause-added : goal.returns-in-Null-clause-added
 returns-in-Null-clause-added c = on_ok_weaker c.put_null.result (λ e. null_said c.args.leaf.now c.args.x.now _ _ c.requires.fine c.requires.permitted c.in-Null.is e) c.put_null.ensures.added

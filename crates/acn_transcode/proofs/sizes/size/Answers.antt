@@ -1,6 +1,8 @@
 use Rattle.std.proofs.Common.{◌+◌, ℕ, sym, ap, ◌∙◌}
+use Rattle.acn_grammar.specs.Spell.{SizePart}
+use Rattle.acn_reads.specs.Decoded.{Passes}
 use Rattle.acn_text.proofs.Fine.{sizing_few}
-use Rattle.acn_transcode.proofs.SizesRead.{in_front, few_in_front, small_in_front}
+use Rattle.acn_transcode.proofs.SizesRead.{in_front, few_in_front, small_in_front, held_here}
 use Rattle.acn_transcode.proofs.sizes.size.Goals as goal
 
 pub take-requires : goal.take-requires
@@ -16,3 +18,6 @@ pub returns-then-holds_natural-clause-read : goal.returns-then-holds_natural-cla
 returns-then-holds_natural-clause-read c =
     let low = c.in-Prefix.low in
     in_front c.args.sizing.now low c.in-Prefix.width (low + c.in-Ok.ahead) c.args.slots.now c.args.cur.now c.take.new.self c.in-Prefix.is (sym c.holds_natural.ensures ∙ c.if-holds_natural.true) c.in-Ok.ensures.within (ap (λ (k : ℕ). low + k) c.in-Ok.ensures.value) c.in-Ok.ensures.moved
+
+pub returns-in-Slot-clause-read : goal.returns-in-Slot-clause-read
+returns-in-Slot-clause-read c = held_here c.slot_size.result (λ n cur. Passes (λ env. SizePart c.args.sizing.now env n) c.args.slots.now cur cur) c.args.cur.now c.slot_size.ensures.read
