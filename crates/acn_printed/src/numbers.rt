@@ -2,7 +2,9 @@
 
 ghost use Rattle.std.specs.Prelude.{◌≡◌, ◌<◌, ◌++◌, ◌∷◌, List, ℕ, ℤ, IfSome, IsTrue, decimal, length};
 ghost use Rattle.std.specs.Fmt.{signed_decimal};
+ghost use Rattle.acn_grammar.specs.Grammar.{int, boolean, item};
 ghost use Rattle.acn_grammar.specs.Leaves.{is_number};
+ghost use Rattle.json.specs.Print.{quoted};
 ghost use Rattle.acn_grammar.specs.View.{data_of};
 ghost use Rattle.acn_grammar.specs.declared.node.NumKind.TheVariants as kind;
 ghost use Rattle.acn_json.specs.Lines.{item_name};
@@ -83,34 +85,75 @@ fn read_whole(rest: &mut Rest<'_>) -> Option<i128>
     }
 }
 
-/// Reads the value of an INTEGER, if it comes next.
+// Puts a whole number over an old value.
 #[inline(always)]
-pub fn read_integer(rest: &mut Rest<'_>) -> Option<Value>
-    ensures { (items : List (List ℕ × ℤ)) → IfSome result (λ v. IsNumberRead kind.Integer items (data_of v) rest.old.text.now rest.new.text.now) }
+fn put_whole(value: &mut Value, x: i128)
+    ensures { data_of value.new ≡ int x }
 {
-    let x = read_whole(rest)?;
-    Some(Value::Int(x))
+    match value {
+        Value::Int(old) => *old = x,
+        _ => *value = Value::Int(x),
+    }
 }
 
-fn read_truth(rest: &mut Rest<'_>) -> Option<Value>
-    ensures { (items : List (List ℕ × ℤ)) → IfSome result (λ v. IsNumberRead kind.Boolean items (data_of v) rest.old.text.now rest.new.text.now) }
+// Puts a truth over an old value.
+#[inline(always)]
+fn put_truth(value: &mut Value, truth: bool)
+    ensures { data_of value.new ≡ boolean truth }
+{
+    match value {
+        Value::Bool(old) => *old = truth,
+        _ => *value = Value::Bool(truth),
+    }
+}
+
+// Puts the number of an item over an old value.
+#[inline(always)]
+fn put_item(value: &mut Value, at: u32)
+    ensures { data_of value.new ≡ item at }
+{
+    match value {
+        Value::Item(old) => *old = at,
+        _ => *value = Value::Item(at),
+    }
+}
+
+/// Reads the value of an INTEGER over an old value, if it comes next.
+#[inline(always)]
+pub fn read_integer(value: &mut Value, rest: &mut Rest<'_>) -> bool
+    ensures { (items : List (List ℕ × ℤ)) → IsTrue result → IsNumberRead kind.Integer items (data_of value.new) rest.old.text.now rest.new.text.now }
+{
+    match read_whole(rest) {
+        Some(x) => {
+            put_whole(value, x);
+            true
+        }
+        None => false,
+    }
+}
+
+fn read_truth(value: &mut Value, rest: &mut Rest<'_>) -> bool
+    ensures { (items : List (List ℕ × ℤ)) → IsTrue result → IsNumberRead kind.Boolean items (data_of value.new) rest.old.text.now rest.new.text.now }
 {
     if rest.pass_all(b"true") {
-        return Some(Value::Bool(true));
+        put_truth(value, true);
+        return true;
     }
     if rest.pass_all(b"false") {
-        return Some(Value::Bool(false));
+        put_truth(value, false);
+        return true;
     }
-    None
+    false
 }
 
-fn read_null(rest: &mut Rest<'_>) -> Option<Value>
-    ensures { (items : List (List ℕ × ℤ)) → IfSome result (λ v. IsNumberRead kind.Null items (data_of v) rest.old.text.now rest.new.text.now) }
+fn read_null(value: &mut Value, rest: &mut Rest<'_>) -> bool
+    ensures { (items : List (List ℕ × ℤ)) → IsTrue result → IsNumberRead kind.Null items (data_of value.new) rest.old.text.now rest.new.text.now }
 {
     if rest.pass_all(b"null") {
-        Some(Value::Null)
+        *value = Value::Null;
+        true
     } else {
-        None
+        false
     }
 }
 
@@ -147,26 +190,40 @@ fn item_named(items: &[(Name, i128)], names: &[u32], name: &[u8]) -> Option<usiz
     }
 }
 
-fn read_item(items: &[(Name, i128)], names: &[u32], rest: &mut Rest<'_>) -> Option<Value>
-    ensures { IfSome result (λ v. IsNumberRead kind.Enumerated items.now (data_of v) rest.old.text.now rest.new.text.now) }
+// The number of the item whose name comes next.
+fn item_read(items: &[(Name, i128)], names: &[u32], rest: &mut Rest<'_>) -> Option<u32>
+    ensures within { IfSome result (λ at. at < length items.now) }
+    ensures text { IfSome result (λ at. rest.old.text.now ≡ quoted (item_name items.now at) ++ rest.new.text.now) }
 {
     let name = rest.plain_string()?;
     let at = item_named(items, names, name)?;
-    let Ok(at) = u32::try_from(at) else {
-        return None;
-    };
-    Some(Value::Item(at))
+    match u32::try_from(at) {
+        Ok(at) => Some(at),
+        Err(_) => None,
+    }
 }
 
-/// Reads the value of a leaf whose value is a number, if it comes next. `names` are the numbers of
-/// its items in byte order of their names, or none.
-pub fn read_number(leaf: &NumLeaf, names: &[u32], rest: &mut Rest<'_>) -> Option<Value>
-    ensures { IfSome result (λ v. IsNumberRead leaf.now.kind leaf.now.items.items (data_of v) rest.old.text.now rest.new.text.now) }
+fn read_item(items: &[(Name, i128)], names: &[u32], value: &mut Value, rest: &mut Rest<'_>) -> bool
+    ensures { IsTrue result → IsNumberRead kind.Enumerated items.now (data_of value.new) rest.old.text.now rest.new.text.now }
+{
+    match item_read(items, names, rest) {
+        Some(at) => {
+            put_item(value, at);
+            true
+        }
+        None => false,
+    }
+}
+
+/// Reads the value of a leaf whose value is a number over an old value, if it comes next. `names`
+/// are the numbers of its items in byte order of their names, or none.
+pub fn read_number(leaf: &NumLeaf, names: &[u32], value: &mut Value, rest: &mut Rest<'_>) -> bool
+    ensures { IsTrue result → IsNumberRead leaf.now.kind leaf.now.items.items (data_of value.new) rest.old.text.now rest.new.text.now }
 {
     match leaf.kind {
-        NumKind::Integer => read_integer(rest),
-        NumKind::Boolean => read_truth(rest),
-        NumKind::Enumerated => read_item(leaf.items.items.items(), names, rest),
-        NumKind::Null => read_null(rest),
+        NumKind::Integer => read_integer(value, rest),
+        NumKind::Boolean => read_truth(value, rest),
+        NumKind::Enumerated => read_item(leaf.items.items.items(), names, value, rest),
+        NumKind::Null => read_null(value, rest),
     }
 }

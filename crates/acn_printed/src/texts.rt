@@ -11,6 +11,7 @@ ghost use Rattle.acn_json.specs.Lines.{bit_digit};
 use crate::rest::Rest;
 use acn_num::Row;
 use std::alloc::Global;
+use std::mem::replace;
 
 /// The number of each lower case hexadecimal digit, and 255 of each octet that is none.
 #[rattlefmt::skip]
@@ -94,14 +95,22 @@ fn octets_of(room: Vec<u8>, rest: &mut Rest<'_>) -> Option<Vec<u8>>
 }
 
 // Bytes are octets.
+#[inline(always)]
 fn bytes_are_octets(bytes: &[u8])
     ensures { are_octets bytes.now ≡ true }
 {
     let _bytes = bytes;
 }
 
-/// Reads an octet string, if one comes next, into a room whatever stands in it.
-pub fn read_octets(room: Vec<u8>, rest: &mut Rest<'_>) -> Option<Row<u8>>
+// Takes the memory of a string.
+#[inline(always)]
+fn room_of(alloc: Global, string: &mut Row<u8>) -> Vec<u8> {
+    replace(string, Row::new(alloc)).into_vec()
+}
+
+// Reads an octet string, if one comes next, into a room whatever stands in it.
+#[inline(always)]
+fn octets_read(room: Vec<u8>, rest: &mut Rest<'_>) -> Option<Row<u8>>
     ensures text { IfSome result (λ octets. rest.old.text.now ≡ quoted (encode_lower octets) ++ rest.new.text.now) }
     ensures octets { IfSome result (λ octets. are_octets octets ≡ true) }
 {
@@ -114,6 +123,20 @@ pub fn read_octets(room: Vec<u8>, rest: &mut Rest<'_>) -> Option<Row<u8>>
     }
     bytes_are_octets(octets.as_slice());
     Some(Row::from_vec(octets))
+}
+
+/// Reads an octet string over an old string, if one comes next.
+pub fn read_octets(alloc: Global, octets: &mut Row<u8>, rest: &mut Rest<'_>) -> bool
+    ensures text { IsTrue result → rest.old.text.now ≡ quoted (encode_lower octets.new) ++ rest.new.text.now }
+    ensures octets { IsTrue result → are_octets octets.new ≡ true }
+{
+    match octets_read(room_of(alloc, octets), rest) {
+        Some(read) => {
+            *octets = read;
+            true
+        }
+        None => false,
+    }
 }
 
 fn bit_of(digit: u8) -> Option<bool>
@@ -148,9 +171,10 @@ pub fn read_bits(alloc: Global, rest: &mut Rest<'_>) -> Option<Row<bool>>
     Some(bits)
 }
 
-/// Reads a text, if one comes next whose characters stand for themselves, into a room whatever
-/// stands in it.
-pub fn read_characters(room: Vec<u8>, rest: &mut Rest<'_>) -> Option<Row<u8>>
+// Reads a text, if one comes next whose characters stand for themselves, into a room whatever
+// stands in it.
+#[inline(always)]
+fn characters_read(room: Vec<u8>, rest: &mut Rest<'_>) -> Option<Row<u8>>
     ensures text { IfSome result (λ cs. rest.old.text.now ≡ quoted cs ++ rest.new.text.now) }
     ensures octets { IfSome result (λ cs. are_octets cs ≡ true) }
     ensures said { IfSome result (λ cs. IsTrue (list_all (λ c. nat_lt c 128) cs)) }
@@ -159,4 +183,19 @@ pub fn read_characters(room: Vec<u8>, rest: &mut Rest<'_>) -> Option<Row<u8>>
     bytes_are_octets(text);
     let characters = filled(room, text)?;
     Some(Row::from_vec(characters))
+}
+
+/// Reads a text over an old string, if one comes next whose characters stand for themselves.
+pub fn read_characters(alloc: Global, characters: &mut Row<u8>, rest: &mut Rest<'_>) -> bool
+    ensures text { IsTrue result → rest.old.text.now ≡ quoted characters.new ++ rest.new.text.now }
+    ensures octets { IsTrue result → are_octets characters.new ≡ true }
+    ensures said { IsTrue result → IsTrue (list_all (λ c. nat_lt c 128) characters.new) }
+{
+    match characters_read(room_of(alloc, characters), rest) {
+        Some(read) => {
+            *characters = read;
+            true
+        }
+        None => false,
+    }
 }

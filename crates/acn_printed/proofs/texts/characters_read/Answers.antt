@@ -4,7 +4,7 @@ use Rattle.std.specs.Prelude.{nat_lt}
 use Rattle.std.specs.List.{list_all}
 use Rattle.json.specs.Print.{quoted}
 use Rattle.acn_grammar.specs.Shaped.{are_octets}
-use Rattle.acn_printed.proofs.texts.read_characters.Goals as goal
+use Rattle.acn_printed.proofs.texts.characters_read.Goals as goal
 
 pub returns-clause-text : goal.returns-clause-text
 returns-clause-text c =

@@ -4,7 +4,7 @@ use Rattle.hex.specs.Hex.{encode_lower}
 use Rattle.json.specs.Print.{escape, quoted}
 use Rattle.acn_grammar.specs.Shaped.{are_octets}
 use Rattle.acn_printed.proofs.Strings.{quoted-end}
-use Rattle.acn_printed.proofs.texts.read_octets.Goals as goal
+use Rattle.acn_printed.proofs.texts.octets_read.Goals as goal
 
 pub returns-clause-text : goal.returns-clause-text
 returns-clause-text c =
