@@ -1,5 +1,5 @@
 -- Places that are filled turn by turn.
-use Rattle.std.proofs.Common.{◌≡◌, ℕ, zero, suc, ◌+◌, ◌<◌, ◌≤◌, Bool, true, false, List, [], ◌∷◌, ◌++◌, length, get_or, set, take, drop, Option, Some, None, refl, sym, ap, subst, ◌∙◌, arith}
+use Rattle.std.proofs.Common.{◌≡◌, ℕ, zero, suc, ◌+◌, ◌<◌, ◌≤◌, Bool, true, false, List, [], ◌∷◌, ◌++◌, length, get_or, set, take, drop, Option, Some, None, option_map, refl, sym, ap, subst, ◌∙◌, arith}
 use Rattle.std.proofs.lemmas.Bool.{and_parts}
 use Rattle.std.proofs.lemmas.List.{take_more, take_all}
 use Rattle.serde_json.specs.Data.{Members, no_members}
@@ -9,7 +9,7 @@ use Rattle.acn_grammar.specs.Shaped.{may_be_absent, fields_fit}
 use Rattle.acn_grammar.specs.View.{OneField, a_component, an_inserted, data_of, places_view}
 use Rattle.acn_grammar.specs.declared.value.Value.{Value}
 use Rattle.acn_json.specs.RoundTrip.{PlacesCanBeSaid}
-use Rattle.acn_lines.specs.Filled.{IsFieldRead, IsMet, AreFilled, IsTurnRead}
+use Rattle.acn_lines.specs.Filled.{IsFieldRead, IsPlaceRead, IsMet, AreFilled, IsTurnRead}
 use Rattle.acn_lines.specs.Order.{field_at, place_at, place_of, member_at, in_order, field_json, HasKey, Elsewhere, AreApart}
 use Rattle.acn_lines.specs.Taken.{component_count, no_values, is_whole}
 use Rattle.acn_lines.specs.declared.turns.Turn.{Turn}
@@ -61,7 +61,7 @@ next_place : (p : Option Value) (ps : List (Option Value)) (k : ℕ) → place_a
 next_place None ps k = refl
 next_place (Some w) ps k = refl
 
-pub other_place : (ps : List (Option Value)) (k j : ℕ) (p : Option Value) → (j ≡ k → ⊥) → place_at (places_view (set ps k p)) j ≡ place_at (places_view ps) j
+other_place : (ps : List (Option Value)) (k j : ℕ) (p : Option Value) → (j ≡ k → ⊥) → place_at (places_view (set ps k p)) j ≡ place_at (places_view ps) j
 other_place [] k j p n = refl
 other_place (q ∷ ps) zero zero p n = absurd (n refl)
 other_place (q ∷ ps) zero (suc j) p n = next_place p ps j ∙ sym (next_place q ps j)
@@ -163,14 +163,19 @@ field_met : (x : OneField) (d : Data) (old new : List ℕ) → IsFieldRead x d o
 field_met (a_component name g presence default own) d old new h = (h.fits, h.said)
 field_met (an_inserted name g slot) d old new h = absurd h
 
--- the value goes into the places `taken`, in which no other place than its own was changed
-pub turn-read : (fs : Fields) (t : Turn) (x : OneField) (v : Value) (later : Bool) (ps taken qs : List (Option Value)) (old inner new : List ℕ) → field_at fs t.field ≡ Some x → HasKey (field_at fs t.field) t.key → t.place < length taken → ((k : ℕ) → (k ≡ t.place → ⊥) → place_at (places_view taken) k ≡ place_at (places_view ps) k)
-    → qs ≡ set taken t.place (Some v) → old ≡ comma_if later ++ (t.key ++ inner) → IsFieldRead x (data_of v) inner new → IsTurnRead fs t later true (places_view ps) (places_view qs) old new
-turn-read fs t x v later ps taken qs old inner new at keyed within same put keys read =
+turn_read : (fs : Fields) (t : Turn) (x : OneField) (v : Value) (later : Bool) (ps qs : List (Option Value)) (old inner new : List ℕ) → field_at fs t.field ≡ Some x → HasKey (field_at fs t.field) t.key → t.place < length ps → qs ≡ set ps t.place (Some v)
+    → old ≡ comma_if later ++ (t.key ++ inner) → IsFieldRead x (data_of v) inner new → IsTurnRead fs t later true (places_view ps) (places_view qs) old new
+turn_read fs t x v later ps qs old inner new at keyed within put keys read =
     let o = field_at fs t.field in
-    let there : Some (data_of v) ≡ place_at (places_view qs) t.place = sym (same_place taken t.place v within) ∙ ap (λ l. place_at (places_view l) t.place) (sym put) in
+    let there : Some (data_of v) ≡ place_at (places_view qs) t.place = sym (same_place ps t.place v within) ∙ ap (λ l. place_at (places_view l) t.place) (sym put) in
     record {
       text = λ ms end e. member-text o (place_at (places_view qs) t.place) x (data_of v) t.key later ms old (t.key ++ inner) inner new end at there keyed keys refl (field_text x (data_of v) inner new read) e;
-      others = λ k n. ap (λ l. place_at (places_view l) k) put ∙ (other_place taken t.place k (Some v) n ∙ same k n);
+      others = λ k n. ap (λ l. place_at (places_view l) k) put ∙ other_place ps t.place k (Some v) n;
       met = subst (IsMet o) there (subst (λ y. IsMet y (Some (data_of v))) (sym at) (field_met x (data_of v) inner new read));
     }
+
+-- what was read stands in the place `p`
+pub turn-placed : (fs : Fields) (t : Turn) (x : OneField) (p : Option Value) (later : Bool) (ps qs : List (Option Value)) (old inner new : List ℕ) → field_at fs t.field ≡ Some x → HasKey (field_at fs t.field) t.key → t.place < length ps → qs ≡ set ps t.place p
+    → old ≡ comma_if later ++ (t.key ++ inner) → IsPlaceRead x (option_map data_of p) inner new → IsTurnRead fs t later true (places_view ps) (places_view qs) old new
+turn-placed fs t x None later ps qs old inner new at keyed within put keys read = absurd read
+turn-placed fs t x (Some v) later ps qs old inner new at keyed within put keys read = turn_read fs t x v later ps qs old inner new at keyed within put keys read

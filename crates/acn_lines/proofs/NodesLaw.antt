@@ -24,13 +24,13 @@ use Rattle.acn_lines.proofs.TakenLaw.{leaf_taken, content_taken, grammar_at, alt
 pub view_num_form : (leaf : NumLeaf) → form_of (Num_body leaf) ≡ num leaf
 view_num_form leaf = search (rules, node_lemmas)
 
-view_octets_form : (sizing : Sizing) → form_of (Octets_body sizing) ≡ octets sizing
+pub view_octets_form : (sizing : Sizing) → form_of (Octets_body sizing) ≡ octets sizing
 view_octets_form sizing = search (rules, node_lemmas)
 
-view_bits_form : (sizing : Sizing) → form_of (Bits_body sizing) ≡ bits sizing
+pub view_bits_form : (sizing : Sizing) → form_of (Bits_body sizing) ≡ bits sizing
 view_bits_form sizing = search (rules, node_lemmas)
 
-view_text_form : (leaf : TextLeaf) → form_of (Text_body leaf) ≡ text leaf
+pub view_text_form : (leaf : TextLeaf) → form_of (Text_body leaf) ≡ text leaf
 view_text_form leaf = search (rules, node_lemmas)
 
 pub view_list_form : (sizing : Sizing) (m : Node) → form_of (List_body sizing m) ≡ list sizing (grammar_of m)
@@ -42,12 +42,12 @@ view_choice_form c = search (rules, node_lemmas)
 view_contained_form : (sizing : Sizing) (m : Node) → form_of (Contained_body sizing m) ≡ contained sizing (grammar_of m)
 view_contained_form sizing m = search (rules, node_lemmas)
 
-pub if_some : {A : Type 0} {P Q : A → Type 0} (r : Option A) → ((x : A) → P x → Q x) → IfSome r P → IfSome r Q
+if_some : {A : Type 0} {P Q : A → Type 0} (r : Option A) → ((x : A) → P x → Q x) → IfSome r P → IfSome r Q
 if_some None f h = tt
 if_some (Some x) f h = f x h
 
 -- what is said at a form is said at a node of the form
-pub at_form : (P : Grammar → Data → Type 0) (n : Node) (form : Form) (r : Option Value) → form_of n.body ≡ form → IfSome r (λ v. (align : ℕ) → P (node align form) (data_of v)) → IfSome r (λ v. P (grammar_of n) (data_of v))
+at_form : (P : Grammar → Data → Type 0) (n : Node) (form : Form) (r : Option Value) → form_of n.body ≡ form → IfSome r (λ v. (align : ℕ) → P (node align form) (data_of v)) → IfSome r (λ v. P (grammar_of n) (data_of v))
 at_form P n form r e h = if_some r (λ v t. subst (λ g. P g (data_of v)) (sym (view_node n ∙ ap (node n.align) e)) (t n.align)) h
 
 pub num_node : (n : Node) (leaf : NumLeaf) (r : Option Value) (old new : List Token) → n.body ≡ Num_body leaf → IfSome r (λ v. LeafTaken (num_from leaf.kind leaf.items.items) (data_of v) old new) → IfSome r (λ v. IsTaken (grammar_of n) (data_of v) old new)

@@ -1,15 +1,14 @@
 -- What is read of a node, by its body.
 use Rattle.std.proofs.Common.{◌≡◌, ℕ, zero, suc, ◌<◌, Bool, true, false, List, [], ◌∷◌, ◌++◌, length, get_or, Option, refl, sym, ap, subst, ◌∙◌, append_assoc, arith}
-use Rattle.std.specs.Prelude.{IfSome}
 use Rattle.std.proofs.lemmas.Bool.{and_parts}
 use Rattle.json.specs.Print.{quoted}
 use Rattle.serde_json.specs.Data.{no_members, member}
 use Rattle.serde_json.specs.Written.{compact_text, items_text, members_text}
-use Rattle.acn_grammar.specs.Grammar.{Grammar, Fields, Data, node, seq, list, choice, record_of, list_of, alt}
+use Rattle.acn_grammar.specs.Grammar.{Grammar, Form, Fields, Data, node, octets, bits, text, seq, list, choice, record_of, list_of, alt}
 use Rattle.acn_grammar.specs.Shaped.{fits, each_element, alternative_fits}
 use Rattle.acn_grammar.specs.View.{data_of, grammar_of, form_of, fields_view, places_view, elements_view, alternatives_view}
 use Rattle.acn_grammar.specs.declared.node.Alternative.{Alternative}
-use Rattle.acn_grammar.specs.declared.node.Body.{Num as Num_body, Seq as Seq_body, List as List_body, Choice as Choice_body}
+use Rattle.acn_grammar.specs.declared.node.Body.{Num as Num_body, Octets as Octets_body, Bits as Bits_body, Text as Text_body, Seq as Seq_body, List as List_body, Choice as Choice_body}
 use Rattle.acn_grammar.specs.declared.node.Choice.{Choice as ChoiceNode, out-Choice}
 use Rattle.acn_grammar.specs.declared.node.ChoiceRule.{ChoiceRule}
 use Rattle.acn_grammar.specs.declared.node.Field.{Field}
@@ -17,6 +16,7 @@ use Rattle.acn_grammar.specs.declared.node.Node.{Node}
 use Rattle.acn_grammar.specs.declared.node.NumLeaf.{NumLeaf}
 use Rattle.acn_grammar.specs.declared.node.Seq.{Seq as SeqNode}
 use Rattle.acn_grammar.specs.declared.node.Sizing.{Sizing}
+use Rattle.acn_grammar.specs.declared.node.TextLeaf.{TextLeaf}
 use Rattle.acn_grammar.specs.declared.value.Value.{Value, Seq, List as List_value}
 use Rattle.acn_grammar.proofs.Views.{view_node, view_seq, view_seq_form}
 use Rattle.acn_json.specs.Lines.{json_of, each_json, alternative_json}
@@ -30,7 +30,7 @@ use Rattle.acn_lines.proofs.CalledLaw.{alternative_named}
 use Rattle.acn_lines.proofs.FillingLaw.{whole-fits}
 use Rattle.acn_lines.proofs.GoingOn.{alternative-text}
 use Rattle.acn_lines.proofs.LeafLaw.{view_list}
-use Rattle.acn_lines.proofs.NodesLaw.{if_some, at_form, view_num_form, view_list_form, view_choice_form}
+use Rattle.acn_lines.proofs.NodesLaw.{view_num_form, view_octets_form, view_bits_form, view_text_form, view_list_form, view_choice_form}
 use Rattle.acn_lines.proofs.TakenLaw.{view_alternative}
 use Rattle.acn_printed.specs.Read.{IsRead, IsNumberRead}
 
@@ -40,22 +40,31 @@ pub num_read : (n : Node) (leaf : NumLeaf) (d : Data) (old new : List ℕ) → n
 num_read n leaf d old new e h =
     subst (λ g. IsRead g d old new) (sym (view_node n ∙ ap (node n.align) (ap form_of e ∙ view_num_form leaf))) (record { text = h.text; fits = h.fits; said = h.said })
 
--- Nodes with others inside.
+-- Nodes, by their forms.
 
-pub seq_read : (n : Node) (s : SeqNode) (fs : List Field) (r : Option Value) (old new : List ℕ) → n.body ≡ Seq_body s → fs ≡ s.fields → IfSome r (λ v. (align : ℕ) (home : List ℕ) → IsRead (node align (seq (fields_view fs) home)) (data_of v) old new)
-    → IfSome r (λ v. IsRead (grammar_of n) (data_of v) old new)
-seq_read n s fs r old new e f h =
-    at_form (λ g d. IsRead g d old new) n (seq (fields_view fs) s.home) r (ap form_of e ∙ (view_seq_form s ∙ ap (λ xs. seq (fields_view xs) s.home) (sym f))) (if_some r (λ v t align. t align s.home) h)
+read_at : (n : Node) (form : Form) (d : Data) (old new : List ℕ) → form_of n.body ≡ form → ((align : ℕ) → IsRead (node align form) d old new) → IsRead (grammar_of n) d old new
+read_at n form d old new e h = subst (λ g. IsRead g d old new) (sym (view_node n ∙ ap (node n.align) e)) (h n.align)
 
-pub list_read : (n : Node) (sizing : Sizing) (m o : Node) (r : Option Value) (old new : List ℕ) → n.body ≡ List_body sizing m → o ≡ m → IfSome r (λ v. (align : ℕ) (sizing : Sizing) → IsRead (node align (list sizing (grammar_of o))) (data_of v) old new)
-    → IfSome r (λ v. IsRead (grammar_of n) (data_of v) old new)
-list_read n sizing m o r old new e f h =
-    at_form (λ g d. IsRead g d old new) n (list sizing (grammar_of o)) r (ap form_of e ∙ (view_list_form sizing m ∙ ap (λ x. list sizing (grammar_of x)) (sym f))) (if_some r (λ v t align. t align sizing) h)
+pub octets_read : (n : Node) (sizing : Sizing) (d : Data) (old new : List ℕ) → n.body ≡ Octets_body sizing → ((align : ℕ) (sizing : Sizing) → IsRead (node align (octets sizing)) d old new) → IsRead (grammar_of n) d old new
+octets_read n sizing d old new e h = read_at n (octets sizing) d old new (ap form_of e ∙ view_octets_form sizing) (λ align. h align sizing)
 
-pub choice_read : (n : Node) (c : ChoiceNode) (as' : List Alternative) (r : Option Value) (old new : List ℕ) → n.body ≡ Choice_body c → as' ≡ (out-Choice c).alternatives → IfSome r (λ v. (align : ℕ) (rule : ChoiceRule) → IsRead (node align (choice (alternatives_view as') rule)) (data_of v) old new)
-    → IfSome r (λ v. IsRead (grammar_of n) (data_of v) old new)
-choice_read n c as' r old new e f h =
-    at_form (λ g d. IsRead g d old new) n (choice (alternatives_view as') (out-Choice c).rule) r (ap form_of e ∙ (view_choice_form c ∙ ap (λ xs. choice (alternatives_view xs) (out-Choice c).rule) (sym f))) (if_some r (λ v t align. t align (out-Choice c).rule) h)
+pub bits_read : (n : Node) (sizing : Sizing) (d : Data) (old new : List ℕ) → n.body ≡ Bits_body sizing → ((align : ℕ) (sizing : Sizing) → IsRead (node align (bits sizing)) d old new) → IsRead (grammar_of n) d old new
+bits_read n sizing d old new e h = read_at n (bits sizing) d old new (ap form_of e ∙ view_bits_form sizing) (λ align. h align sizing)
+
+pub text_read : (n : Node) (leaf : TextLeaf) (d : Data) (old new : List ℕ) → n.body ≡ Text_body leaf → ((align : ℕ) (leaf : TextLeaf) → IsRead (node align (text leaf)) d old new) → IsRead (grammar_of n) d old new
+text_read n leaf d old new e h = read_at n (text leaf) d old new (ap form_of e ∙ view_text_form leaf) (λ align. h align leaf)
+
+pub seq_read : (n : Node) (s : SeqNode) (fs : List Field) (d : Data) (old new : List ℕ) → n.body ≡ Seq_body s → fs ≡ s.fields → ((align : ℕ) (home : List ℕ) → IsRead (node align (seq (fields_view fs) home)) d old new) → IsRead (grammar_of n) d old new
+seq_read n s fs d old new e f h =
+    read_at n (seq (fields_view fs) s.home) d old new (ap form_of e ∙ (view_seq_form s ∙ ap (λ xs. seq (fields_view xs) s.home) (sym f))) (λ align. h align s.home)
+
+pub list_read : (n : Node) (sizing : Sizing) (m o : Node) (d : Data) (old new : List ℕ) → n.body ≡ List_body sizing m → o ≡ m → ((align : ℕ) (sizing : Sizing) → IsRead (node align (list sizing (grammar_of o))) d old new) → IsRead (grammar_of n) d old new
+list_read n sizing m o d old new e f h =
+    read_at n (list sizing (grammar_of o)) d old new (ap form_of e ∙ (view_list_form sizing m ∙ ap (λ x. list sizing (grammar_of x)) (sym f))) (λ align. h align sizing)
+
+pub choice_read : (n : Node) (c : ChoiceNode) (as' : List Alternative) (d : Data) (old new : List ℕ) → n.body ≡ Choice_body c → as' ≡ (out-Choice c).alternatives → ((align : ℕ) (rule : ChoiceRule) → IsRead (node align (choice (alternatives_view as') rule)) d old new) → IsRead (grammar_of n) d old new
+choice_read n c as' d old new e f h =
+    read_at n (choice (alternatives_view as') (out-Choice c).rule) d old new (ap form_of e ∙ (view_choice_form c ∙ ap (λ xs. choice (alternatives_view xs) (out-Choice c).rule) (sym f))) (λ align. h align (out-Choice c).rule)
 
 -- Records.
 
@@ -136,14 +145,14 @@ alternative_fits_at [] i a d h e f = absurd (omega arith)
 alternative_fits_at (x ∷ xs) zero a d h e f = ap (λ c. alternative_fits c zero d) (view_alternative x xs) ∙ subst (λ y. fits (grammar_of y.node) d ≡ true) e f
 alternative_fits_at (x ∷ xs) (suc i) a d h e f = ap (λ c. alternative_fits c (suc i) d) (view_alternative x xs) ∙ alternative_fits_at xs i a d (omega arith) e f
 
-pub alternative_read : (as' : List Alternative) (i : ℕ) (name : List ℕ) (a : Alternative) (w : Data) (r : Option Value) (old opened key inside end new : List ℕ) → IfSome r (λ v. data_of v ≡ alt i w) → alternative_name (alternatives_view as') i ≡ name → i < length as' → a ≡ get_or as' i a
-    → old ≡ 123 ∷ opened → opened ≡ quoted name ++ key → key ≡ 58 ∷ inside → IsRead (grammar_of a.node) w inside end → end ≡ 125 ∷ new → IfSome r (λ v. (align : ℕ) (rule : ChoiceRule) → IsRead (node align (choice (alternatives_view as') rule)) (data_of v) old new)
-alternative_read as' i name a w r old opened key inside end new made called within at open_brace keyed colon read closed =
+pub alternative_read : (as' : List Alternative) (i : ℕ) (a : Alternative) (v : Value) (w : Data) (old inside end new : List ℕ) → data_of v ≡ alt i w → i < length as' → a ≡ get_or as' i a → old ≡ 123 ∷ (quoted (alternative_name (alternatives_view as') i) ++ 58 ∷ inside) → IsRead (grammar_of a.node) w inside end
+    → end ≡ 125 ∷ new → (align : ℕ) (rule : ChoiceRule) → IsRead (node align (choice (alternatives_view as') rule)) (data_of v) old new
+alternative_read as' i a v w old inside end new made within at opened read closed = λ align rule.
     let own = json_of (grammar_of a.node) w in
     let is : alternative_json (alternatives_view as') i w ≡ member a.name own no_members = subst (λ b. alternative_json (alternatives_view as') i w ≡ member b.name (json_of (grammar_of b.node) w) no_members) (sym at) (alternative-at as' i a w within) in
-    let name_is = sym (alternative_named as' i a within at) ∙ called in
-    if_some r (λ v same align rule. subst (λ d. IsRead (node align (choice (alternatives_view as') rule)) d old new) (sym same) (record {
-      text = alternative-text a.name own old opened key inside end new open_brace (keyed ∙ ap (λ n. quoted n ++ key) (sym name_is)) colon read.text closed ∙ ap (λ ms. (123 ∷ members_text false ms) ++ new) (sym is);
+    let named = alternative_named as' i a within at in
+    subst (λ d. IsRead (node align (choice (alternatives_view as') rule)) d old new) (sym made) (record {
+      text = alternative-text a.name own old (quoted a.name ++ 58 ∷ inside) (58 ∷ inside) inside end new (opened ∙ ap (λ n. 123 ∷ (quoted n ++ 58 ∷ inside)) named) refl refl read.text closed ∙ ap (λ ms. (123 ∷ members_text false ms) ++ new) (sym is);
       fits = alternative_fits_at as' i a w within at read.fits;
       said = read.said;
-    })) made
+    })

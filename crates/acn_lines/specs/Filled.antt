@@ -16,6 +16,11 @@ abbrev pub IsFieldRead : OneField → Data → (old new : List ℕ) → Type 0
 IsFieldRead (a_component name g presence default own) d old new = IsRead g d old new
 IsFieldRead (an_inserted name g slot) d old new = ⊥
 
+-- the text of the value in the place of a component was read
+abbrev pub IsPlaceRead : OneField → Option Data → (old new : List ℕ) → Type 0
+IsPlaceRead x (Some d) old new = IsFieldRead x d old new
+IsPlaceRead x None old new = ⊥
+
 -- the texts of the elements were read, and the bracket behind them
 pub record AreRead (g : Grammar) (es : Elements) (old new : List ℕ) : Type 0 where
   pub text : old ≡ items_text false (each_json (json_of g) es) ++ new

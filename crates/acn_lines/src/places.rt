@@ -29,15 +29,6 @@ pub fn no_values(room: Vec<Option<Value>>, fields: &[Field]) -> Result<Vec<Optio
     Ok(places)
 }
 
-/// Takes the value out of the place of this number, if one is there.
-#[inline(always)]
-pub fn take_out(places: &mut Vec<Option<Value>>, at: usize) -> Option<Value>
-    requires { at < length places.old.items }
-    ensures { places.new.items ≡ set places.old.items at None }
-{
-    places[at].take()
-}
-
 /// Whether a field is a component that may be absent.
 #[inline]
 pub fn may_lack(field: &Field) -> bool

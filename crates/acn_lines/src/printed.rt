@@ -28,9 +28,9 @@ pub fn printed_value(tree: &Tree, order: &Order, spare: &mut Spare, line: &[u8])
         return None;
     }
     let mut rest = Rest { text: line };
-    let old = spare.old(line.len());
-    let value = read_node(root, order, old, spare, &mut rest)?;
-    if rest.text.is_empty() {
+    let mut value = spare.old(line.len());
+    let read = read_node(root, order, &mut value, spare, &mut rest);
+    if read && rest.text.is_empty() {
         Some(value)
     } else {
         None

@@ -1,6 +1,7 @@
 //! The value of a line, read along the tree as the line of a value is printed, where the line is one: the texts are those of src/put.rt.
 
-ghost use Rattle.std.specs.Prelude.{◌≡◌, ◌++◌, List, ℕ, ℤ, IfSome, OnSome, IsTrue, length, false};
+ghost use Rattle.std.specs.Prelude.{◌≡◌, ◌<◌, ◌≤◌, ◌++◌, ◌∷◌, List, ℕ, ℤ, IfSome, IsTrue, length, take, false, option_map};
+ghost use Rattle.json.specs.Print.{quoted};
 ghost use Rattle.serde_json.specs.Written.{members_text};
 ghost use Rattle.acn_grammar.specs.Grammar as grammar;
 ghost use Rattle.acn_grammar.specs.Grammar.{Data};
@@ -8,6 +9,7 @@ ghost use Rattle.acn_grammar.specs.View.{grammar_of, data_of, field_of, fields_v
 ghost use Rattle.acn_grammar.specs.declared.node.ChoiceRule.{ChoiceRule};
 ghost use Rattle.acn_grammar.specs.declared.node.NumKind.TheVariants as kind;
 ghost use Rattle.acn_grammar.specs.declared.node.Sizing.{Sizing};
+ghost use Rattle.acn_grammar.specs.declared.node.TextLeaf.{TextLeaf};
 ghost use Rattle.acn_lines.specs.Filled as filled;
 ghost use Rattle.acn_lines.specs.Order as spec;
 ghost use Rattle.acn_lines.specs.Taken as taken;
@@ -15,7 +17,7 @@ ghost use Rattle.acn_lines.specs.declared.order.Order.{out-Order};
 ghost use Rattle.acn_printed.specs.Read.{IsRead, IsNumberRead};
 
 use crate::order::Order;
-use crate::places::{alternative_called, may_lack, take_out};
+use crate::places::{alternative_called, may_lack};
 use crate::spare::Spare;
 use crate::take::alternative_of;
 use crate::turns::Turn;
@@ -23,61 +25,73 @@ use acn_grammar::{Alternative, Body, Field, Node, NumKind, NumLeaf, Presence, Va
 use acn_num::Row;
 use acn_printed::{Rest, read_bits, read_characters, read_integer, read_number, read_octets};
 
-// Reads the value of a node that is a string.
-#[inline(never)]
-fn read_string(
-    node: &Node,
-    old: Option<Value>,
-    spare: &mut Spare,
-    rest: &mut Rest<'_>,
-) -> Option<Value>
-    ensures { IfSome result (λ v. IsRead (grammar_of node.now) (data_of v) rest.old.text.now rest.new.text.now) }
+// Reads an octet string over an old value.
+fn read_octet_string(value: &mut Value, spare: &mut Spare, rest: &mut Rest<'_>) -> bool
+    ensures { (align : ℕ) (sizing : Sizing) → IsTrue result → IsRead (grammar.node align (grammar.octets sizing)) (data_of value.new) rest.old.text.now rest.new.text.now }
 {
-    match &node.body {
-        Body::Octets(_) => {
-            let octets = read_octets(spare.string(old), rest)?;
-            Some(Value::Octets(octets))
-        }
-        Body::Bits(_) => {
-            let bits = read_bits(spare.alloc, rest)?;
-            Some(Value::Bits(bits))
-        }
-        Body::Text(_) => {
-            let characters = read_characters(spare.string(old), rest)?;
-            Some(Value::Text(characters))
-        }
-        _ => None,
+    if !matches!(value, Value::Octets(_)) {
+        spare.make_octets(value);
+    }
+    match value {
+        Value::Octets(octets) => read_octets(spare.alloc, octets, rest),
+        _ => false,
     }
 }
 
-/// Reads the value of a node, if its text comes next, into the memory of an old value.
+// Reads a text over an old value.
+fn read_text(value: &mut Value, spare: &mut Spare, rest: &mut Rest<'_>) -> bool
+    ensures { (align : ℕ) (leaf : TextLeaf) → IsTrue result → IsRead (grammar.node align (grammar.text leaf)) (data_of value.new) rest.old.text.now rest.new.text.now }
+{
+    if !matches!(value, Value::Text(_)) {
+        spare.make_text(value);
+    }
+    match value {
+        Value::Text(characters) => read_characters(spare.alloc, characters, rest),
+        _ => false,
+    }
+}
+
+// Reads a bit string over an old value.
+fn read_bit_string(value: &mut Value, spare: &mut Spare, rest: &mut Rest<'_>) -> bool
+    ensures { (align : ℕ) (sizing : Sizing) → IsTrue result → IsRead (grammar.node align (grammar.bits sizing)) (data_of value.new) rest.old.text.now rest.new.text.now }
+{
+    match read_bits(spare.alloc, rest) {
+        Some(bits) => {
+            *value = Value::Bits(bits);
+            true
+        }
+        None => false,
+    }
+}
+
+/// Reads the value of a node over an old value, if its text comes next.
 #[cycle(read)]
 pub fn read_node(
     node: &Node,
     order: &Order,
-    old: Option<Value>,
+    value: &mut Value,
     spare: &mut Spare,
     rest: &mut Rest<'_>,
-) -> Option<Value>
+) -> bool
     requires { spec.IsNodeOrder (grammar_of node.now) order.now }
-    ensures { IfSome result (λ v. IsRead (grammar_of node.now) (data_of v) rest.old.text.now rest.new.text.now) }
+    ensures { IsTrue result → IsRead (grammar_of node.now) (data_of value.new) rest.old.text.now rest.new.text.now }
 {
     match &node.body {
-        Body::Num(leaf) => read_number(leaf, order.names.items(), rest),
-        Body::Octets(_) => read_string(node, old, spare, rest),
-        Body::Bits(_) => read_string(node, old, spare, rest),
-        Body::Text(_) => read_string(node, old, spare, rest),
-        Body::Seq(seq) => read_record(seq.fields.items(), order, old, spare, rest),
-        Body::List(_, element) => read_list(element.get(), order, old, spare, rest),
+        Body::Num(leaf) => read_number(leaf, order.names.items(), value, rest),
+        Body::Octets(_) => read_octet_string(value, spare, rest),
+        Body::Bits(_) => read_bit_string(value, spare, rest),
+        Body::Text(_) => read_text(value, spare, rest),
+        Body::Seq(seq) => read_record(seq.fields.items(), order, value, spare, rest),
+        Body::List(_, element) => read_list(element.get(), order, value, spare, rest),
         Body::Choice(choice) => read_alternative(
             choice.alternatives.items(),
             order.inside.items(),
             order.names.items(),
-            old,
+            value,
             spare,
             rest,
         ),
-        Body::Contained(_, content) => read_node(content.get(), order, old, spare, rest),
+        Body::Contained(_, content) => read_node(content.get(), order, value, spare, rest),
     }
 }
 
@@ -85,28 +99,25 @@ pub fn read_node(
 fn read_record(
     fields: &[Field],
     order: &Order,
-    old: Option<Value>,
+    value: &mut Value,
     spare: &mut Spare,
     rest: &mut Rest<'_>,
-) -> Option<Value>
+) -> bool
     requires turns { spec.AreTurns (fields_view fields.now) (out-Order order.now).turns }
     requires inside { spec.AreFieldOrders (fields_view fields.now) (out-Order order.now).inside }
-    ensures { IfSome result (λ v. (align : ℕ) (home : List ℕ) → IsRead (grammar.node align (grammar.seq (fields_view fields.now) home)) (data_of v) rest.old.text.now rest.new.text.now) }
+    ensures { IsTrue result → (align : ℕ) (home : List ℕ) → IsRead (grammar.node align (grammar.seq (fields_view fields.now) home)) (data_of value.new) rest.old.text.now rest.new.text.now }
 {
     if !rest.pass(b'{') {
-        return None;
+        return false;
     }
     let turns = order.turns.items();
-    let mut places = spare.record(old, fields, turns)?;
-    read_members(
-        fields,
-        order.inside.items(),
-        turns,
-        &mut places,
-        spare,
-        rest,
-    )?;
-    Some(Value::Seq(Row::from_vec(places)))
+    let Some(mut places) = spare.record(value, fields, turns) else {
+        return false;
+    };
+    let inside = order.inside.items();
+    let read = read_members(fields, inside, turns, &mut places, spare, rest);
+    *value = Value::Seq(Row::from_vec(places));
+    read
 }
 
 // Reads members, turn by turn, and the brace behind them, into places in which old values stand.
@@ -118,20 +129,22 @@ fn read_members(
     places: &mut Vec<Option<Value>>,
     spare: &mut Spare,
     rest: &mut Rest<'_>,
-) -> Option<()>
+) -> bool
     requires turns { spec.AreTurns (fields_view fields.now) turns.now }
     requires inside { spec.AreFieldOrders (fields_view fields.now) inside.now }
     requires count { length places.old.items ≡ taken.component_count (fields_view fields.now) }
-    ensures text { OnSome result (rest.old.text.now ≡ members_text false (spec.in_order (fields_view fields.now) turns.now (places_view places.new.items)) ++ rest.new.text.now) }
-    ensures filled { OnSome result (filled.AreFilled (fields_view fields.now) (places_view places.new.items)) }
-    ensures whole { OnSome result (IsTrue (taken.is_whole (fields_view fields.now) (places_view places.new.items))) }
+    ensures text { IsTrue result → rest.old.text.now ≡ members_text false (spec.in_order (fields_view fields.now) turns.now (places_view places.new.items)) ++ rest.new.text.now }
+    ensures filled { IsTrue result → filled.AreFilled (fields_view fields.now) (places_view places.new.items) }
+    ensures whole { IsTrue result → IsTrue (taken.is_whole (fields_view fields.now) (places_view places.new.items)) }
 {
     let mut later = false;
     for turn in turns {
-        let more = read_turn(fields, inside, turn, later, places, spare, rest)?;
-        later = more;
+        match read_turn(fields, inside, turn, later, places, spare, rest) {
+            Some(more) => later = more,
+            None => return false,
+        }
     }
-    if rest.pass(b'}') { Some(()) } else { None }
+    rest.pass(b'}')
 }
 
 // Reads the member of a turn, if it comes next, and answers whether a comma is wanted behind it.
@@ -153,31 +166,40 @@ fn read_turn(
     ensures count { IfSome result (λ more. length places.new.items ≡ length places.old.items) }
 {
     let field = &fields[turn.field];
+    let place = &mut places[turn.place];
     if !rest.pass_key(later, turn.key.items()) {
         if !may_lack(field) {
             return None;
         }
-        let old = take_out(places, turn.place);
-        spare.keep(old);
+        spare.empty(place);
         return Some(later);
     }
-    if is_integer(field) {
-        let number = read_integer(rest)?;
-        places[turn.place] = Some(number);
-        return Some(true);
+    let order = &inside[turn.field];
+    if read_place(field, order, place, spare, rest) {
+        Some(true)
+    } else {
+        None
     }
-    match number_in(field) {
-        Some(leaf) => {
-            let number = read_number(leaf, inside[turn.field].names.items(), rest)?;
-            places[turn.place] = Some(number);
-            Some(true)
-        }
-        None => {
-            let old = take_out(places, turn.place);
-            let value = read_field(field, &inside[turn.field], old, spare, rest)?;
-            places[turn.place] = Some(value);
-            Some(true)
-        }
+}
+
+// Reads the value of a component into its place.
+#[cycle(read)]
+fn read_place(
+    field: &Field,
+    order: &Order,
+    place: &mut Option<Value>,
+    spare: &mut Spare,
+    rest: &mut Rest<'_>,
+) -> bool
+    requires { spec.IsFieldOrder (field_of field.now) order.now }
+    ensures { IsTrue result → filled.IsPlaceRead (field_of field.now) (option_map data_of place.new) rest.old.text.now rest.new.text.now }
+{
+    if place.is_none() {
+        *place = Some(Value::Null);
+    }
+    match place {
+        Some(value) => read_field(field, order, value, spare, rest),
+        None => false,
     }
 }
 
@@ -217,36 +239,29 @@ fn is_integer(field: &Field) -> bool
     }
 }
 
-// The leaf of a component that is a number.
-#[inline]
-fn number_in(field: &Field) -> Option<&NumLeaf>
-    ensures { IfSome result (λ leaf. (d : Data) (old new : List ℕ) → IsNumberRead leaf.now.kind leaf.now.items.items d old new → filled.IsFieldRead (field_of field.now) d old new) }
-{
-    match field {
-        Field::Component { node, .. } => leaf_of(node),
-        Field::Inserted { .. } => None,
-    }
-}
-
-// Reads the value of a component. A string is read here, without a turn of the cycle.
+// Reads the value of a component. A number or a string is read here, without a turn of the cycle.
 #[cycle(read)]
 fn read_field(
     field: &Field,
     order: &Order,
-    old: Option<Value>,
+    value: &mut Value,
     spare: &mut Spare,
     rest: &mut Rest<'_>,
-) -> Option<Value>
+) -> bool
     requires { spec.IsFieldOrder (field_of field.now) order.now }
-    ensures { IfSome result (λ v. filled.IsFieldRead (field_of field.now) (data_of v) rest.old.text.now rest.new.text.now) }
+    ensures { IsTrue result → filled.IsFieldRead (field_of field.now) (data_of value.new) rest.old.text.now rest.new.text.now }
 {
+    if is_integer(field) {
+        return read_integer(value, rest);
+    }
     match field {
         Field::Component { node, .. } => match &node.body {
-            Body::Octets(_) => read_string(node, old, spare, rest),
-            Body::Text(_) => read_string(node, old, spare, rest),
-            _ => read_node(node, order, old, spare, rest),
+            Body::Num(leaf) => read_number(leaf, order.names.items(), value, rest),
+            Body::Octets(_) => read_octet_string(value, spare, rest),
+            Body::Text(_) => read_text(value, spare, rest),
+            _ => read_node(node, order, value, spare, rest),
         },
-        Field::Inserted { .. } => None,
+        Field::Inserted { .. } => false,
     }
 }
 
@@ -255,55 +270,69 @@ fn read_field(
 fn read_list(
     element: &Node,
     order: &Order,
-    old: Option<Value>,
+    value: &mut Value,
     spare: &mut Spare,
     rest: &mut Rest<'_>,
-) -> Option<Value>
+) -> bool
     requires { spec.IsNodeOrder (grammar_of element.now) order.now }
-    ensures { IfSome result (λ v. (align : ℕ) (sizing : Sizing) → IsRead (grammar.node align (grammar.list sizing (grammar_of element.now))) (data_of v) rest.old.text.now rest.new.text.now) }
+    ensures { IsTrue result → (align : ℕ) (sizing : Sizing) → IsRead (grammar.node align (grammar.list sizing (grammar_of element.now))) (data_of value.new) rest.old.text.now rest.new.text.now }
 {
     if !rest.pass(b'[') {
-        return None;
+        return false;
     }
-    let olds = spare.elements(old);
-    if rest.pass(b']') {
-        spare.keep_list(olds);
-        return Some(Value::List(Row::new(spare.alloc)));
-    }
-    let elements = read_elements(element, order, olds, spare, rest)?;
-    Some(Value::List(elements))
+    let mut elements = spare.elements(value);
+    let read = if rest.pass(b']') {
+        spare.cut(&mut elements, 0);
+        true
+    } else {
+        read_elements(element, order, &mut elements, spare, rest)
+    };
+    *value = Value::List(Row::from_vec(elements));
+    read
 }
 
-// Reads elements, of which there is one at least, and the bracket behind them.
+// Makes a place for the element of a number, if there is none yet.
+#[inline(always)]
+fn make_place(elements: &mut Vec<Value>, at: usize) -> bool
+    requires { at ≤ length elements.old.items }
+    ensures within { IsTrue result → at < length elements.new.items }
+    ensures same { take at elements.new.items ≡ take at elements.old.items }
+{
+    if at < elements.len() {
+        return true;
+    }
+    elements.push(Value::Null).is_ok()
+}
+
+// Reads elements, of which there is one at least, and the bracket behind them, over old ones.
 #[cycle(read)]
 fn read_elements(
     element: &Node,
     order: &Order,
-    olds: Vec<Value>,
+    elements: &mut Vec<Value>,
     spare: &mut Spare,
     rest: &mut Rest<'_>,
-) -> Option<Row<Value>>
+) -> bool
     requires { spec.IsNodeOrder (grammar_of element.now) order.now }
-    ensures { IfSome result (λ vs. filled.AreRead (grammar_of element.now) (elements_view vs) rest.old.text.now rest.new.text.now) }
+    ensures { IsTrue result → filled.AreRead (grammar_of element.now) (elements_view elements.new.items) rest.old.text.now rest.new.text.now }
 {
-    let mut left = olds;
-    let mut elements = spare.list();
     // each element has an octet
-    for _ in 0..rest.text.len() {
-        let old = left.pop();
-        let value = read_node(element, order, old, spare, rest)?;
-        if elements.push(value).is_err() {
-            return None;
+    for at in 0..rest.text.len() {
+        if !make_place(elements, at) {
+            return false;
+        }
+        if !read_node(element, order, &mut elements[at], spare, rest) {
+            return false;
         }
         if rest.pass(b']') {
-            spare.keep_list(left);
-            return Some(Row::from_vec(elements));
+            spare.cut(elements, at + 1);
+            return true;
         }
         if !rest.pass(b',') {
-            return None;
+            return false;
         }
     }
-    None
+    false
 }
 
 #[cycle(read)]
@@ -312,27 +341,53 @@ fn read_alternative(
     alternatives: &[Alternative],
     inside: &[Order],
     names: &[u32],
-    old: Option<Value>,
+    value: &mut Value,
     spare: &mut Spare,
     rest: &mut Rest<'_>,
-) -> Option<Value>
+) -> bool
     requires { spec.AreAlternativeOrders (alternatives_view alternatives.now) inside.now }
-    ensures { IfSome result (λ v. (align : ℕ) (rule : ChoiceRule) → IsRead (grammar.node align (grammar.choice (alternatives_view alternatives.now) rule)) (data_of v) rest.old.text.now rest.new.text.now) }
+    ensures { IsTrue result → (align : ℕ) (rule : ChoiceRule) → IsRead (grammar.node align (grammar.choice (alternatives_view alternatives.now) rule)) (data_of value.new) rest.old.text.now rest.new.text.now }
+{
+    let Some(at) = pass_alternative(alternatives, names, rest) else {
+        return false;
+    };
+    let mut within = spare.inside(value);
+    if !read_node(
+        &alternatives[at].node,
+        &inside[at],
+        &mut within,
+        spare,
+        rest,
+    ) {
+        return false;
+    }
+    if !rest.pass(b'}') {
+        return false;
+    }
+    match alternative_of(spare.alloc, at, within) {
+        Some(read) => {
+            *value = read;
+            true
+        }
+        None => false,
+    }
+}
+
+// Passes over the brace and the key of an alternative, and answers its number.
+fn pass_alternative(
+    alternatives: &[Alternative],
+    names: &[u32],
+    rest: &mut Rest<'_>,
+) -> Option<usize>
+    ensures within { IfSome result (λ at. at < length alternatives.now) }
+    ensures text { IfSome result (λ at. rest.old.text.now ≡ 123 ∷ (quoted (filled.alternative_name (alternatives_view alternatives.now) at) ++ 58 ∷ rest.new.text.now)) }
 {
     if !rest.pass(b'{') {
         return None;
     }
     let name = rest.plain_string()?;
     let at = alternative_called(alternatives, names, name)?;
-    if !rest.pass(b':') {
-        return None;
-    }
-    let old = spare.inside(old);
-    let value = read_node(&alternatives[at].node, &inside[at], old, spare, rest)?;
-    if !rest.pass(b'}') {
-        return None;
-    }
-    alternative_of(spare.alloc, at, value)
+    if rest.pass(b':') { Some(at) } else { None }
 }
 
 fn has_to_come(field: Option<&Field>) -> bool {

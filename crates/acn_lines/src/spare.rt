@@ -1,7 +1,7 @@
 //! Memory of values that aren't needed any more, which the values of later lines take. No clause
 //! speaks of how much there is, nor of what stands in it, since nothing but time rests on it.
 
-ghost use Rattle.std.specs.Prelude.{◌≡◌, [], IfSome, length};
+ghost use Rattle.std.specs.Prelude.{◌≡◌, ◌≤◌, IfSome, None, length, take};
 ghost use Rattle.acn_grammar.specs.View.{fields_view};
 ghost use Rattle.acn_lines.specs.Order.{AreTurns};
 ghost use Rattle.acn_lines.specs.Taken as taken;
@@ -11,6 +11,7 @@ use crate::turns::Turn;
 use acn_grammar::{Field, Value};
 use acn_num::Row;
 use std::alloc::Global;
+use std::mem::replace;
 
 /// So many pieces of each kind are kept at most.
 const MOST_SPARE: usize = 64;
@@ -58,45 +59,42 @@ impl Spare {
     }
 
     /// The value of the line before, if it is kept, for a line of this length.
-    pub fn old(&mut self, size: usize) -> Option<Value> {
+    pub fn old(&mut self, size: usize) -> Value {
         self.keeps = size <= MOST_SPARE_LINE;
-        self.whole.take()
-    }
-
-    /// Room for octets, whatever stands in it: that of an old value, if there is one.
-    #[inline(always)]
-    pub fn string(&mut self, old: Option<Value>) -> Vec<u8> {
-        match old {
-            Some(value) => self.string_of(value),
-            None => self.spare_string(),
+        match self.whole.take() {
+            Some(value) => value,
+            None => Value::Null,
         }
     }
 
-    #[inline(always)]
-    fn string_of(&mut self, value: Value) -> Vec<u8> {
-        match value {
-            Value::Octets(octets) => octets.into_vec(),
-            Value::Text(characters) => characters.into_vec(),
-            other => {
-                self.keep_value(other);
-                self.spare_string()
-            }
-        }
-    }
-
-    #[inline(never)]
-    fn spare_string(&mut self) -> Vec<u8> {
+    // Room for octets, whatever stands in it.
+    fn string(&mut self) -> Row<u8> {
         match self.strings.pop() {
-            Some(room) => room,
-            None => Vec::new(self.alloc),
+            Some(room) => Row::from_vec(room),
+            None => Row::new(self.alloc),
         }
+    }
+
+    /// Makes a value an octet string, of whatever octets.
+    #[inline(never)]
+    pub fn make_octets(&mut self, value: &mut Value) {
+        let octets = Value::Octets(self.string());
+        self.keep_value(replace(value, octets));
+    }
+
+    /// Makes a value a text, of whatever characters.
+    #[inline(never)]
+    pub fn make_text(&mut self, value: &mut Value) {
+        let text = Value::Text(self.string());
+        self.keep_value(replace(value, text));
     }
 
     /// Places of a record, one for each component, whatever stands in them: those of an old value,
     /// if there is one. None comes only where memory runs out.
+    #[inline(always)]
     pub fn record(
         &mut self,
-        old: Option<Value>,
+        old: &mut Value,
         fields: &[Field],
         turns: &[Turn],
     ) -> Option<Vec<Option<Value>>>
@@ -112,25 +110,17 @@ impl Spare {
 
     // The places of an old record, or of one that is kept.
     #[inline(always)]
-    fn places(&mut self, old: Option<Value>) -> Vec<Option<Value>> {
-        match old {
-            Some(value) => self.places_of(value),
-            None => self.spare_places(),
-        }
-    }
-
-    #[inline(always)]
-    fn places_of(&mut self, value: Value) -> Vec<Option<Value>> {
-        match value {
+    fn places(&mut self, old: &mut Value) -> Vec<Option<Value>> {
+        match replace(old, Value::Null) {
             Value::Seq(places) => places.into_vec(),
-            other => {
-                self.keep_value(other);
-                self.spare_places()
-            }
+            other => self.spare_places(other),
         }
     }
 
-    fn spare_places(&mut self) -> Vec<Option<Value>> {
+    // The places of a record that is kept, in place of another value.
+    #[inline(never)]
+    fn spare_places(&mut self, old: Value) -> Vec<Option<Value>> {
+        self.keep_value(old);
         match self.records.pop() {
             Some(places) => places,
             None => Vec::new(self.alloc),
@@ -157,53 +147,43 @@ impl Spare {
         }
     }
 
-    /// The elements of an old list.
-    #[inline]
-    pub fn elements(&mut self, old: Option<Value>) -> Vec<Value> {
-        match old {
-            Some(value) => self.elements_of(value),
-            None => Vec::new(self.alloc),
-        }
-    }
-
-    #[inline]
-    fn elements_of(&mut self, value: Value) -> Vec<Value> {
-        match value {
+    /// The elements of an old list, or room for those of a new one.
+    pub fn elements(&mut self, old: &mut Value) -> Vec<Value> {
+        match replace(old, Value::Null) {
             Value::List(elements) => elements.into_vec(),
-            other => {
-                self.keep_value(other);
-                Vec::new(self.alloc)
-            }
+            other => self.spare_elements(other),
         }
     }
 
-    /// Room for the elements of a list.
-    pub fn list(&mut self) -> Vec<Value>
-        ensures { result.items ≡ [] }
-    {
+    // Room for the elements of a list, in place of another value.
+    fn spare_elements(&mut self, old: Value) -> Vec<Value> {
+        self.keep_value(old);
         match self.lists.pop() {
-            Some(mut room) => {
-                room.clear();
-                room
-            }
+            Some(elements) => elements,
             None => Vec::new(self.alloc),
+        }
+    }
+
+    /// Takes the memory of the elements behind so many.
+    pub fn cut(&mut self, elements: &mut Vec<Value>, size: usize)
+        requires { size ≤ length elements.old.items }
+        ensures { elements.new.items ≡ take size elements.old.items }
+    {
+        while elements.len() > size {
+            match elements.pop() {
+                Some(value) => self.keep_element(value),
+                None => {}
+            }
         }
     }
 
     /// The value in an old alternative.
-    pub fn inside(&mut self, old: Option<Value>) -> Option<Value> {
-        match old {
-            Some(value) => self.inside_of(value),
-            None => None,
-        }
-    }
-
-    fn inside_of(&mut self, value: Value) -> Option<Value> {
-        match value {
-            Value::Alt(_, inside) => Some(inside.into_inner()),
+    pub fn inside(&mut self, old: &mut Value) -> Value {
+        match replace(old, Value::Null) {
+            Value::Alt(_, inside) => inside.into_inner(),
             other => {
                 self.keep_value(other);
-                None
+                Value::Null
             }
         }
     }
@@ -214,6 +194,17 @@ impl Spare {
         match old {
             Some(value) => self.keep_value(value),
             None => {}
+        }
+    }
+
+    /// Empties a place.
+    #[inline(always)]
+    pub fn empty(&mut self, place: &mut Option<Value>)
+        ensures { place.new ≡ None }
+    {
+        if place.is_some() {
+            let old = place.take();
+            self.keep(old);
         }
     }
 
@@ -256,8 +247,8 @@ impl Spare {
         }
     }
 
-    /// Takes the memory of a list, and that of its elements.
-    pub fn keep_list(&mut self, room: Vec<Value>) {
+    // Takes the memory of a list, and that of its elements.
+    fn keep_list(&mut self, room: Vec<Value>) {
         let mut elements = room;
         let few = elements.len() <= MOST_SPARE_VALUES;
         while let Some(value) = elements.pop() {
