@@ -1,4 +1,5 @@
 ghost use Rattle.std.specs.Prelude.{◌≡◌, ◌<◌, ◌≤◌, length};
+ghost use Rattle.acn_num.specs.Bits.{number};
 ghost use Rattle.acn_grammar.specs.declared.limits.TheConstants.{MOST_PATTERN_BITS};
 
 use crate::limits::MOST_PATTERN_BITS;
@@ -10,17 +11,19 @@ use std::marker::Model;
 #[derive(Drop)]
 pub struct Pattern {
     bits: ArrayVec<bool, MOST_PATTERN_BITS>,
+    // what the bits spell, for whoever writes or compares them at once
+    number: u64,
 }
 
 impl Model for Pattern {
     ghost use Rattle.std.specs.Prelude.{List, Bool, ◌<◌, ◌≤◌, length};
-    ghost use Rattle.acn_grammar.specs.Pattern.{HasPatternLength};
+    ghost use Rattle.acn_grammar.specs.Pattern.{IsNumbered};
 
     ghost Value = { List Bool };
 
     ghost view = { λ pattern. pattern.bits.items };
 
-    ghost invariant = { λ pattern. HasPatternLength pattern.bits.items };
+    ghost invariant = { λ pattern. IsNumbered pattern.bits.items pattern.number };
 }
 
 impl Pattern {
@@ -31,10 +34,15 @@ impl Pattern {
         ensures { result ≡ bits.now }
     {
         let mut copied = ArrayVec::new();
+        let mut number = 0u64;
         for bit in bits {
             copied.push(*bit);
+            number = 2 * number + u64::from(*bit);
         }
-        Pattern { bits: copied }
+        Pattern {
+            bits: copied,
+            number,
+        }
     }
 
     /// The bits, in order: at least one, and at most `MOST_PATTERN_BITS`.
@@ -44,6 +52,14 @@ impl Pattern {
         ensures short { length result.now ≤ MOST_PATTERN_BITS }
     {
         self.bits.as_slice()
+    }
+
+    /// The number that the bits spell in base 2.
+    #[inline(always)]
+    pub fn number(&self) -> u64
+        ensures { result ≡ number self.now }
+    {
+        self.number
     }
 
     /// The same pattern again.

@@ -126,10 +126,9 @@ pub fn flag_piece(ones: &Option<Pattern>, zeros: &Option<Pattern>, little: bool,
 fn plain_piece(pattern: &Pattern) -> Piece
     ensures { IsBits pattern.now result.width result.value }
 {
-    let bits = pattern.bits();
     Piece {
-        width: bits.len() as u32,
-        value: pattern_number(bits),
+        width: pattern.bits().len() as u32,
+        value: pattern.number(),
     }
 }
 

@@ -9,7 +9,6 @@ ghost use Rattle.acn_writer.specs.Plain.{CanCount, IsAhead, IsBounded, IsCounted
 
 use acn_bits::WORD_BITS;
 use acn_grammar::{NumCoding, NumLeaf, Pattern};
-use acn_ints::pattern_number;
 
 /// A code of at most `WORD_BITS` bits: the lowest bits of a value.
 #[derive(Clone, Copy)]
@@ -65,13 +64,13 @@ fn offset(low: &i128, width: u32, x: &i128) -> Option<PlainCode>
 }
 
 // A pattern.
+#[inline(always)]
 fn spelled(pattern: &Pattern) -> PlainCode
     ensures { IsBits pattern.now result.width result.value }
 {
-    let bits = pattern.bits();
     PlainCode {
-        width: bits.len() as u32,
-        value: pattern_number(bits),
+        width: pattern.bits().len() as u32,
+        value: pattern.number(),
     }
 }
 
