@@ -1,2 +1,5 @@
+-- for acn_transcode
+pub mod Runs
+mod Strips
 mod Words
 mod Leaves

@@ -5,8 +5,7 @@ ghost use Rattle.acn_cut.specs.Cuts.{IsCut};
 ghost use Rattle.acn_cut.specs.Making as spec;
 
 use crate::cut::Cut;
-use acn_grammar::{NumCoding, NumLeaf, Pattern};
-use acn_ints::pattern_number;
+use acn_grammar::{NumCoding, NumLeaf, Pattern, Table};
 
 // How far the one number is from the other.
 fn gap(low: &i128, high: &i128) -> Option<u64>
@@ -21,14 +20,15 @@ fn gap(low: &i128, high: &i128) -> Option<u64>
     }
 }
 
-// The numbers from `low` to `high`, whose codes say how far each is from `from`.
-fn between(low: &i128, high: &i128, from: &i128, width: u32) -> Option<Cut>
-    ensures { IfSome result (λ cut. spec.IsBetween cut low.now high.now from.now width) }
+// The numbers from `low` to `high`, which are written as `image` and those behind it, and whose
+// codes say how far these are from `from`.
+fn between(low: &i128, high: &i128, image: &i128, from: &i128, width: u32) -> Option<Cut>
+    ensures { IfSome result (λ cut. spec.IsBetween cut low.now high.now image.now from.now width) }
 {
     if width > 64 || *high > i128::from(u64::MAX) {
         return None;
     }
-    let first = gap(from, low)?;
+    let first = gap(from, image)?;
     let span = gap(low, high)?;
     match first.checked_add(span) {
         Some(_last) => Some(Cut {
@@ -45,20 +45,50 @@ fn between(low: &i128, high: &i128, from: &i128, width: u32) -> Option<Cut>
 fn under(pattern: &Pattern) -> Cut
     ensures { spec.IsUnder result pattern.now }
 {
-    let bits = pattern.bits();
     Cut {
         low: 0,
-        first: pattern_number(bits),
+        first: pattern.number(),
         span: 0,
-        width: bits.len() as u32,
+        width: pattern.bits().len() as u32,
     }
 }
 
-// Whether the leaf has neither a table nor numbers of items nor another order of octets.
+// Whether the leaf has neither numbers of items nor another order of octets.
 fn is_plain(leaf: &NumLeaf) -> bool
     ensures { IsTrue result → spec.IsPlain leaf.now }
 {
-    !leaf.items.values && !leaf.little && leaf.table.is_none()
+    !leaf.items.values && !leaf.little
+}
+
+// The image of the least number of a range that is on the line.
+fn image_on(line: &(i128, i128, i128), range: &(i128, i128)) -> Option<i128>
+    ensures { IfSome result (λ image. spec.CountsOnLine line.now range.now.0 range.now.1 image) }
+{
+    if range.0 < line.0 || line.1 < range.1 {
+        return None;
+    }
+    line.2.checked_add(range.0.checked_sub(line.0)?)
+}
+
+// The one line of a table that has one.
+fn only_line(lines: &[(i128, i128, i128)]) -> Option<&(i128, i128, i128)>
+    ensures { IfSome result (λ line. lines.now ≡ line.now ∷ []) }
+{
+    match lines {
+        [line] => Some(line),
+        _ => None,
+    }
+}
+
+// What the least number of a range is written as, where what the others are written as counts up
+// with them.
+fn image_of_least(table: &Option<Table>, range: &(i128, i128)) -> Option<i128>
+    ensures { IfSome result (λ image. spec.CountsUp table.now range.now.0 range.now.1 image) }
+{
+    match table {
+        None => Some(range.0),
+        Some(table) => image_on(only_line(table.lines.items())?, range),
+    }
 }
 
 // The one range of a set that has one.
@@ -73,7 +103,7 @@ fn only(ranges: &[(i128, i128)]) -> Option<&(i128, i128)>
 
 /// How the number of a leaf is read out of one word. None where it can't be so: its codes have
 /// several widths, or more than 64 bits, or don't count up with its numbers, which may be several
-/// ranges.
+/// ranges, or stand on several lines of a table.
 pub fn cut_of(leaf: &NumLeaf) -> Option<Cut>
     ensures { IfSome result (λ cut. IsCut cut leaf.now) }
 {
@@ -81,18 +111,19 @@ pub fn cut_of(leaf: &NumLeaf) -> Option<Cut>
     if !is_plain(leaf) {
         return None;
     }
+    let image = image_of_least(&leaf.table, range)?;
     match &leaf.coding {
-        NumCoding::Range { low, width } => between(&range.0, &range.1, low, *width),
-        NumCoding::PosInt(n) => between(&range.0, &range.1, &0, *n),
+        NumCoding::Range { low, width } => between(&range.0, &range.1, &image, low, *width),
+        NumCoding::PosInt(n) => between(&range.0, &range.1, &image, &0, *n),
         NumCoding::Flag { yes, no } => {
             if yes.is_none() && no.is_none() {
-                between(&range.0, &range.1, &0, 1)
+                between(&range.0, &range.1, &image, &0, 1)
             } else {
                 None
             }
         }
         NumCoding::Fixed(pattern) => {
-            if range.0 <= 0 && 0 <= range.1 {
+            if leaf.table.is_none() && range.0 <= 0 && 0 <= range.1 {
                 Some(under(pattern))
             } else {
                 None

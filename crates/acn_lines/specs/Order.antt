@@ -7,6 +7,7 @@ use Rattle.acn_grammar.specs.Grammar.{Grammar, Form, Fields, Alternatives, Data,
 use Rattle.acn_grammar.specs.View.{OneField, a_component, an_inserted}
 use Rattle.acn_grammar.specs.declared.node.NumLeaf.{NumLeaf}
 use Rattle.acn_cut.specs.Cuts.{IsCut}
+use Rattle.acn_cut.specs.Stretches.{AreStretches}
 use Rattle.acn_json.specs.Lines.{json_of, fields_json}
 use Rattle.acn_grammar.specs.Fails.{presence_count}
 use Rattle.acn_lines.specs.Keys.{AreShort}
@@ -96,7 +97,7 @@ abbrev mutual
 
   pub IsFormOrder : Form → Order → Type 0
   IsFormOrder (num leaf) o = IsLeafOrder leaf o
-  IsFormOrder (seq fields home) o = AreTurns fields (out-Order o).turns × AreFieldOrders fields (out-Order o).inside × ((out-Order o).flags ≡ presence_count fields)
+  IsFormOrder (seq fields home) o = AreTurns fields (out-Order o).turns × AreFieldOrders fields (out-Order o).inside × ((out-Order o).flags ≡ presence_count fields) × AreStretches fields (out-Order o).stretches
   IsFormOrder (list sizing g) o = IsNodeOrder g o
   IsFormOrder (choice cases rule) o = AreAlternativeOrders cases (out-Order o).inside
   IsFormOrder (contained sizing g) o = IsNodeOrder g o

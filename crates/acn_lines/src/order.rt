@@ -2,6 +2,7 @@
 
 ghost use Rattle.std.specs.Prelude.{◌≡◌, IfOk, IfSome};
 ghost use Rattle.acn_cut.specs.Cuts.{IsCut};
+ghost use Rattle.acn_cut.specs.Stretches.{AreStretches};
 ghost use Rattle.acn_grammar.specs.Fails.{presence_count};
 ghost use Rattle.acn_grammar.specs.View.{grammar_of, field_of, fields_view, alternatives_view};
 ghost use Rattle.acn_lines.specs.Names as names;
@@ -10,7 +11,7 @@ ghost use Rattle.acn_lines.specs.declared.order.Order.{out-Order};
 
 use crate::flags::flags_of;
 use crate::turns::{Turn, turns_of};
-use acn_cut::{Cut, cut_of};
+use acn_cut::{Cut, Stretch, cut_of, stretches_of};
 use acn_grammar::{Alternative, Body, Field, Node, NumLeaf};
 use acn_num::{NoMemory, Row};
 use acn_printed::in_order_of_names;
@@ -20,8 +21,9 @@ use std::alloc::Global;
 /// SEQUENCE, or of each alternative of a CHOICE; of a number, how it is read out of one word, where
 /// it can be so. `names` are the numbers of the alternatives of a CHOICE, or of the items of an
 /// ENUMERATED, in byte order of their names, if they are many; no clause speaks of them. `flags` is
-/// the number of bits of a SEQUENCE that say which components are there. Of a list, and of a string
-/// that contains a value, it is what is kept of the node inside.
+/// the number of bits of a SEQUENCE that say which components are there, and `stretches` say which
+/// of its fields are read out of one word. Of a list, and of a string that contains a value, it is
+/// what is kept of the node inside.
 #[cycle(kept)]
 #[derive(Drop)]
 pub struct Order {
@@ -30,6 +32,7 @@ pub struct Order {
     pub names: Row<u32>,
     pub cut: Option<Cut>,
     pub flags: u64,
+    pub stretches: Row<Stretch>,
 }
 
 /// What is kept of a tree: what is kept of its root, and whether its names are UTF-8 for sure.
@@ -49,6 +52,7 @@ fn leaf_order(alloc: Global, leaf: &NumLeaf, names: Row<u32>) -> Order
         names,
         cut: cut_of(leaf),
         flags: 0,
+        stretches: Row::new(alloc),
     }
 }
 
@@ -68,6 +72,7 @@ fn nothing(alloc: Global) -> Order {
         names: Row::new(alloc),
         cut: None,
         flags: 0,
+        stretches: Row::new(alloc),
     }
 }
 
@@ -106,15 +111,18 @@ fn sequence_order(alloc: Global, fields: &[Field]) -> Result<Order, NoMemory>
     ensures turns { IfOk result (λ o. spec.AreTurns (fields_view fields.now) (out-Order o).turns) }
     ensures inside { IfOk result (λ o. spec.AreFieldOrders (fields_view fields.now) (out-Order o).inside) }
     ensures flags { IfOk result (λ o. (out-Order o).flags ≡ presence_count (fields_view fields.now)) }
+    ensures stretches { IfOk result (λ o. AreStretches (fields_view fields.now) (out-Order o).stretches) }
 {
     let turns = turns_of(alloc, fields)?;
     let inside = field_orders(alloc, fields)?;
+    let stretches = stretches_of(alloc, fields)?;
     Ok(Order {
         turns,
         inside,
         names: Row::new(alloc),
         cut: None,
         flags: flags_of(fields),
+        stretches,
     })
 }
 
@@ -154,6 +162,7 @@ fn choice_order(alloc: Global, alternatives: &[Alternative]) -> Result<Order, No
         names,
         cut: None,
         flags: 0,
+        stretches: Row::new(alloc),
     })
 }
 

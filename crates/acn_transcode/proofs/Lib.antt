@@ -1,15 +1,10 @@
-mod BinaryTexts
 mod BothTexts
-mod DigitPairs
 mod DigitTexts
 mod EnclosedTexts
 mod Gaps
-mod HexTexts
 mod Keeping
 mod LaidTexts
-mod LetterTexts
 mod NumberTexts
-mod SevenTexts
 mod ShortTexts
-mod SizesRead
+mod Stretches
 mod Walks

@@ -1,9 +1,8 @@
 -- The texts of the numbers of leaves.
-use Rattle.std.proofs.Common.{◌≡◌, ℕ, zero, suc, ◌^◌, ◌-◌, ◌<◌, ℤ, pos, negsuc, Bool, true, false, List, [], ◌++◌, length, Option, Result, Ok, Err, refl, sym, ap, ◌∙◌, arith, ◌&&◌, IsTrue, subst}
+use Rattle.std.proofs.Common.{◌≡◌, ℕ, zero, suc, ◌^◌, ◌-◌, ◌<◌, ℤ, pos, negsuc, Bool, true, false, List, [], ◌++◌, length, Option, refl, sym, ap, ◌∙◌, arith, ◌&&◌, IsTrue, subst}
 use Rattle.std.specs.Prelude.{◌≤ℤ◌, ◌<ℤ◌, nat_abs, nat_lt}
 use Rattle.std.specs.Ordering.{int_eq}
 use Rattle.std.specs.Fmt.{signed_decimal}
-use Rattle.std.specs.Result.{is_ok, OnOk}
 use Rattle.std.proofs.lemmas.Int.{ints}
 use Rattle.std.proofs.lemmas.Bool.{and_parts}
 use Rattle.json.specs.Token as token
@@ -73,10 +72,6 @@ item_said leaf x old new fine named p is e =
 
 pub null_said : (leaf : NumLeaf) (x : ℤ) (old new : List ℕ) → IsTrue (num_fine leaf) → In leaf.set x → leaf.kind ≡ Null → new ≡ old ++ token_text token.null → Said leaf.kind leaf.items.items x old new
 null_said leaf x old new fine p is e = subst (λ (k : NumKind). Said k leaf.items.items x old new) (sym is) (null, subst (λ (k : NumKind). NumberOf k null x) is (null_number leaf x fine is p), e)
-
-pub when_ok : {T E P : Type 0} (r : Result T E) → is_ok r ≡ true → OnOk r P → P
-when_ok (Ok x) e p = p
-when_ok (Err y) e p = absurd (cc)
 
 -- the number was read, its value put, and the number noted
 abbrev pub LeafPut : NumLeaf → Option ℕ → Reading → Reading → Draft → Draft → Type 0

@@ -1,17 +1,19 @@
 -- What a walk puts while it reads. (This profile's own.)
-use Rattle.std.specs.Prelude.{◌≡◌, ℕ, ℤ, IsTrue, ◌-◌, ◌≤◌, List, [], ◌∷◌, ◌++◌, length, take, drop, Option, Some, None, Bool, true, false}
+use Rattle.std.specs.Prelude.{◌≡◌, ℕ, ℤ, IsTrue, ◌+◌, ◌-◌, ◌≤◌, if◌then◌else◌, List, [], ◌∷◌, ◌++◌, length, take, drop, Option, Some, None, Bool, true, false}
 use Rattle.serde_json.specs.Written.{compact_text, items_text}
 use Rattle.acn_num.specs.Ranges.{In}
 use Rattle.acn_grammar.specs.Code.{NumberOf}
 use Rattle.acn_grammar.specs.Grammar.{Grammar, Fields, Data, Elements, node, num, no_fields, component, inserted}
-use Rattle.acn_grammar.specs.ItemsNamed.{FormItemsNamed}
+use Rattle.acn_grammar.specs.ItemsNamed.{FormItemsNamed, FieldsItemsNamed}
 use Rattle.acn_grammar.specs.Leaves.{num_fine}
 use Rattle.acn_grammar.specs.View.{OneField, a_component, an_inserted}
 use Rattle.acn_bits.specs.Reading.{Reading}
 use Rattle.acn_grammar.specs.Env.{Env}
 use Rattle.acn_grammar.specs.Length.{number_of}
 use Rattle.acn_json.specs.Lines.{json_of, each_json}
-use Rattle.acn_reads.specs.Decoded.{NodeRead, in_front}
+use Rattle.acn_cut.specs.declared.stretch.Piece.{Piece}
+use Rattle.acn_grammar.specs.Fails.{Here}
+use Rattle.acn_reads.specs.Decoded.{NodeRead, FieldsStand, Fine, Turn, in_front}
 use Rattle.acn_reads.specs.Steps.{noted_by}
 use Rattle.acn_transcode.specs.declared.draft.Draft.{Draft}
 use Rattle.acn_transcode.specs.declared.draft.Part.{Part}
@@ -83,3 +85,20 @@ pub record PutsItems (g : Grammar) (ds : List Data) (old new : Draft) : Type 0 w
 -- a component was read, and its number noted behind what was read on the way
 abbrev pub PresentRead : (root g : Grammar) → (slot : Option ℕ) → Data → (before later : Env) → (old new : Reading) → Type 0
 PresentRead root g slot d before later old new = (t : Env) × (later ≡ noted_by slot (number_of d) t) × NodeRead root g d before t old new
+
+-- what is kept of the number of a field until its turn, which only a component has
+abbrev pub kept_of : Piece → ℤ → List Part
+kept_of piece x = if piece.is_component then Number x ∷ [] else []
+
+-- the number of a field was noted where it is a slot's, and kept where the field is a component
+pub record IsKept (piece : Piece) (x : ℤ) (old new : Draft) : Type 0 where
+  pub slots : new.slots.items ≡ noted_by piece.slot x old.slots.items
+  pub parts : new.parts.items ≡ old.parts.items ++ kept_of piece x
+  pub text : new.text.items ≡ old.text.items
+  pub aside : new.aside.items ≡ old.aside.items
+
+-- so many fields in front of the rest were read, and what they say was kept
+abbrev pub LaysFields : (fs rest : Fields) (count : ℕ) → (old new : Draft) → (a b : Reading) → Type 0
+LaysFields fs rest count old new a b =
+    (root : Grammar) → ((depth : ℕ) × (around : List ℕ) × FieldsStand root depth fs old.slots.items around) → FieldsItemsNamed fs → Fine root old.slots.items
+    → (ds : List (Option Data)) × ((here : Here) (k : ℕ) (flags : List Bool) → Turn root here a.origin k (k + count) fs rest ds old.slots.items new.slots.items flags flags a b) × Lays fs rest ds old new

@@ -4,16 +4,12 @@
 mod draft;
 mod front;
 mod leaves;
-mod letters;
 mod members;
 mod paddings;
-mod sevens;
 mod short;
-mod sizes;
 mod slots;
-mod strings;
+mod stretch;
 mod walk;
-mod words;
 
 pub use draft::{Draft, Part, Span};
 pub use front::put_front;

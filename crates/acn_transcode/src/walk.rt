@@ -9,6 +9,7 @@ ghost use Rattle.acn_grammar.specs.View.{grammar_of, form_of, field_of, fields_v
 ghost use Rattle.acn_grammar.specs.declared.node.Body.TheVariants.{Choice as Choice_body, Seq as Seq_body};
 ghost use Rattle.acn_grammar.specs.declared.node.Presence.TheVariants.{Bit};
 ghost use Rattle.acn_json.specs.Lines.{json_of, form_json, alternative_json};
+ghost use Rattle.acn_cut.specs.Stretches.{AreStretches};
 ghost use Rattle.acn_lines.specs.Order as order_spec;
 ghost use Rattle.acn_lines.specs.declared.order.Order.{out-Order};
 ghost use Rattle.acn_num.specs.declared.limits.TheConstants.{MOST_SIZE};
@@ -23,14 +24,15 @@ use crate::draft::{Draft, Part, Span};
 use crate::leaves::{note, note_number, number, put_leaf};
 use crate::members::put_members;
 use crate::paddings::pad;
-use crate::sizes::size;
 use crate::slots::forget;
-use crate::strings::{put_bits, put_octets, put_text};
+use crate::stretch::lay_stretch;
 use acn_bits::ReadCursor;
+use acn_cut::Stretch;
 use acn_grammar::{Alternative, Body, Choice, Field, Node, Pattern, Presence, Seq, Sizing};
 use acn_json::{put_comma, put_key, put_octet};
 use acn_lines::Order;
 use acn_reads::{is_ended, is_there, most_of, pass_end, pattern_of, pick, stands};
+use acn_string_lines::{put_bits, put_octets, put_text, size};
 use std::mem::swap;
 
 // Puts the value of a node, which is passed.
@@ -141,7 +143,15 @@ pub fn lay_sequence(
         return false;
     };
     let mut flags = window;
-    if !put_fields(fields, order.inside.items(), root, &mut flags, cur, draft) {
+    if !put_fields(
+        fields,
+        order.inside.items(),
+        order.stretches.items(),
+        root,
+        &mut flags,
+        cur,
+        draft,
+    ) {
         return false;
     }
     forget(seq.home.items(), &mut draft.slots);
@@ -150,8 +160,35 @@ pub fn lay_sequence(
 
 // Puts the values of the fields' components one behind the other, but for numbers, and notes where
 // they stand, and the numbers.
+#[inline(always)]
 #[cycle(put)]
 fn put_fields(
+    fields: &[Field],
+    orders: &[Order],
+    stretches: &[Stretch],
+    root: &Node,
+    flags: &mut ReadCursor<'_>,
+    cur: &mut ReadCursor<'_>,
+    draft: &mut Draft,
+) -> bool
+    requires bits { presence_count (fields_view fields.now) ≡ length flags.old.rest }
+    requires ready { (k : ℕ) × (around : List ℕ) × FieldsStand (grammar_of root.now) k (fields_view fields.now) draft.old.slots.items around }
+    requires named { FieldsItemsNamed (fields_view fields.now) }
+    requires fine { Fine (grammar_of root.now) draft.old.slots.items }
+    requires orders { order_spec.AreFieldOrders (fields_view fields.now) orders.now }
+    requires stretches { AreStretches (fields_view fields.now) stretches.now }
+    ensures put { result ≡ true → (ds : List (Option Data)) × ((here : Here) → Turn (grammar_of root.now) here cur.old.origin 0 (length fields.now) (fields_view fields.now) no_fields ds draft.old.slots.items draft.new.slots.items flags.old.rest flags.new.rest cur.old cur.new) × Lays (fields_view fields.now) no_fields ds draft.old draft.new }
+{
+    if stretches.is_empty() {
+        put_each_field(fields, orders, root, flags, cur, draft)
+    } else {
+        put_stretches(fields, orders, stretches, root, flags, cur, draft)
+    }
+}
+
+// Puts the values of the fields' components, field by field.
+#[cycle(put)]
+fn put_each_field(
     fields: &[Field],
     orders: &[Order],
     root: &Node,
@@ -170,6 +207,46 @@ fn put_fields(
         if !put_field(field, &orders[k], root, flags, cur, draft) {
             return false;
         }
+    }
+    true
+}
+
+// Puts the values of the fields' components, those of a stretch at once.
+#[cycle(put)]
+fn put_stretches(
+    fields: &[Field],
+    orders: &[Order],
+    stretches: &[Stretch],
+    root: &Node,
+    flags: &mut ReadCursor<'_>,
+    cur: &mut ReadCursor<'_>,
+    draft: &mut Draft,
+) -> bool
+    requires bits { presence_count (fields_view fields.now) ≡ length flags.old.rest }
+    requires ready { (k : ℕ) × (around : List ℕ) × FieldsStand (grammar_of root.now) k (fields_view fields.now) draft.old.slots.items around }
+    requires named { FieldsItemsNamed (fields_view fields.now) }
+    requires fine { Fine (grammar_of root.now) draft.old.slots.items }
+    requires orders { order_spec.AreFieldOrders (fields_view fields.now) orders.now }
+    requires stretches { AreStretches (fields_view fields.now) stretches.now }
+    ensures put { result ≡ true → (ds : List (Option Data)) × ((here : Here) → Turn (grammar_of root.now) here cur.old.origin 0 (length fields.now) (fields_view fields.now) no_fields ds draft.old.slots.items draft.new.slots.items flags.old.rest flags.new.rest cur.old cur.new) × Lays (fields_view fields.now) no_fields ds draft.old draft.new }
+{
+    let mut k = 0;
+    while k < fields.len() {
+        if k < stretches.len() {
+            let stretch = &stretches[k];
+            let count = stretch.pieces.items().len();
+            if count > 0 {
+                if !lay_stretch(stretch, cur, draft) {
+                    return false;
+                }
+                k += count;
+                continue;
+            }
+        }
+        if !put_field(&fields[k], &orders[k], root, flags, cur, draft) {
+            return false;
+        }
+        k += 1;
     }
     true
 }

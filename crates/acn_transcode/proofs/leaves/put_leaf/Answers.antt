@@ -2,7 +2,8 @@ use Rattle.std.proofs.Common.{rules, ◌≡◌, ℤ, refl, sym, subst, ◌∙◌
 use Rattle.std.proofs.lemmas.Int.{to_z-of_z}
 use Rattle.std.specs.Int.{w128}
 use Rattle.acn_reads.specs.Steps.{noted_by}
-use Rattle.acn_transcode.proofs.NumberTexts.{Said, when_ok, leaf_put}
+use Rattle.acn_string_lines.proofs.Outcomes.{when_ok}
+use Rattle.acn_transcode.proofs.NumberTexts.{Said, leaf_put}
 use Rattle.acn_transcode.proofs.leaves.put_leaf.Goals as goal
 
 pub returns-then-note : goal.returns-then-note

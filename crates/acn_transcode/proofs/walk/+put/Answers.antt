@@ -33,10 +33,15 @@ use Rattle.acn_reads.proofs.Seqs.{fields_named, fields_ready, flags_are}
 use Rattle.acn_reads.proofs.SlotTurns.{component_read}
 use Rattle.acn_reads.proofs.StringReads.{bits_rule, form_passed, octets_rule, text_rule, view_bits, view_octets, view_text}
 use Rattle.acn_reads.proofs.Turns.{away_turn, more_turns, no_turn, there_told}
-use Rattle.acn_transcode.specs.Puts.{Puts, Lays, Shows, IsNumber, AreLaid}
+use Rattle.acn_transcode.specs.Puts.{Puts, Lays, LaysFields, Shows, IsNumber, AreLaid}
 use Rattle.acn_transcode.specs.declared.draft.Draft.{Draft}
 use Rattle.acn_transcode.specs.declared.draft.Part.TheVariants.{Number}
 use Rattle.acn_transcode.proofs.NumberTexts.{value_read}
+use Rattle.acn_cut.specs.Stretches.{IsRun, AreStretches}
+use Rattle.acn_cut.specs.declared.stretch.Stretch.{Stretch}
+use Rattle.acn_cut.proofs.Runs.{stretch_at}
+use Rattle.acn_grammar.specs.Fails.{Here}
+use Rattle.acn_transcode.proofs.Stretches.{named_from, stretch_end}
 use Rattle.acn_transcode.proofs.Walks.{all_laid, alternative_put, array_put, away_laid, fields_laid, front_left, if_true, item_put, laid_of, later_is, more_laid, no_err, no_items_put, none_laid, number_shown, object_put, one_longer, passed_laid, seen_form, seq_put_read, text_shown, there_laid, view_num, when_ok}
 use Rattle.acn_transcode.proofs.walk.+put.Goals.{put_list-then-is_ended+else-not-put_elements, put_list-else-is_ended+in-Some+else-not-put_run}
 use Rattle.acn_transcode.proofs.walk.+put.Goals as goal
@@ -342,14 +347,14 @@ put_field-returns-in-Inserted t c = record {
       );
 }
 
-pub put_fields-loop-k-init : goal.put_fields-loop-k-init
-put_fields-loop-k-init t c = record { put = ([], λ here. no_turn (grammar_of c.args.root.now) here c.args.cur.now.origin 0 (fields_view c.args.fields.now) c.args.draft.now.slots.items c.args.flags.now.rest c.args.cur.now c.requires.fine, none_laid (fields_view c.args.fields.now) c.args.draft.now) }
+pub put_each_field-loop-k-init : goal.put_each_field-loop-k-init
+put_each_field-loop-k-init t c = record { put = ([], λ here. no_turn (grammar_of c.args.root.now) here c.args.cur.now.origin 0 (fields_view c.args.fields.now) c.args.draft.now.slots.items c.args.flags.now.rest c.args.cur.now c.requires.fine, none_laid (fields_view c.args.fields.now) c.args.draft.now) }
 
-pub put_fields-bounds-orders-k : goal.put_fields-bounds-orders-k
-put_fields-bounds-orders-k t c = orders-within c.args.fields.now c.args.orders.now c.loop-k.k c.requires.orders c.loop-k-test.true
+pub put_each_field-bounds-orders-k : goal.put_each_field-bounds-orders-k
+put_each_field-bounds-orders-k t c = orders-within c.args.fields.now c.args.orders.now c.loop-k.k c.requires.orders c.loop-k-test.true
 
-pub put_fields-put_field-requires : goal.put_fields-put_field-requires
-put_fields-put_field-requires t c =
+pub put_each_field-put_field-requires : goal.put_each_field-put_field-requires
+put_each_field-put_field-requires t c =
     let l = c.loop-k in
     let r = c.requires.ready in
     let f = c.index-fields-k.result in
@@ -361,8 +366,8 @@ put_fields-put_field-requires t c =
       ((r.0, n.0, n.1, n.2, n.3), (named_at c.args.fields.now l.k f c.loop-k-test.true c.index-fields-k.is c.requires.named, (turn.fine, order-here c.args.fields.now c.args.orders.now l.k f c.index-orders-k.result c.requires.orders c.loop-k-test.true c.index-fields-k.is c.index-orders-k.is))),
     )
 
-pub put_fields-loop-k-preserved : goal.put_fields-loop-k-preserved
-put_fields-loop-k-preserved t c =
+pub put_each_field-loop-k-preserved : goal.put_each_field-loop-k-preserved
+put_each_field-loop-k-preserved t c =
     let l = c.loop-k in
     let root = grammar_of c.args.root.now in
     let all = fields_view c.args.fields.now in
@@ -382,8 +387,8 @@ put_fields-loop-k-preserved t c =
       );
     }
 
-pub put_fields-returns : goal.put_fields-returns
-put_fields-returns t c =
+pub put_each_field-returns : goal.put_each_field-returns
+put_each_field-returns t c =
     let l = c.loop-k in
     let p = l.invariant.put in
     let over = c.loop-k-test.false in
@@ -392,6 +397,97 @@ put_fields-returns t c =
       put = λ sure. (
         p.0,
         λ here. all_turns (grammar_of c.args.root.now) here c.args.cur.now.origin l.k l.k c.args.fields.now p.0 c.args.draft.now.slots.items l.draft.slots.items c.args.flags.now.rest l.flags.rest c.args.cur.now l.cur over l.auto.k-end refl (p.1 here),
+        subst (λ (x : List Field). Lays (fields_view c.args.fields.now) (fields_view x) p.0 c.args.draft.now l.draft) past p.2,
+      );
+    }
+
+pub put_stretches-loop-k-init : goal.put_stretches-loop-k-init
+put_stretches-loop-k-init t c = record { within = omega arith; put = ([], λ here. no_turn (grammar_of c.args.root.now) here c.args.cur.now.origin 0 (fields_view c.args.fields.now) c.args.draft.now.slots.items c.args.flags.now.rest c.args.cur.now c.requires.fine, none_laid (fields_view c.args.fields.now) c.args.draft.now) }
+
+pub put_stretches-bounds-orders-k : goal.put_stretches-bounds-orders-k
+put_stretches-bounds-orders-k t c = orders-within c.args.fields.now c.args.orders.now c.loop-k.k c.requires.orders c.loop-k-test.true
+
+pub put_stretches-lay_stretch-requires : goal.put_stretches-lay_stretch-requires
+put_stretches-lay_stretch-requires t c =
+    let s = stretch_at c.args.fields.now c.args.stretches.now c.loop-k.k c.index-stretches-k.result c.requires.stretches c.loop-k-test.true c.if-k-stretches.true c.index-stretches-k.is in
+    (fields_view (drop c.loop-k.k c.args.fields.now), s.0, s.1)
+
+pub put_stretches-loop-k-preserved-then-count-gt0 : goal.put_stretches-loop-k-preserved-then-count-gt0
+put_stretches-loop-k-preserved-then-count-gt0 t c =
+    let l = c.loop-k in
+    let r = c.requires.ready in
+    let fields = c.args.fields.now in
+    let root = grammar_of c.args.root.now in
+    let all = fields_view fields in
+    let from = fields_view (drop l.k fields) in
+    let stretch = c.index-stretches-k.result in
+    let count = length c.items-count.result.now in
+    let same : count ≡ length stretch.pieces = ap length c.items-count.ensures in
+    let next = fields_view (drop (l.k + count) fields) in
+    let here : Here = record { path = []; place = 0; inside = false } in
+    let p = l.invariant.put in
+    let turn = p.1 here in
+    let stands = (turn.known r.0 r.1 r.2).stands in
+    let s = stretch_at fields c.args.stretches.now l.k stretch c.requires.stretches c.loop-k-test.true c.if-k-stretches.true c.index-stretches-k.is in
+    let end = stretch_end fields l.k count stretch.pieces s.0 l.invariant.within same s.1.run in
+    let run = subst (λ (x : Fields). IsRun from stretch.pieces x) end.1 s.1.run in
+    let laid = subst (λ (n : ℕ). LaysFields from next n l.draft c.lay_stretch.new.draft l.cur c.lay_stretch.new.cur) (sym same) (c.lay_stretch.ensures c.if-not-lay_stretch.false from next run) in
+    let q = laid root (r.0, r.1, stands) (named_from fields l.k c.requires.named) turn.fine in
+    record {
+      within = end.0;
+      put = (
+        p.0 ++ q.0,
+        λ here. more_turns root here c.args.cur.now.origin l.cur.origin 0 l.k (l.k + count) all from next p.0 q.0 c.args.draft.now.slots.items l.draft.slots.items c.lay_stretch.new.draft.slots.items c.args.flags.now.rest l.flags.rest l.flags.rest c.args.cur.now l.cur c.lay_stretch.new.cur (p.1 here).window (p.1 here) (q.1 here l.k l.flags.rest),
+        more_laid all from next p.0 q.0 c.args.draft.now l.draft c.lay_stretch.new.draft p.2 q.2,
+      );
+    }
+
+pub put_stretches-put_field-requires : goal.put_stretches-put_field-requires
+put_stretches-put_field-requires t c =
+    let l = c.loop-k in
+    let r = c.requires.ready in
+    let f = c.index-fields-k.result in
+    let p = l.invariant.put in
+    let turn = p.1 (record { path = []; place = 0; inside = false }) in
+    let from = fields_from c.args.fields.now l.k f c.loop-k-test.true c.index-fields-k.is in
+    let n = next_ready (grammar_of c.args.root.now) _ c.args.cur.now.origin l.k r.0 (fields_view c.args.fields.now) (fields_view (drop l.k c.args.fields.now)) (fields_view (drop (l.k + 1) c.args.fields.now)) (field_of f) p.0 c.args.draft.now.slots.items l.draft.slots.items c.args.flags.now.rest l.flags.rest c.args.cur.now l.cur from turn c.requires.bits (r.1, r.2) in (
+      search (rules, the_lemmas),
+      ((r.0, n.0, n.1, n.2, n.3), (named_at c.args.fields.now l.k f c.loop-k-test.true c.index-fields-k.is c.requires.named, (turn.fine, order-here c.args.fields.now c.args.orders.now l.k f c.index-orders-k.result c.requires.orders c.loop-k-test.true c.index-fields-k.is c.index-orders-k.is))),
+    )
+
+pub put_stretches-loop-k-preserved : goal.put_stretches-loop-k-preserved
+put_stretches-loop-k-preserved t c =
+    let l = c.loop-k in
+    let root = grammar_of c.args.root.now in
+    let all = fields_view c.args.fields.now in
+    let rest = fields_view (drop l.k c.args.fields.now) in
+    let next = fields_view (drop (l.k + 1) c.args.fields.now) in
+    let p = l.invariant.put in
+    let q = c.put_field.ensures.put c.if-not-put_field.false in
+    let from = fields_from c.args.fields.now l.k c.index-fields-k.result c.loop-k-test.true c.index-fields-k.is in
+    let one_up : suc l.k ≡ l.k + 1 = omega arith in
+    let within = c.loop-k-test.true in
+    record {
+      within = omega (arith, within);
+      put = (
+        p.0 ++ q.0,
+        λ here. subst (λ (n : ℕ). Turn root here c.args.cur.now.origin 0 n all next (p.0 ++ q.0) c.args.draft.now.slots.items c.put_field.new.draft.slots.items c.args.flags.now.rest c.put_field.new.flags.rest c.args.cur.now c.put_field.new.cur) one_up
+            (more_turns root here c.args.cur.now.origin l.cur.origin 0 l.k (suc l.k) all rest next p.0 q.0 c.args.draft.now.slots.items l.draft.slots.items c.put_field.new.draft.slots.items c.args.flags.now.rest l.flags.rest c.put_field.new.flags.rest c.args.cur.now l.cur c.put_field.new.cur (p.1 here).window (p.1 here)
+            (subst (λ (x : Fields). Turn root here l.cur.origin l.k (suc l.k) x next q.0 l.draft.slots.items c.put_field.new.draft.slots.items l.flags.rest c.put_field.new.flags.rest l.cur c.put_field.new.cur) (sym from) (q.1 here l.k next))),
+        more_laid all rest next p.0 q.0 c.args.draft.now l.draft c.put_field.new.draft p.2 (subst (λ (x : Fields). Lays x next q.0 l.draft c.put_field.new.draft) (sym from) (q.2 next)),
+      );
+    }
+
+pub put_stretches-returns : goal.put_stretches-returns
+put_stretches-returns t c =
+    let l = c.loop-k in
+    let p = l.invariant.put in
+    let over = c.loop-k-test.false in
+    let past : drop l.k c.args.fields.now ≡ [] = drop_of_length-le c.args.fields.now (omega (arith, over)) in
+    record {
+      put = λ sure. (
+        p.0,
+        λ here. all_turns (grammar_of c.args.root.now) here c.args.cur.now.origin l.k l.k c.args.fields.now p.0 c.args.draft.now.slots.items l.draft.slots.items c.args.flags.now.rest l.flags.rest c.args.cur.now l.cur over l.invariant.within refl (p.1 here),
         subst (λ (x : List Field). Lays (fields_view c.args.fields.now) (fields_view x) p.0 c.args.draft.now l.draft) past p.2,
       );
     }
@@ -476,11 +572,12 @@ lay_sequence-put_fields-requires t c =
     let r = c.requires.ready in
     let q = fields_ready root _ c.args.seq.now.fields c.items-fields.result.now c.args.seq.now.home r.0 c.args.draft.now.slots.items v c.items-fields.ensures (r.1, r.2) in
     let o = subst (λ (x : Form). IsFormOrder x c.args.order.now) v c.requires.order in
-    let orders = subst (λ (x : List Order). AreFieldOrders (fields_view c.items-fields.result.now) x) (sym c.items.ensures) (subst (λ (x : List Field). AreFieldOrders (fields_view x) (out-Order c.args.order.now).inside) (sym c.items-fields.ensures) o.1) in (
+    let orders = subst (λ (x : List Order). AreFieldOrders (fields_view c.items-fields.result.now) x) (sym c.items.ensures) (subst (λ (x : List Field). AreFieldOrders (fields_view x) (out-Order c.args.order.now).inside) (sym c.items-fields.ensures) o.1) in
+    let stretches = subst (λ (x : List Stretch). AreStretches (fields_view c.items-fields.result.now) x) (sym c.items-2.ensures) (subst (λ (x : List Field). AreStretches (fields_view x) (out-Order c.args.order.now).stretches) (sym c.items-fields.ensures) o.3) in (
       search (rules, the_lemmas),
       (
         flags_are root c.args.seq.now.fields c.items-fields.result.now (out-Order c.args.order.now).flags c.args.cur.now c.in-Ok.window c.items-fields.ensures o.2 c.in-Ok.ensures.within c.in-Ok.ensures.window,
-        ((suc r.0, q.0, q.1), (fields_named _ c.args.seq.now.fields c.items-fields.result.now c.args.seq.now.home v c.items-fields.ensures c.requires.named, (c.requires.fine, orders))),
+        ((suc r.0, q.0, q.1), (fields_named _ c.args.seq.now.fields c.items-fields.result.now c.args.seq.now.home v c.items-fields.ensures c.requires.named, (c.requires.fine, (orders, stretches)))),
       ),
     )
 
@@ -495,8 +592,8 @@ lay_sequence-returns t c = record {
       let p = c.put_fields.ensures.put c.if-not-put_fields.false in
       let o = subst (λ (x : Form). IsFormOrder x c.args.order.now) v c.requires.order in (
         p.0,
-        seq_put_read root r.0 _ form c.args.seq.now.fields fields c.args.seq.now.home c.items-2.result.now p.0 c.args.draft.now.slots.items c.put_fields.new.draft.slots.items c.forget.new.slots.items c.args.cur.now c.window.new.self c.put_fields.new.cur c.in-Ok.window (out-Order c.args.order.now).flags _
-            v c.items-fields.ensures c.items-2.ensures c.forget.ensures o.2 c.in-Ok.ensures.within c.in-Ok.ensures.window c.in-Ok.ensures.moved (r.1, r.2) p.1,
+        seq_put_read root r.0 _ form c.args.seq.now.fields fields c.args.seq.now.home c.items-3.result.now p.0 c.args.draft.now.slots.items c.put_fields.new.draft.slots.items c.forget.new.slots.items c.args.cur.now c.window.new.self c.put_fields.new.cur c.in-Ok.window (out-Order c.args.order.now).flags _
+            v c.items-fields.ensures c.items-3.ensures c.forget.ensures o.2 c.in-Ok.ensures.within c.in-Ok.ensures.window c.in-Ok.ensures.moved (r.1, r.2) p.1,
         laid_of fields c.args.seq.now.fields p.0 c.args.draft.now c.put_fields.new.draft _ c.items-fields.ensures refl refl refl p.2,
       );
 }

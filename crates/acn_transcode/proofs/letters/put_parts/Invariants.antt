@@ -1,5 +1,0 @@
-use Rattle.acn_transcode.proofs.LetterTexts.{Parted}
-use Rattle.acn_transcode.proofs.letters.put_parts.Given as goal
-
-abbrev pub invariant-loop-i : goal.invariant-loop-i
-invariant-loop-i l = Parted l.leaf l.word l.n l.i l.fn.text.items l.text.items

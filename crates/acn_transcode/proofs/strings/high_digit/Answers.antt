@@ -1,6 +1,0 @@
-use Rattle.std.proofs.Common.{arith}
-use Rattle.acn_transcode.proofs.DigitPairs.{pair_high}
-use Rattle.acn_transcode.proofs.strings.high_digit.Goals as goal
-
-pub returns : goal.returns
-returns c = pair_high c.args.octet (omega arith)

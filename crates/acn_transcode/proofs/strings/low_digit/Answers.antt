@@ -1,6 +1,0 @@
-use Rattle.std.proofs.Common.{arith}
-use Rattle.acn_transcode.proofs.DigitPairs.{pair_low}
-use Rattle.acn_transcode.proofs.strings.low_digit.Goals as goal
-
-pub returns : goal.returns
-returns c = pair_low c.args.octet (omega arith)

@@ -1,6 +1,0 @@
-use Rattle.std.proofs.Common.{◌*◌}
-use Rattle.acn_transcode.proofs.HexTexts.{PutsOctets}
-use Rattle.acn_transcode.proofs.strings.put_words.Given as goal
-
-abbrev pub invariant-loop-i : goal.invariant-loop-i
-invariant-loop-i l = PutsOctets (8 * l.i) l.fn.text.items l.text.items l.fn.cur l.cur
