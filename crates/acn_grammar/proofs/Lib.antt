@@ -1,5 +1,5 @@
 mod Back
--- for acn_packet_laws, acn_asks, acn_piece_laws, acn_text, acn_reads, acn_events, acn_extreme_laws, acn_check, acn_plan, acn_pack, acn_unpack, acn_json, acn_printed, acn_lines, acn_transcode and acn_leaf_laws
+-- for acn_packet_laws, acn_asks, acn_piece_laws, acn_text, acn_reads, acn_events, acn_extreme_laws, acn_check, acn_plan, acn_pack, acn_unpack, acn_json, acn_printed, acn_lines, acn_string_lines and acn_leaf_laws
 pub mod Characters
 -- for acn_packet_laws and acn_leads
 pub mod Codings
@@ -35,7 +35,7 @@ pub mod SpanLaw
 pub mod Spans
 -- for acn_packet_laws, acn_piece_laws, acn_events, acn_extreme_laws and acn_plain_write
 pub mod SpellLength
--- for acn_packet_laws, acn_pieces, acn_text, acn_reads, acn_events, acn_writer, acn_extreme_laws, acn_check, acn_single, acn_extremes, acn_pack, acn_gather_laws, acn_plain_write and acn_transcode
+-- for acn_packet_laws, acn_pieces, acn_text, acn_reads, acn_events, acn_writer, acn_extreme_laws, acn_check, acn_single, acn_extremes, acn_pack, acn_gather_laws, acn_plain_write and acn_string_lines
 pub mod TextRules
 -- for acn_packet_laws
 pub mod Texts

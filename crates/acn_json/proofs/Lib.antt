@@ -3,7 +3,7 @@ mod Back
 -- for acn_lines
 pub mod CanReadLaw
 mod DistinctLaw
--- for acn_printed and acn_transcode
+-- for acn_printed, acn_string_lines and acn_transcode
 pub mod Escapes
 -- for acn_lines
 pub mod FieldLists

@@ -1,5 +1,5 @@
 mod Characters
--- for acn_lines and acn_transcode
+-- for acn_lines and acn_string_lines
 pub mod Digits
 mod Leaves
 -- for acn_lines

@@ -1,7 +1,7 @@
 mod Calls
 mod EndedReads
 mod Ends
--- for acn_events, acn_writer and acn_transcode
+-- for acn_events, acn_writer and acn_string_lines
 pub mod Fine
 mod Listing
 mod Marks
