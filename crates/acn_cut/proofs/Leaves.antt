@@ -6,7 +6,7 @@ use Rattle.acn_num.specs.Bits.{number, IsNumber}
 use Rattle.acn_num.specs.Ranges.{In}
 use Rattle.acn_num.proofs.BitLists.{number_below, number_same}
 use Rattle.std.specs.Prelude.{◌-ℤ◌}
-use Rattle.acn_grammar.specs.Code.{Any, CodingCode, image_of, on_line}
+use Rattle.acn_grammar.specs.Code.{Mode, CodingCode, image_of, on_line}
 use Rattle.acn_grammar.specs.declared.node.Table.{Table}
 use Rattle.acn_grammar.specs.declared.node.NumLeaf.{NumLeaf}
 use Rattle.acn_grammar.specs.declared.node.NumCoding.TheVariants.{Range, PosInt, Flag, Fixed}
@@ -38,7 +38,7 @@ counts_line table line low high image only on ahead below =
 
 -- what a coding has to say of itself
 abbrev Codes : NumLeaf → (from : ℤ) → (width : ℕ) → Type 0
-Codes leaf from width = (k : ℕ) (bs : List Bool) → IsNumber width k bs → CodingCode Any leaf.coding leaf.little (from +ℤ pos k) bs
+Codes leaf from width = (mode : Mode) (k : ℕ) (bs : List Bool) → IsNumber width k bs → CodingCode mode leaf.coding leaf.little (from +ℤ pos k) bs
 
 not_past : (low high : ℤ) (span ahead : ℕ) → high ≡ low +ℤ pos span → ahead ≤ span → (low +ℤ pos ahead) ≤ℤ high
 not_past low high span ahead e h = rw e (omega (arith, ints))
@@ -49,9 +49,9 @@ code_behind from image first ahead e = rw e (omega (arith, ints))
 cut_between : (leaf : NumLeaf) (cut : Cut) (low high image from : ℤ) (width : ℕ) → IsPlain leaf → CountsUp leaf.table low high image → leaf.set ≡ (low, high) ∷ [] → Codes leaf from width → IsBetween cut low high image from width → IsCut cut leaf
 cut_between leaf cut low high image from width plain counts set codes b = record {
   width = rw b.same b.few;
-  last = b.last;
+  fits = rw b.same b.fits;
   greatest = rw b.least (rw b.span at b.greatest);
-  codes = λ ahead bs within is.
+  codes = λ mode ahead bs within is.
       let span = b.span in
       let above : low ≤ℤ (low +ℤ pos ahead) = omega (arith, ints) in
       let below = not_past low high cut.span ahead span within in
@@ -60,7 +60,7 @@ cut_between leaf cut low high image from width plain counts set codes b = record
         permitted = inside low high _ leaf.set set above below;
         image = image +ℤ pos ahead;
         maps = rw plain.values (counts ahead below);
-        spelled = rw same at (codes (cut.first + ahead) bs (rw b.same at is));
+        spelled = rw same at (codes mode (cut.first + ahead) bs (rw b.same at is));
       });
 }
 
@@ -70,17 +70,17 @@ unsigned k n e = rw e (grind (arith, ints))
 pub range_cut : (leaf : NumLeaf) (o : Option Cut) (low high image from : ℤ) (width : ℕ) → IsPlain leaf → CountsUp leaf.table low high image → leaf.set ≡ (low, high) ∷ [] → leaf.coding ≡ Range from width
     → IfSome o (λ cut. IsBetween cut low high image from width) → IfSome o (λ cut. IsCut cut leaf)
 range_cut leaf None low high image from width plain counts set e b = tt
-range_cut leaf (Some cut) low high image from width plain counts set e b = cut_between leaf cut low high image from width plain counts set (λ k bs is. rw e (k, refl, is)) b
+range_cut leaf (Some cut) low high image from width plain counts set e b = cut_between leaf cut low high image from width plain counts set (λ mode k bs is. rw e (k, refl, is)) b
 
 pub unsigned_cut : (leaf : NumLeaf) (o : Option Cut) (low high image : ℤ) (width : ℕ) → IsPlain leaf → CountsUp leaf.table low high image → leaf.set ≡ (low, high) ∷ [] → leaf.coding ≡ PosInt width
     → IfSome o (λ cut. IsBetween cut low high image (pos 0) width) → IfSome o (λ cut. IsCut cut leaf)
 unsigned_cut leaf None low high image width plain counts set e b = tt
-unsigned_cut leaf (Some cut) low high image width plain counts set e b = cut_between leaf cut low high image (pos 0) width plain counts set (λ k bs is. rw (e, plain.little) (is.width, unsigned k (number bs) is.value)) b
+unsigned_cut leaf (Some cut) low high image width plain counts set e b = cut_between leaf cut low high image (pos 0) width plain counts set (λ mode k bs is. rw (e, plain.little) (is.width, unsigned k (number bs) is.value)) b
 
 pub truth_cut : (leaf : NumLeaf) (o : Option Cut) (low high image : ℤ) (ones zeros : Option (List Bool)) → IsPlain leaf → CountsUp leaf.table low high image → leaf.set ≡ (low, high) ∷ [] → leaf.coding ≡ Flag ones zeros → ones ≡ None → zeros ≡ None
     → IfSome o (λ cut. IsBetween cut low high image (pos 0) 1) → IfSome o (λ cut. IsCut cut leaf)
 truth_cut leaf None low high image ones zeros plain counts set e f g b = tt
-truth_cut leaf (Some cut) low high image ones zeros plain counts set e f g b = cut_between leaf cut low high image (pos 0) 1 plain counts set (λ k bs is. rw (e, f, g) (k, unsigned k k refl, is)) b
+truth_cut leaf (Some cut) low high image ones zeros plain counts set e f g b = cut_between leaf cut low high image (pos 0) 1 plain counts set (λ mode k bs is. rw (e, f, g) (k, unsigned k k refl, is)) b
 
 -- only the pattern spells its number
 pattern_alone : (pattern bs : List Bool) (n first span ahead : ℕ) → n ≡ length pattern → first ≡ number pattern → span ≡ 0 → ahead ≤ span → IsNumber n (first + ahead) bs → bs ≡ pattern
@@ -95,9 +95,9 @@ none_ahead low span ahead l s within = omega (arith, ints)
 pub under_cut : (leaf : NumLeaf) (cut : Cut) (low high : ℤ) (pattern : List Bool) → IsPlain leaf → leaf.table ≡ None → leaf.set ≡ (low, high) ∷ [] → leaf.coding ≡ Fixed pattern → low ≤ℤ pos 0 → pos 0 ≤ℤ high → IsUnder cut pattern → IsCut cut leaf
 under_cut leaf cut low high pattern plain none set e below above u = record {
   width = rw u.same u.few;
-  last = small cut.first cut.span pattern u.first u.span u.few;
+  fits = small cut.first cut.span cut.width pattern u.first u.span u.same;
   greatest = rw (none_ahead cut.low cut.span cut.span u.least u.span (omega arith)) (omega (arith, ints));
-  codes = λ ahead bs within is. rw (none_ahead cut.low cut.span ahead u.least u.span within) (record {
+  codes = λ mode ahead bs within is. rw (none_ahead cut.low cut.span ahead u.least u.span within) (record {
     permitted = inside low high (pos 0) leaf.set set below above;
     image = pos 0;
     maps = itself leaf (pos 0) plain none;
@@ -105,8 +105,7 @@ under_cut leaf cut low high pattern plain none set e below above u = record {
   });
 }
   where
-    small : (first span : ℕ) (pattern : List Bool) → first ≡ number pattern → span ≡ 0 → length pattern ≤ 64 → first + span < 2 ^ 64
-    small first span pattern f s few =
+    small : (first span width : ℕ) (pattern : List Bool) → first ≡ number pattern → span ≡ 0 → width ≡ length pattern → first + span < 2 ^ width
+    small first span width pattern f s same =
         let below = number_below pattern in
-        let room = pow-le-pow_right {n = 2} (omega arith) {i = length pattern} {j = 64} few in
-        omega arith
+        rw same (omega (arith, f, s, below))

@@ -1,4 +1,4 @@
--- for acn_transcode
+-- for acn_plan and acn_transcode
 pub mod Runs
 mod Strips
 mod Words

@@ -27,7 +27,7 @@ pub record IsBetween (cut : Cut) (low high image from : ℤ) (width : ℕ) : Typ
   pub few : width ≤ WORD_BITS
   pub first : image ≡ from +ℤ pos cut.first
   pub span : high ≡ low +ℤ pos cut.span
-  pub last : cut.first + cut.span < 2 ^ 64
+  pub fits : cut.first + cut.span < 2 ^ width
   pub greatest : high <ℤ pos (2 ^ 64)
 
 -- a cut of the number 0 under a pattern

@@ -1,10 +1,12 @@
 //! Making a cut of a leaf.
 
-ghost use Rattle.std.specs.Prelude.{◌≡◌, ◌+ℤ◌, pos, ◌∷◌, [], IfSome, IsTrue};
+ghost use Rattle.std.specs.Prelude.{◌≡◌, ◌^◌, ◌<◌, ◌≤◌, ◌+ℤ◌, pos, ◌∷◌, [], IfSome, IsTrue};
+ghost use Rattle.acn_bits.specs.declared.word.TheConstants.{WORD_BITS};
 ghost use Rattle.acn_cut.specs.Cuts.{IsCut};
 ghost use Rattle.acn_cut.specs.Making as spec;
 
 use crate::cut::Cut;
+use acn_bits::WORD_BITS;
 use acn_grammar::{NumCoding, NumLeaf, Pattern, Table};
 
 // How far the one number is from the other.
@@ -20,25 +22,37 @@ fn gap(low: &i128, high: &i128) -> Option<u64>
     }
 }
 
+// Whether a number has so many bits at most.
+fn has_bits(width: u32, n: u64) -> bool
+    requires { width ≤ WORD_BITS }
+    ensures { IsTrue result → n < 2 ^ width }
+{
+    if width < WORD_BITS {
+        n < 1 << width
+    } else {
+        true
+    }
+}
+
 // The numbers from `low` to `high`, which are written as `image` and those behind it, and whose
 // codes say how far these are from `from`.
 fn between(low: &i128, high: &i128, image: &i128, from: &i128, width: u32) -> Option<Cut>
     ensures { IfSome result (λ cut. spec.IsBetween cut low.now high.now image.now from.now width) }
 {
-    if width > 64 || *high > i128::from(u64::MAX) {
+    if width > WORD_BITS || *high > i128::from(u64::MAX) {
         return None;
     }
     let first = gap(from, image)?;
     let span = gap(low, high)?;
-    match first.checked_add(span) {
-        Some(_last) => Some(Cut {
-            low: *low,
-            first,
-            span,
-            width,
-        }),
-        None => None,
+    if !has_bits(width, first.checked_add(span)?) {
+        return None;
     }
+    Some(Cut {
+        low: *low,
+        first,
+        span,
+        width,
+    })
 }
 
 // The number 0 under its pattern.

@@ -1,8 +1,8 @@
 -- The alternative of an index, by the numbers of the steps of all.
-use Rattle.std.proofs.Common.{◌≡◌, ℕ, zero, suc, ◌+◌, ◌-◌, ◌<◌, ◌≤◌, List, [], ◌∷◌, length, Option, Some, None, refl, sym, ap, ◌∙◌, subst, arith}
+use Rattle.std.proofs.Common.{◌≡◌, ℕ, zero, suc, ◌+◌, ◌-◌, ◌<◌, ◌≤◌, List, length, Option, Some, None, refl, sym, ap, ◌∙◌, subst, arith}
 use Rattle.std.specs.Prelude.{slice_get}
 use Rattle.acn_grammar.specs.Grammar.{Alternatives}
-use Rattle.acn_plan.specs.Back.{StepAt, Nested, node_at, cases_at, case_items, case_places}
+use Rattle.acn_plan.specs.Back.{StepAt, Nested, node_at, cases_at, case_places}
 use Rattle.acn_plan.specs.Made.{IsMade}
 use Rattle.acn_plan.specs.declared.step.Act.TheVariants as acts
 use Rattle.acn_plan.specs.declared.step.Cases.{Cases}

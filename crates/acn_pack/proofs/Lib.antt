@@ -2,6 +2,7 @@ mod Cases
 mod Chosen
 mod Contents
 mod Fields
+mod Gathered
 mod Levels
 mod Paths
 mod PresenceBits

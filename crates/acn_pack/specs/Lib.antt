@@ -1,3 +1,4 @@
 pub mod Packs
 pub mod Parts
 pub mod Sounds
+pub mod Words

@@ -14,7 +14,7 @@ ghost use Rattle.acn_pack.specs.Parts.{bits_in};
 
 use crate::steps::{at, component_of};
 use acn_grammar::{Presence, Value};
-use acn_plan::{Place, Step};
+use acn_plan::{Place, Steps};
 use acn_writer::{Halt, Halted, Writer};
 
 // The bit of a field, if it has one, and the place of the next component behind it.
@@ -79,7 +79,7 @@ fn flag_of(place: &Place, places: &[Option<Value>], next: usize) -> Option<Field
 }
 
 // How many bits there are.
-fn count_flags(steps: &[Step], first: usize, end: usize, places: &[Option<Value>]) -> u64
+fn count_flags(steps: &Steps, first: usize, end: usize, places: &[Option<Value>]) -> u64
     requires made { IsMade steps.now }
     requires within { end ≤ length steps.now }
     ensures { result ≡ length (presence_bits (fields_at steps.now first end) (places_view places.now)) }
@@ -117,7 +117,7 @@ fn put_flag<const N: usize, const S: usize, const A: usize>(
 }
 
 fn put_each<const N: usize, const S: usize, const A: usize>(
-    steps: &[Step],
+    steps: &Steps,
     first: usize,
     end: usize,
     places: &[Option<Value>],
@@ -148,7 +148,7 @@ fn put_each<const N: usize, const S: usize, const A: usize>(
 #[cold]
 #[inline(never)]
 fn put_counted<const N: usize, const S: usize, const A: usize>(
-    steps: &[Step],
+    steps: &Steps,
     first: usize,
     end: usize,
     places: &[Option<Value>],
@@ -171,7 +171,7 @@ fn put_counted<const N: usize, const S: usize, const A: usize>(
 
 /// A SEQUENCE begins: one bit for each component that has one, true where it is there.
 pub fn put_flags<const N: usize, const S: usize, const A: usize>(
-    steps: &[Step],
+    steps: &Steps,
     first: usize,
     end: usize,
     places: &[Option<Value>],

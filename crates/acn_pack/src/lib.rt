@@ -11,6 +11,7 @@ mod steps;
 mod trace;
 mod values;
 mod walk;
+mod word;
 
 pub use node::pack_node;
 pub use trace::Trace;

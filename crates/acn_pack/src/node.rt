@@ -11,7 +11,7 @@ ghost use Rattle.acn_pack.specs.Sounds.{IsSound};
 use crate::trace::Trace;
 use crate::walk::pack_step;
 use acn_grammar::Value;
-use acn_plan::Step;
+use acn_plan::Steps;
 use acn_writer::{Halted, Writer};
 
 /// Writes a value of the node of a step, at the path of a trace.
@@ -19,7 +19,7 @@ use acn_writer::{Halted, Writer};
 /// With Ok the events of the value ran, and the path is as before. Else they stopped at the path
 /// where the walk stands, for the reason beside it.
 pub fn pack_node<'p, const N: usize, const S: usize, const A: usize>(
-    steps: &'p [Step],
+    steps: &'p Steps,
     this: usize,
     v: &Value,
     w: &mut Writer<'_, 'p, N, S, A>,

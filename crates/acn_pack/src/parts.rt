@@ -12,7 +12,7 @@ ghost use Rattle.acn_pack.specs.Sounds.{IsSound};
 use crate::asking::{ask_tests, equal};
 use crate::steps::{at, item_of, number_leaf, tests_of};
 use acn_grammar::{ChoiceRule, NumLeaf, Value};
-use acn_plan::{Place, Step};
+use acn_plan::{Place, Steps};
 use acn_writer::{Halt, Halted, Writer};
 
 /// The number of a component is noted where it is a slot's.
@@ -36,7 +36,7 @@ pub fn note_own<const N: usize, const S: usize, const A: usize>(
 
 /// An inserted field: a hole for the number of its slot, or a NULL.
 pub fn put_inserted<'p, const N: usize, const S: usize, const A: usize>(
-    steps: &'p [Step],
+    steps: &'p Steps,
     this: usize,
     slot: Option<u32>,
     w: &mut Writer<'_, 'p, N, S, A>,

@@ -11,14 +11,14 @@ ghost use Rattle.acn_plan.specs.Made.{IsMade};
 ghost use Rattle.acn_pack.specs.Parts.{says_string, tests_in, nth_case, IsCase};
 
 use acn_grammar::{NumLeaf, Presence, Test};
-use acn_plan::{Act, Place, Step};
+use acn_plan::{Act, Place, Step, Steps};
 
 /// The step of a number.
-pub fn at(steps: &[Step], this: usize) -> &Step
+pub fn at(steps: &Steps, this: usize) -> &Step
     requires { this < length steps.now }
     ensures { StepAt steps.now this result.now }
 {
-    &steps[this]
+    steps.at(this)
 }
 
 /// The leaf of a step that is a number.

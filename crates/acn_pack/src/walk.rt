@@ -24,14 +24,15 @@ use crate::parts::{ask_case, ask_item, put_inserted};
 use crate::steps::{Component, at, case_of, component_of, inserted_slot, is_string, number_leaf};
 use crate::trace::Trace;
 use crate::values::{case_in, elements_in, places_in};
+use crate::word::{Spot, put_run, run_at};
 use acn_grammar::{ChoiceRule, Presence, Sizing, Value};
-use acn_plan::{Act, Cases, Step};
+use acn_plan::{Act, Cases, Step, Steps};
 use acn_writer::{Halted, Writer};
 
 /// The node of a step.
 #[cycle(pack)]
 pub fn pack_step<'p, T, const N: usize, const S: usize, const A: usize>(
-    steps: &'p [Step],
+    steps: &'p Steps,
     this: usize,
     v: &Value,
     w: &mut Writer<'_, 'p, N, S, A>,
@@ -50,7 +51,7 @@ pub fn pack_step<'p, T, const N: usize, const S: usize, const A: usize>(
 
 #[cycle(pack)]
 fn pack_body<'p, T, const N: usize, const S: usize, const A: usize>(
-    steps: &'p [Step],
+    steps: &'p Steps,
     this: usize,
     step: &'p Step,
     v: &Value,
@@ -89,7 +90,7 @@ fn pack_body<'p, T, const N: usize, const S: usize, const A: usize>(
 // A node inside another, at a step from it.
 #[cycle(pack)]
 fn pack_child<'p, T, const N: usize, const S: usize, const A: usize>(
-    steps: &'p [Step],
+    steps: &'p Steps,
     this: usize,
     k: u32,
     v: &Value,
@@ -110,7 +111,7 @@ fn pack_child<'p, T, const N: usize, const S: usize, const A: usize>(
 
 #[cycle(pack)]
 fn pack_seq<'p, T, const N: usize, const S: usize, const A: usize>(
-    steps: &'p [Step],
+    steps: &'p Steps,
     first: usize,
     end: usize,
     home: &[u32],
@@ -132,7 +133,7 @@ fn pack_seq<'p, T, const N: usize, const S: usize, const A: usize>(
 
 #[cycle(pack)]
 fn pack_places<'p, T, const N: usize, const S: usize, const A: usize>(
-    steps: &'p [Step],
+    steps: &'p Steps,
     first: usize,
     end: usize,
     home: &[u32],
@@ -153,7 +154,7 @@ fn pack_places<'p, T, const N: usize, const S: usize, const A: usize>(
 
 #[cycle(pack)]
 fn pack_fields<'p, T, const N: usize, const S: usize, const A: usize>(
-    steps: &'p [Step],
+    steps: &'p Steps,
     first: usize,
     end: usize,
     places: &[Option<Value>],
@@ -166,19 +167,38 @@ fn pack_fields<'p, T, const N: usize, const S: usize, const A: usize>(
     ensures packs { Packs (field_events (root_of steps.now) (fields_at steps.now first end) trace.old.path 0 (places_view places.now)) w.old w.new trace.new.path trace.new.why result }
     ensures path { OnOk result (trace.new.path ≡ trace.old.path) }
 {
-    let mut this = first;
-    let mut k = 0u32;
-    let mut next = 0;
-    while this < end {
-        let step = at(steps, this);
-        match pack_field::<T, N, S, A>(steps, this, k, places, next, w, trace) {
-            Ok(Some(behind)) => {
-                next = behind;
-                k += 1;
-                this = step.next as usize;
+    let mut spot = Spot {
+        step: first,
+        k: 0,
+        next: 0,
+    };
+    while spot.step < end {
+        let run = run_at(steps, spot.step, end);
+        match put_run(run, places, spot.next, w, &mut trace.why) {
+            Some(next) => {
+                let count = run.len();
+                spot = Spot {
+                    step: spot.step + count,
+                    k: spot.k + count as u32,
+                    next,
+                };
             }
-            Ok(None) => return Ok(()),
-            Err(halted) => return Err(halted),
+            None => {
+                let step = at(steps, spot.step);
+                match pack_field::<T, N, S, A>(
+                    steps, spot.step, spot.k, places, spot.next, w, trace,
+                ) {
+                    Ok(Some(next)) => {
+                        spot = Spot {
+                            step: step.next as usize,
+                            k: spot.k + 1,
+                            next,
+                        };
+                    }
+                    Ok(None) => return Ok(()),
+                    Err(halted) => return Err(halted),
+                }
+            }
         }
     }
     Ok(())
@@ -189,7 +209,7 @@ fn pack_fields<'p, T, const N: usize, const S: usize, const A: usize>(
 // written.
 #[cycle(pack)]
 fn pack_field<'p, T, const N: usize, const S: usize, const A: usize>(
-    steps: &'p [Step],
+    steps: &'p Steps,
     this: usize,
     k: u32,
     places: &[Option<Value>],
@@ -225,7 +245,7 @@ fn pack_field<'p, T, const N: usize, const S: usize, const A: usize>(
 // A component, which may be absent.
 #[cycle(pack)]
 fn pack_component<'p, T, const N: usize, const S: usize, const A: usize>(
-    steps: &'p [Step],
+    steps: &'p Steps,
     this: usize,
     component: Component<'p>,
     k: u32,
@@ -249,7 +269,7 @@ fn pack_component<'p, T, const N: usize, const S: usize, const A: usize>(
 // A component that is there. What holds no others is put without a turn of the cycle.
 #[cycle(pack)]
 fn pack_there<'p, T, const N: usize, const S: usize, const A: usize>(
-    steps: &'p [Step],
+    steps: &'p Steps,
     this: usize,
     component: Component<'p>,
     k: u32,
@@ -274,7 +294,7 @@ fn pack_there<'p, T, const N: usize, const S: usize, const A: usize>(
 // A component that is there and is no number: it is a string, or holds others.
 #[cycle(pack)]
 fn pack_other<'p, T, const N: usize, const S: usize, const A: usize>(
-    steps: &'p [Step],
+    steps: &'p Steps,
     this: usize,
     presence: &Presence,
     k: u32,
@@ -299,7 +319,7 @@ fn pack_other<'p, T, const N: usize, const S: usize, const A: usize>(
 // A component that is there, by a turn of the cycle.
 #[cycle(pack)]
 fn pack_inside<'p, T, const N: usize, const S: usize, const A: usize>(
-    steps: &'p [Step],
+    steps: &'p Steps,
     this: usize,
     presence: &Presence,
     k: u32,
@@ -322,7 +342,7 @@ fn pack_inside<'p, T, const N: usize, const S: usize, const A: usize>(
 
 #[cycle(pack)]
 fn pack_list<'p, T, const N: usize, const S: usize, const A: usize>(
-    steps: &'p [Step],
+    steps: &'p Steps,
     this: usize,
     sizing: &Sizing,
     v: &Value,
@@ -343,7 +363,7 @@ fn pack_list<'p, T, const N: usize, const S: usize, const A: usize>(
 
 #[cycle(pack)]
 fn pack_elements<'p, T, const N: usize, const S: usize, const A: usize>(
-    steps: &'p [Step],
+    steps: &'p Steps,
     this: usize,
     sizing: &Sizing,
     elements: &[Value],
@@ -365,7 +385,7 @@ fn pack_elements<'p, T, const N: usize, const S: usize, const A: usize>(
 
 #[cycle(pack)]
 fn pack_run<'p, T, const N: usize, const S: usize, const A: usize>(
-    steps: &'p [Step],
+    steps: &'p Steps,
     this: usize,
     elements: &[Value],
     w: &mut Writer<'_, 'p, N, S, A>,
@@ -390,7 +410,7 @@ fn pack_run<'p, T, const N: usize, const S: usize, const A: usize>(
 
 #[cycle(pack)]
 fn pack_choice<'p, T, const N: usize, const S: usize, const A: usize>(
-    steps: &'p [Step],
+    steps: &'p Steps,
     this: usize,
     cases: &'p Cases,
     v: &Value,
@@ -413,7 +433,7 @@ fn pack_choice<'p, T, const N: usize, const S: usize, const A: usize>(
 // The alternative of index i of the CHOICE of a step.
 #[cycle(pack)]
 fn pack_chosen<'p, T, const N: usize, const S: usize, const A: usize>(
-    steps: &'p [Step],
+    steps: &'p Steps,
     this: usize,
     cases: &'p Cases,
     i: u32,
@@ -437,7 +457,7 @@ fn pack_chosen<'p, T, const N: usize, const S: usize, const A: usize>(
 
 #[cycle(pack)]
 fn pack_case<'p, T, const N: usize, const S: usize, const A: usize>(
-    steps: &'p [Step],
+    steps: &'p Steps,
     this: usize,
     rule: ChoiceRule,
     i: u32,
@@ -463,7 +483,7 @@ fn pack_case<'p, T, const N: usize, const S: usize, const A: usize>(
 
 #[cycle(pack)]
 fn pack_contained<'p, T, const N: usize, const S: usize, const A: usize>(
-    steps: &'p [Step],
+    steps: &'p Steps,
     this: usize,
     sizing: &Sizing,
     v: &Value,

@@ -75,7 +75,7 @@ fn pack_whole<'p, const N: usize, const S: usize, const A: usize>(
     runs_are_writable();
     stops_keep_what_is_later();
     stops_pass_their_holes();
-    let steps = plan.steps();
+    let steps = plan.with_runs();
     match pack_node(steps, 0, v, writer, trace) {
         Ok(()) => {
             let _at = writer.at();

@@ -10,4 +10,5 @@ pub mod Mades
 -- for acn_pack, acn_unpack, acn_step_breach and acn_step_fields: one level of what steps say
 pub mod Marks
 mod Nests
+mod Pieces
 mod Puts

@@ -10,6 +10,7 @@ ghost use Rattle.acn_plan.specs.Steps.{steps_of};
 use crate::plan::Plan;
 use crate::put::put_node;
 use crate::step::{Place, Step};
+use crate::steps::Steps;
 use acn_bounds::bounds;
 use acn_check::Checked;
 use acn_grammar::Node;
@@ -37,6 +38,7 @@ pub fn compile(alloc: Global, checked: &Checked) -> Result<Plan, NoMemory>
     ensures bounds { IfOk result (λ plan. plan.bounds ≡ span (grammar_of checked.now.tree.root)) }
 {
     let bounds = bounds(checked);
-    let steps = list_steps(alloc, checked.tree().root())?;
+    let listed = list_steps(alloc, checked.tree().root())?;
+    let steps = Steps::new(alloc, listed)?;
     Ok(Plan::of(steps, bounds))
 }

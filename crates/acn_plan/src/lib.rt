@@ -7,7 +7,9 @@ mod items;
 mod laws;
 mod plan;
 mod put;
+mod runs;
 mod step;
+mod steps;
 
 pub use compiling::compile;
 pub use laws::{
@@ -16,3 +18,4 @@ pub use laws::{
 };
 pub use plan::Plan;
 pub use step::{Act, Cases, Place, Step};
+pub use steps::Steps;

@@ -2,14 +2,14 @@ ghost use Rattle.std.specs.Prelude.{◌≡◌};
 ghost use Rattle.acn_plan.specs.Made.{IsMade};
 
 use crate::step::Step;
+use crate::steps::Steps;
 use acn_grammar::Bounds;
-use acn_num::Row;
 
 /// A tree that can be decoded as a flat list of steps, one for each node in preorder, with the bounds of its packets. Contracts see
 /// both. `compile` alone makes one.
 #[derive(Drop)]
 pub struct Plan {
-    steps: Row<Step>,
+    steps: Steps,
     bounds: Bounds,
 
     ghost made: { IsMade steps },
@@ -17,7 +17,7 @@ pub struct Plan {
 
 impl Plan {
     // The plan of steps that were made.
-    pub(crate) fn of(steps: Row<Step>, bounds: Bounds) -> Plan
+    pub(crate) fn of(steps: Steps, bounds: Bounds) -> Plan
         requires { IsMade steps }
         ensures steps { result.steps ≡ steps }
         ensures bounds { result.bounds ≡ bounds }
@@ -31,6 +31,14 @@ impl Plan {
         ensures made { IsMade result.now }
     {
         self.steps.items()
+    }
+
+    /// The steps with the runs of numbers that can be written as one word. It takes no memory.
+    pub fn with_runs(&self) -> &Steps
+        ensures same { result.now ≡ self.now.steps }
+        ensures made { IsMade result.now }
+    {
+        &self.steps
     }
 
     /// The least number of bits that a packet has, with no padding behind it. It takes no memory.

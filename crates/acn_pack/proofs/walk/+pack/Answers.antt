@@ -18,16 +18,18 @@ use Rattle.acn_plan.proofs.Marks.{fields_more, fields_none, node_is}
 use Rattle.acn_writer.specs.Halts.{halt_of}
 use Rattle.acn_pack.specs.Packs.{Ran, Stopped, Packs}
 use Rattle.acn_pack.specs.Parts.{place_events, item_events, case_tests, left_of, name_in, tests_in, IsItemed}
+use Rattle.acn_pack.specs.Words.{Stands, left_from}
 use Rattle.acn_pack.specs.Sounds.{IsSound, FormIsSound, FieldsAreSound}
 use Rattle.acn_pack.proofs.Cases.{nth_events, no_events, cases_sound, nth_sound, is_itemed}
 use Rattle.acn_pack.proofs.Chosen.{chosen_case, no_chosen}
 use Rattle.acn_pack.proofs.Contents.{enter_fails, node_fails, align_fails, closed}
+use Rattle.acn_pack.proofs.Gathered.{stays_on}
 use Rattle.acn_pack.proofs.Levels.{child_inside, form_by, inside, node_of_number, same_step, step_there}
 use Rattle.acn_pack.proofs.Fields.{below, no_element}
 use Rattle.acn_pack.proofs.Paths.{back}
 use Rattle.acn_pack.proofs.Sounding.{depth_is, body_sound, form_as, leaf_is_fine, num_is_fine, text_is_fine, list_is_fine, element_sound, content_sound, fields_sound, deeper, head_sound, rest_sound, own_is_number, no_own, string_is_fine}
 use Rattle.acn_pack.proofs.Walking.{node_begins, body_as, component_on, component_stops, component_ends, inserted_on, inserted_stops, field_on, field_ends, field_stops, element_events, element_on, element_stops, list_begins, case_whole, case_begins}
-use Rattle.acn_pack.proofs.Ways.{begin, then_one, then_some, left_as, packs_as, ended, nothing, last, failed, failed_to, failed_one, failed_some, ran_on, stopped_as, stop_some, stop_on}
+use Rattle.acn_pack.proofs.Ways.{begin, then_on, then_one, then_some, left_as, packs_as, ended, nothing, last, failed, failed_to, failed_one, failed_some, ran_on, stopped_as, stop_some, stop_on}
 use Rattle.acn_pack.proofs.walk.+pack.Goals as goal
 
 pub pack_step-returns-in_err-align-clause-packs : goal.pack_step-returns-in_err-align-clause-packs
@@ -225,8 +227,8 @@ pack_places-returns-clause-packs g t c =
 
 -- Fields.
 
-pub pack_fields-loop-this-init : goal.pack_fields-loop-this-init
-pack_fields-loop-this-init g t c = record {
+pub pack_fields-loop-spot-init : goal.pack_fields-loop-spot-init
+pack_fields-loop-spot-init g t c = record {
   from = omega arith;
   few = omega arith;
   within = omega arith;
@@ -236,79 +238,106 @@ pack_fields-loop-this-init g t c = record {
 }
 
 pub pack_fields-at-step-requires : goal.pack_fields-at-step-requires
-pack_fields-at-step-requires g t c = let a = c.loop-this-test.true in let b = c.requires.within in omega (arith, a, b)
+pack_fields-at-step-requires g t c = let a = c.loop-spot-test.true in let b = c.requires.within in omega (arith, a, b)
 
 pub pack_fields-pack_field-requires : goal.pack_fields-pack_field-requires
 pack_fields-pack_field-requires g t c κs within =
-    let l = c.loop-this in
+    let l = c.loop-spot in
     let root = root_of c.args.steps.now in
     let s = c.at-step.result.now in
-    let more = fields_more c.args.steps.now l.this c.args.end s c.at-step.ensures c.loop-this-test.true (made_nested c.args.steps.now c.requires.made l.this s c.at-step.ensures).behind in
-    let a = c.loop-this-test.true in
+    let more = fields_more c.args.steps.now l.spot.step c.args.end s c.at-step.ensures c.loop-spot-test.true (made_nested c.args.steps.now c.requires.made l.spot.step s c.at-step.ensures).behind in
+    let a = c.loop-spot-test.true in
     let b = c.requires.within in
     let e = l.invariant.from in
     let sound = subst (λ (fs : Fields). FieldsAreSound root (suc (length c.args.trace.now.path)) fs) more l.invariant.sound in
-    (omega (arith, a, b, e), (within, (search rules, (search rules, (search rules, (search rules, (c.requires.made, (omega (arith, a, b), (l.invariant.within, (fields_at c.args.steps.now s.next c.args.end, s, c.at-step.ensures, subst (λ (q : List ℕ). FieldsAreSound root (suc (length q)) (with_field (field_by s.place (node_at c.args.steps.now l.this)) (fields_at c.args.steps.now s.next c.args.end))) (sym l.invariant.path) sound))))))))))
+    (omega (arith, a, b, e), (within, (search rules, (search rules, (search rules, (search rules, (c.requires.made, (omega (arith, a, b), (l.invariant.within, (fields_at c.args.steps.now s.next c.args.end, s, c.at-step.ensures, subst (λ (q : List ℕ). FieldsAreSound root (suc (length q)) (with_field (field_by s.place (node_at c.args.steps.now l.spot.step)) (fields_at c.args.steps.now s.next c.args.end))) (sym l.invariant.path) sound))))))))))
 
-pub pack_fields-loop-this-preserved : goal.pack_fields-loop-this-preserved
-pack_fields-loop-this-preserved g t c =
-    let l = c.loop-this in
+pub pack_fields-put_run-requires : goal.pack_fields-put_run-requires
+pack_fields-put_run-requires g t c =
+    let l = c.loop-spot in
+    let stands : Stands c.run_at-run.result.now c.args.steps.now l.spot.step c.args.end = record { is = c.run_at-run.ensures.run; within = c.run_at-run.ensures.few; depth = suc (length c.args.trace.now.path); sound = l.invariant.sound } in
+    (search rules, ((c.args.steps.now, l.spot.step, c.args.end, stands), l.invariant.within))
+
+pub pack_fields-loop-spot-preserved-in-Some : goal.pack_fields-loop-spot-preserved-in-Some
+pack_fields-loop-spot-preserved-in-Some g t c =
+    let l = c.loop-spot in
+    let steps = c.args.steps.now in
+    let end = c.args.end in
+    let path = c.args.trace.now.path in
+    let run = c.run_at-run.result.now in
+    let whole = field_events (root_of steps) (fields_at steps c.args.first end) path 0 (places_view c.args.places.now) in
+    let before = left_from steps l.spot.step end path l.spot.k c.args.places.now l.spot.next in
+    let behind = left_from steps (l.spot.step + length run) end path (l.spot.k + length run) c.args.places.now c.in-Some.next in
+    let stands : Stands run steps l.spot.step end = record { is = c.run_at-run.ensures.run; within = c.run_at-run.ensures.few; depth = suc (length path); sound = l.invariant.sound } in
+    record {
+      from = omega (arith, l.invariant.from);
+      few = omega (arith, l.invariant.few);
+      within = c.in-Some.ensures.some.within;
+      path = l.invariant.path;
+      sound = c.in-Some.ensures.some.sound steps l.spot.step end stands (suc (length path)) l.invariant.sound;
+      done = then_on whole before behind c.args.w.now l.w c.put_run.new.w l.invariant.done (c.in-Some.ensures.some.puts steps l.spot.step end stands path l.spot.k);
+    }
+
+pub pack_fields-loop-spot-preserved : goal.pack_fields-loop-spot-preserved
+pack_fields-loop-spot-preserved g t c =
+    let l = c.loop-spot in
     let root = root_of c.args.steps.now in
     let s = c.at-step.result.now in
-    let up = (made_nested c.args.steps.now c.requires.made l.this s c.at-step.ensures).behind in
-    let more = fields_more c.args.steps.now l.this c.args.end s c.at-step.ensures c.loop-this-test.true up in
+    let up = (made_nested c.args.steps.now c.requires.made l.spot.step s c.at-step.ensures).behind in
+    let more = fields_more c.args.steps.now l.spot.step c.args.end s c.at-step.ensures c.loop-spot-test.true up in
     let fs = fields_at c.args.steps.now s.next c.args.end in
-    let one = field_by s.place (node_at c.args.steps.now l.this) in
+    let one = field_by s.place (node_at c.args.steps.now l.spot.step) in
+    let whole = field_events root (fields_at c.args.steps.now c.args.first c.args.end) c.args.trace.now.path 0 (places_view c.args.places.now) in
+    let done = stays_on whole (left_from c.args.steps.now l.spot.step c.args.end c.args.trace.now.path l.spot.k c.args.places.now l.spot.next) c.args.w.now l.w c.put_run.new.w l.invariant.done c.in-None.ensures.none in
     record {
       from = omega (arith, up, l.invariant.from);
       few = omega (arith, up, l.invariant.few);
       within = subst (λ (o : Option ℕ). IfSome o (λ n. n ≤ length c.args.places.now)) c.in-Ok-Some.field-0-is c.in-Ok-Some.ensures.within;
       path = c.in-Ok-Some.ensures.path ∙ l.invariant.path;
-      sound = rest_sound root (suc (length c.args.trace.now.path)) s.place (node_at c.args.steps.now l.this) fs (subst (λ (x : Fields). FieldsAreSound root (suc (length c.args.trace.now.path)) x) more l.invariant.sound);
-      done = field_on root (field_events root (fields_at c.args.steps.now c.args.first c.args.end) c.args.trace.now.path 0 (places_view c.args.places.now)) (fields_at c.args.steps.now l.this c.args.end) one fs c.args.trace.now.path l.trace.path l.k l.next c.args.places.now c.args.w.now l.w c.pack_field.new.w more l.invariant.path l.invariant.done c.in-Ok-Some.behind (left_as _ _ _ l.w c.pack_field.new.w (ap (left_of root fs l.trace.path (suc l.k) c.args.places.now) c.in-Ok-Some.field-0-is) (c.in-Ok-Some.ensures.packs fs s c.at-step.ensures));
+      sound = rest_sound root (suc (length c.args.trace.now.path)) s.place (node_at c.args.steps.now l.spot.step) fs (subst (λ (x : Fields). FieldsAreSound root (suc (length c.args.trace.now.path)) x) more l.invariant.sound);
+      done = field_on root whole (fields_at c.args.steps.now l.spot.step c.args.end) one fs c.args.trace.now.path l.trace.path l.spot.k l.spot.next c.args.places.now c.args.w.now c.put_run.new.w c.pack_field.new.w more l.invariant.path done c.in-Ok-Some.next (left_as _ _ _ c.put_run.new.w c.pack_field.new.w (ap (left_of root fs l.trace.path (suc l.spot.k) c.args.places.now) c.in-Ok-Some.field-0-is) (c.in-Ok-Some.ensures.packs fs s c.at-step.ensures));
     }
 
 pub pack_fields-returns-in-Ok-None-clause-packs : goal.pack_fields-returns-in-Ok-None-clause-packs
 pack_fields-returns-in-Ok-None-clause-packs g t c =
-    let l = c.loop-this in
+    let l = c.loop-spot in
     let root = root_of c.args.steps.now in
     let s = c.at-step.result.now in
-    let up = (made_nested c.args.steps.now c.requires.made l.this s c.at-step.ensures).behind in
-    let more = fields_more c.args.steps.now l.this c.args.end s c.at-step.ensures c.loop-this-test.true up in
+    let up = (made_nested c.args.steps.now c.requires.made l.spot.step s c.at-step.ensures).behind in
+    let more = fields_more c.args.steps.now l.spot.step c.args.end s c.at-step.ensures c.loop-spot-test.true up in
     let fs = fields_at c.args.steps.now s.next c.args.end in
-    let one = field_by s.place (node_at c.args.steps.now l.this) in
-    field_ends root (field_events root (fields_at c.args.steps.now c.args.first c.args.end) c.args.trace.now.path 0 (places_view c.args.places.now)) (fields_at c.args.steps.now l.this c.args.end) one fs c.args.trace.now.path l.trace.path l.k l.next c.args.places.now c.args.w.now l.w c.pack_field.new.w more l.invariant.path l.invariant.done (left_as _ _ _ l.w c.pack_field.new.w (ap (left_of root fs l.trace.path (suc l.k) c.args.places.now) c.in-Ok-None.field-0-is) (c.in-Ok-None.ensures.packs fs s c.at-step.ensures))
+    let one = field_by s.place (node_at c.args.steps.now l.spot.step) in
+    let whole = field_events root (fields_at c.args.steps.now c.args.first c.args.end) c.args.trace.now.path 0 (places_view c.args.places.now) in
+    let done = stays_on whole (left_from c.args.steps.now l.spot.step c.args.end c.args.trace.now.path l.spot.k c.args.places.now l.spot.next) c.args.w.now l.w c.put_run.new.w l.invariant.done c.in-None.ensures.none in
+    field_ends root whole (fields_at c.args.steps.now l.spot.step c.args.end) one fs c.args.trace.now.path l.trace.path l.spot.k l.spot.next c.args.places.now c.args.w.now c.put_run.new.w c.pack_field.new.w more l.invariant.path done (left_as _ _ _ c.put_run.new.w c.pack_field.new.w (ap (left_of root fs l.trace.path (suc l.spot.k) c.args.places.now) c.in-Ok-None.field-0-is) (c.in-Ok-None.ensures.packs fs s c.at-step.ensures))
 
 pub pack_fields-returns-in-Err-clause-packs : goal.pack_fields-returns-in-Err-clause-packs
 pack_fields-returns-in-Err-clause-packs g t c =
-    let l = c.loop-this in
+    let l = c.loop-spot in
     let root = root_of c.args.steps.now in
     let s = c.at-step.result.now in
-    let up = (made_nested c.args.steps.now c.requires.made l.this s c.at-step.ensures).behind in
-    let more = fields_more c.args.steps.now l.this c.args.end s c.at-step.ensures c.loop-this-test.true up in
+    let up = (made_nested c.args.steps.now c.requires.made l.spot.step s c.at-step.ensures).behind in
+    let more = fields_more c.args.steps.now l.spot.step c.args.end s c.at-step.ensures c.loop-spot-test.true up in
     let fs = fields_at c.args.steps.now s.next c.args.end in
-    let one = field_by s.place (node_at c.args.steps.now l.this) in
-    field_stops root (field_events root (fields_at c.args.steps.now c.args.first c.args.end) c.args.trace.now.path 0 (places_view c.args.places.now)) (fields_at c.args.steps.now l.this c.args.end) one fs c.args.trace.now.path l.trace.path l.k l.next c.args.places.now c.args.w.now l.w c.pack_field.new.w more l.invariant.path l.invariant.done _ (c.in-Err.ensures.packs fs s c.at-step.ensures)
+    let one = field_by s.place (node_at c.args.steps.now l.spot.step) in
+    let whole = field_events root (fields_at c.args.steps.now c.args.first c.args.end) c.args.trace.now.path 0 (places_view c.args.places.now) in
+    let done = stays_on whole (left_from c.args.steps.now l.spot.step c.args.end c.args.trace.now.path l.spot.k c.args.places.now l.spot.next) c.args.w.now l.w c.put_run.new.w l.invariant.done c.in-None.ensures.none in
+    field_stops root whole (fields_at c.args.steps.now l.spot.step c.args.end) one fs c.args.trace.now.path l.trace.path l.spot.k l.spot.next c.args.places.now c.args.w.now c.put_run.new.w c.pack_field.new.w more l.invariant.path done _ (c.in-Err.ensures.packs fs s c.at-step.ensures)
 
 pub pack_fields-returns-clause-packs : goal.pack_fields-returns-clause-packs
 pack_fields-returns-clause-packs g t c =
-    let l = c.loop-this in
+    let l = c.loop-spot in
     let root = root_of c.args.steps.now in
     let whole = field_events root (fields_at c.args.steps.now c.args.first c.args.end) c.args.trace.now.path 0 (places_view c.args.places.now) in
-    let none = fields_none c.args.steps.now l.this c.args.end (let o = c.loop-this-test.false in omega (arith, o)) in
-    ended whole c.args.w.now l.w (left_as whole (field_events root (fields_at c.args.steps.now l.this c.args.end) c.args.trace.now.path l.k (places_view (drop l.next c.args.places.now))) [] c.args.w.now l.w (ap (λ (fs : Fields). field_events root fs c.args.trace.now.path l.k (places_view (drop l.next c.args.places.now))) none) l.invariant.done)
+    let none = fields_none c.args.steps.now l.spot.step c.args.end (let o = c.loop-spot-test.false in omega (arith, o)) in
+    ended whole c.args.w.now l.w (left_as whole (field_events root (fields_at c.args.steps.now l.spot.step c.args.end) c.args.trace.now.path l.spot.k (places_view (drop l.spot.next c.args.places.now))) [] c.args.w.now l.w (ap (λ (fs : Fields). field_events root fs c.args.trace.now.path l.spot.k (places_view (drop l.spot.next c.args.places.now))) none) l.invariant.done)
 
 pub pack_fields-returns-clause-path : goal.pack_fields-returns-clause-path
-pack_fields-returns-clause-path g t c = c.loop-this.invariant.path
+pack_fields-returns-clause-path g t c = c.loop-spot.invariant.path
 
-pub pack_fields-loop-this-smaller : goal.pack_fields-loop-this-smaller
-pack_fields-loop-this-smaller g t c =
-    let up = (made_nested c.args.steps.now c.requires.made c.loop-this.this c.at-step.result.now c.at-step.ensures).behind in let a = c.loop-this-test.true in omega (arith, up, a)
-
-pub pack_fields-overflow_add-k : goal.pack_fields-overflow_add-k
-pack_fields-overflow_add-k g t c =
-    let l = c.loop-this in
-    let f = l.invariant.few in let a = c.loop-this-test.true in let b = c.requires.within in let e = c.requires.made.few in omega (arith, f, a, b, e)
+pub pack_fields-loop-spot-smaller : goal.pack_fields-loop-spot-smaller
+pack_fields-loop-spot-smaller g t c =
+    let up = (made_nested c.args.steps.now c.requires.made c.loop-spot.spot.step c.at-step.result.now c.at-step.ensures).behind in let a = c.loop-spot-test.true in omega (arith, up, a)
 
 -- One field.
 

@@ -4,6 +4,7 @@ use Rattle.acn_events.specs.Events.{events, field_events, run_events}
 use Rattle.acn_plan.specs.Back.{root_of, node_at, fields_at}
 use Rattle.acn_pack.specs.Packs.{GoesOn}
 use Rattle.acn_pack.specs.Sounds.{FieldsAreSound}
+use Rattle.acn_pack.specs.Words.{left_from}
 use Rattle.acn_pack.proofs.walk.+pack.Given as goal
 
 abbrev pub decreases-pack_step : goal.decreases-pack_step
@@ -60,18 +61,18 @@ decreases-pack_case g l = 10 * (length l.steps.now - l.this) + 9
 abbrev pub decreases-pack_contained : goal.decreases-pack_contained
 decreases-pack_contained g l = 10 * (length l.steps.now - l.this) + 9
 
-abbrev pub invariant-pack_fields-loop-this : goal.invariant-pack_fields-loop-this
-invariant-pack_fields-loop-this g l = record {
-  from : l.first ≤ l.this;
-  few : l.k + l.first ≤ l.this;
-  within : l.next ≤ length l.places;
+abbrev pub invariant-pack_fields-loop-spot : goal.invariant-pack_fields-loop-spot
+invariant-pack_fields-loop-spot g l = record {
+  from : l.first ≤ l.spot.step;
+  few : l.spot.k + l.first ≤ l.spot.step;
+  within : l.spot.next ≤ length l.places;
   path : l.trace.path ≡ l.fn.trace.path;
-  sound : FieldsAreSound (root_of l.steps) (suc (length l.fn.trace.path)) (fields_at l.steps l.this l.end);
-  done : GoesOn (field_events (root_of l.steps) (fields_at l.steps l.first l.end) l.fn.trace.path 0 (places_view l.places)) (field_events (root_of l.steps) (fields_at l.steps l.this l.end) l.fn.trace.path l.k (places_view (drop l.next l.places))) l.fn.w l.w;
+  sound : FieldsAreSound (root_of l.steps) (suc (length l.fn.trace.path)) (fields_at l.steps l.spot.step l.end);
+  done : GoesOn (field_events (root_of l.steps) (fields_at l.steps l.first l.end) l.fn.trace.path 0 (places_view l.places)) (left_from l.steps l.spot.step l.end l.fn.trace.path l.spot.k l.places l.spot.next) l.fn.w l.w;
 }
 
-abbrev pub decreases-pack_fields-loop-this : goal.decreases-pack_fields-loop-this
-decreases-pack_fields-loop-this g l = l.end - l.this
+abbrev pub decreases-pack_fields-loop-spot : goal.decreases-pack_fields-loop-spot
+decreases-pack_fields-loop-spot g l = l.end - l.spot.step
 
 abbrev pub invariant-pack_run-loop-v : goal.invariant-pack_run-loop-v
 invariant-pack_run-loop-v g l = record {
