@@ -7,10 +7,11 @@ use Rattle.acn_num.specs.Bits.{number}
 use Rattle.acn_bits.specs.Reading.{Reading, Reads, passed}
 use Rattle.acn_bits.specs.declared.word.TheConstants.{WORD_BITS}
 use Rattle.acn_cut.specs.Cuts.{IsCut}
-use Rattle.acn_cut.specs.Stretches.{IsPieceOf, IsRun, IsStrip, total}
+use Rattle.acn_cut.specs.Stretches.{AreStretches, IsPieceOf, IsRun, IsStretch, IsStrip, total}
+use Rattle.acn_cut.specs.declared.stretch.Stretch.{Stretch}
 use Rattle.acn_cut.specs.declared.stretch.Piece.{Piece}
 use Rattle.acn_cut.specs.declared.strip.Strip.{Strip}
-use Rattle.acn_cut.proofs.Runs.{run_split, run_rest}
+use Rattle.acn_cut.proofs.Runs.{run_split, run_rest, stretch_at}
 use Rattle.acn_grammar.specs.Code.{Any, Code}
 use Rattle.acn_grammar.specs.Env.{Env}
 use Rattle.acn_grammar.specs.Fails.{Here}
@@ -257,3 +258,12 @@ stretch_end fs k count ps rest h same r =
       omega (arith, few, long, h, same),
       sym e.1 ∙ (ap fields_view (drop-drop (length ps) k fs) ∙ ap (λ n. fields_view (drop (k + n) fs)) (sym same)),
     )
+
+-- the first stretch, where it has as many pieces as there are fields
+pub whole_stretch : (fs : List Field) (ss : List Stretch) (s : Stretch) → AreStretches (fields_view fs) ss → 0 < length ss → s ≡ get_or ss 0 s → 0 < length s.pieces → length s.pieces ≡ length fs → IsStretch (fields_view fs) s no_fields
+whole_stretch fs ss s all some is more same =
+    let r = stretch_at fs ss 0 s all (omega (arith, more, same)) some is in
+    let e = run_rest fs s.pieces r.0 r.1.run in
+    let past : drop (length s.pieces) fs ≡ [] = drop_of_length-le fs (omega (arith, same)) in
+    let none : r.0 ≡ no_fields = sym e.1 ∙ ap (λ (x : List Field). fields_view x) past in
+    subst (λ (x : Fields). IsStretch (fields_view fs) s x) none r.1

@@ -175,6 +175,7 @@ fn enclose(mark: usize, text: &mut Vec<u8>) -> bool
 /// Puts the object of these turns, of whose components these parts are kept and whose texts stand
 /// aside. Where that fails, what stood in the text still stands in front.
 #[tactic(auto, using(crate::proofs::Keeping::kept_same, crate::proofs::Keeping::kept_twice))]
+#[inline(always)]
 pub fn put_members(
     turns: &[Turn],
     fields: &[Field],

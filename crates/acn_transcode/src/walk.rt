@@ -25,7 +25,7 @@ use crate::leaves::{note, note_number, number, put_leaf};
 use crate::members::put_members;
 use crate::paddings::pad;
 use crate::slots::forget;
-use crate::stretch::lay_stretch;
+use crate::stretch::{lay_stretch, lay_whole, whole_of};
 use acn_bits::ReadCursor;
 use acn_cut::Stretch;
 use acn_grammar::{Alternative, Body, Choice, Field, Node, Pattern, Presence, Seq, Sizing};
@@ -124,8 +124,30 @@ fn put_sequence(
 
 /// Puts the values of the components of a SEQUENCE, which is passed, one behind the other, but for
 /// numbers, and notes where they stand, and the numbers.
+#[inline(always)]
 #[cycle(put)]
 pub fn lay_sequence(
+    seq: &Seq,
+    order: &Order,
+    root: &Node,
+    cur: &mut ReadCursor<'_>,
+    draft: &mut Draft,
+) -> bool
+    requires ready { (k : ℕ) × (around : List ℕ) × FormStands (grammar_of root.now) k (form_of (Seq_body seq.now)) draft.old.slots.items around }
+    requires named { FormItemsNamed (form_of (Seq_body seq.now)) }
+    requires fine { Fine (grammar_of root.now) draft.old.slots.items }
+    requires order { order_spec.IsFormOrder (form_of (Seq_body seq.now)) order.now }
+    ensures laid { result ≡ true → (ds : List (Option Data)) × FormRead (grammar_of root.now) (form_of (Seq_body seq.now)) (record_of (places_of ds)) draft.old.slots.items draft.new.slots.items cur.old cur.new × Lays (fields_view seq.now.fields) no_fields ds draft.old draft.new }
+{
+    match whole_of(order.stretches.items(), seq.fields.items()) {
+        Some(stretch) => lay_whole(seq, order, stretch, root, cur, draft),
+        None => lay_parts(seq, order, root, cur, draft),
+    }
+}
+
+// The same of a SEQUENCE that isn't one stretch.
+#[cycle(put)]
+fn lay_parts(
     seq: &Seq,
     order: &Order,
     root: &Node,

@@ -7,7 +7,7 @@ use Rattle.std.proofs.lemmas.Int.{to_z-of_z}
 use Rattle.serde_json.specs.Written.{compact_text, members_text}
 use Rattle.acn_grammar.specs.Env.{Env}
 use Rattle.acn_grammar.specs.Length.{number_of}
-use Rattle.acn_grammar.specs.Grammar.{Grammar, Form, Fields, node, num, octets, bits, text, seq, choice, component, no_places, record_of, list_of, alt, octet_string, bit_string, characters}
+use Rattle.acn_grammar.specs.Grammar.{Grammar, Form, Fields, node, num, octets, bits, text, seq, choice, component, no_fields, no_places, record_of, list_of, alt, octet_string, bit_string, characters}
 use Rattle.acn_grammar.specs.View.{OneField, grammar_of, form_of, field_of, fields_view, with_field, alternatives_view, places_of, elements_of}
 use Rattle.acn_grammar.specs.declared.node.Alternative.{the_lemmas as alternative_lemmas}
 use Rattle.acn_grammar.specs.declared.node.Body.TheVariants.{Choice as Choice_body, Seq as Seq_body}
@@ -37,7 +37,7 @@ use Rattle.acn_transcode.specs.Puts.{Puts, Lays, LaysFields, Shows, IsNumber, Ar
 use Rattle.acn_transcode.specs.declared.draft.Draft.{Draft}
 use Rattle.acn_transcode.specs.declared.draft.Part.TheVariants.{Number}
 use Rattle.acn_transcode.proofs.NumberTexts.{value_read}
-use Rattle.acn_cut.specs.Stretches.{IsRun, AreStretches}
+use Rattle.acn_cut.specs.Stretches.{IsRun, IsStretch, AreStretches}
 use Rattle.acn_cut.specs.declared.stretch.Stretch.{Stretch}
 use Rattle.acn_cut.proofs.Runs.{stretch_at}
 use Rattle.acn_grammar.specs.Fails.{Here}
@@ -565,8 +565,22 @@ put_run-returns t c =
     let count : length p.0 ≡ c.args.n = (let n = p.1 in omega (arith, over, within, n)) in
     record { put = λ sure. (p.0, count, p.2, p.3) }
 
-pub lay_sequence-put_fields-requires : goal.lay_sequence-put_fields-requires
-lay_sequence-put_fields-requires t c =
+pub lay_sequence-whole_of-requires : goal.lay_sequence-whole_of-requires
+lay_sequence-whole_of-requires t c =
+    let o = subst (λ (x : Form). IsFormOrder x c.args.order.now) (view_seq_form c.args.seq.now) c.requires.order in
+    subst (λ (x : List Stretch). AreStretches (fields_view c.items-2.result.now) x) (sym c.items.ensures) (subst (λ (x : List Field). AreStretches (fields_view x) (out-Order c.args.order.now).stretches) (sym c.items-2.ensures) o.3)
+
+pub lay_sequence-lay_whole-requires : goal.lay_sequence-lay_whole-requires
+lay_sequence-lay_whole-requires t c = record {
+  ready = c.requires.ready;
+  named = c.requires.named;
+  fine = c.requires.fine;
+  order = c.requires.order;
+  stretch = subst (λ (x : List Field). IsStretch (fields_view x) c.in-Some.stretch.now no_fields) c.items-2.ensures c.in-Some.ensures;
+}
+
+pub lay_parts-put_fields-requires : goal.lay_parts-put_fields-requires
+lay_parts-put_fields-requires t c =
     let root = grammar_of c.args.root.now in
     let v = view_seq_form c.args.seq.now in
     let r = c.requires.ready in
@@ -581,8 +595,8 @@ lay_sequence-put_fields-requires t c =
       ),
     )
 
-pub lay_sequence-returns : goal.lay_sequence-returns
-lay_sequence-returns t c = record {
+pub lay_parts-returns : goal.lay_parts-returns
+lay_parts-returns t c = record {
   laid = λ sure.
       let root = grammar_of c.args.root.now in
       let fields = c.items-fields.result.now in
