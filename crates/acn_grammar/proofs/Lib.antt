@@ -14,7 +14,7 @@ pub mod HasImage
 mod ImagesOne
 -- for acn_leaf, acn_tree, acn_lengths, acn_moments and acn_plain_write
 pub mod Intervals
--- for acn_packet_laws, acn_ints, acn_piece_laws, acn_events, acn_writer, acn_extreme_laws and acn_extreme_numbers
+-- for acn_packet_laws, acn_ints, acn_piece_laws, acn_events, acn_writer, acn_extreme_laws, acn_extreme_numbers and acn_pack
 pub mod LeafLengths
 -- for acn_packet_laws, acn_extreme_laws and acn_extreme_numbers
 pub mod Monotone
